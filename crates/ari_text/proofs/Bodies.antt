@@ -59,7 +59,8 @@ pub record ArePassed (old new : List Sign) : Type 0 where
 pub none_behind : (ws : List Sign) → IsBehindMetas ws ws
 none_behind ws = record { metas = []; matched = tt; words = refl }
 
-pub passed_more : (old mid opened named new : List Sign) (f : List ℕ) → ArePassed old mid → mid ≡ opening ∷ opened → opened ≡ name f ∷ named → f ≡ codes "meta-info" → IsBodyRead named new → ArePassed old new
+pub passed_more : (old mid opened named new : List Sign) (f : List ℕ) → ArePassed old mid → mid ≡ opening ∷ opened → opened ≡ name f ∷ named → f ≡ codes "meta-info"
+    → IsBodyRead named new → ArePassed old new
 passed_more old mid opened named new f p e g t b = record {
   goes_on = λ k h. p.goes_on k record {
     metas = b.inside ∷ h.metas;

@@ -27,7 +27,8 @@ more_signs [] t k = refl
 more_signs (u ∷ us) t k = ap (condition_signs u) (more_signs us t k)
 
 -- the bar is the first one's place
-placed_more : (at place : ℕ) (bar : Option ℕ) (ts : List ConditionTree) (t : ConditionTree) → bar ≡ place_of (guard_of at ts) → (first : ℕ) × (Some (unwrap_or bar place) ≡ place_of (guard_of first (ts ++ t ∷ [])))
+placed_more : (at place : ℕ) (bar : Option ℕ) (ts : List ConditionTree) (t : ConditionTree) → bar ≡ place_of (guard_of at ts)
+    → (first : ℕ) × (Some (unwrap_or bar place) ≡ place_of (guard_of first (ts ++ t ∷ [])))
 placed_more at place bar [] t e = (place, ap (λ (o : Option ℕ). Some (unwrap_or o place)) e)
 placed_more at place bar (u ∷ us) t e = (at, ap (λ (o : Option ℕ). Some (unwrap_or o place)) e)
 
@@ -75,7 +76,8 @@ rule_read old mid last new empty none left right r z y a b c =
     }
 
 pub condition_read : (old named mid last new : List Sign) (f : List ℕ) (empty none left right : List Node) (c : CondText)
-    → empty ≡ [] → none ≡ [] → old ≡ name f ∷ named → f ≡ codes "=" → IsTermRead named mid empty left → IsTermRead mid last none right → last ≡ closing ∷ new → c.left.items ≡ left → c.right.items ≡ right
+    → empty ≡ [] → none ≡ [] → old ≡ name f ∷ named → f ≡ codes "=" → IsTermRead named mid empty left → IsTermRead mid last none right → last ≡ closing ∷ new
+    → c.left.items ≡ left → c.right.items ≡ right
     → IsConditionRead (opening ∷ old) new c
 condition_read old named mid last new f empty none left right c z y e s a b k l r = record {
   tree = record { left = a.phrase; right = b.phrase };

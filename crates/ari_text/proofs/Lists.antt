@@ -25,7 +25,8 @@ last_signs (more t ts) u k = ap (term_signs t) (last_signs ts u k)
 pub no_terms : (ws : List Sign) (before : List program.Node) → AreTermsRead ws ws before before 0
 no_terms ws before = record { phrases = none; many = refl; words = refl; listed = sym (append-nil (nodes_view before)) }
 
-pub one_term_more : (old mid new : List Sign) (before between after : List program.Node) (n : ℕ) → AreTermsRead old mid before between n → IsTermRead mid new between after → AreTermsRead old new before after (n + 1)
+pub one_term_more : (old mid new : List Sign) (before between after : List program.Node) (n : ℕ) → AreTermsRead old mid before between n → IsTermRead mid new between after
+    → AreTermsRead old new before after (n + 1)
 one_term_more old mid new before between after n ts t = record {
   phrases = with_last ts.phrases t.phrase;
   many = omega (arith, ts.many, last_count ts.phrases t.phrase);
@@ -44,7 +45,8 @@ pub call_read : (old named mid new : List Sign) (before pushed after : List prog
     → IsTermRead (opening ∷ old) new before after
 call_read old named mid new before pushed after f arity n e p ts q k =
     let node : Node = record { name = name_view f; brackets = true; arguments = arity } in
-    let same : record { name = name_view f; brackets = true; arguments = arity } ≡ record { name = name_view f; brackets = true; arguments = count ts.phrases } = ap (λ (m : ℕ). record { name = name_view f; brackets = true; arguments = m }) (sym q ∙ ts.many) in
+    let same : record { name = name_view f; brackets = true; arguments = arity } ≡ record { name = name_view f; brackets = true; arguments = count ts.phrases } = ap
+    (λ (m : ℕ). record { name = name_view f; brackets = true; arguments = m }) (sym q ∙ ts.many) in
     let last : nodes_view pushed ≡ nodes_view before ++ node ∷ [] = ap nodes_view p ∙ map-append node_view before (record { name = f; brackets = true; arguments = arity } ∷ []) in
     record {
       phrase = call (name_view f) ts.phrases;

@@ -12,7 +12,8 @@ use Rattle.file_text.proofs.Lexemes.{IsNamed, spelled_names}
 use Rattle.ari_text.specs.declared.words.Word.{Word}
 use Rattle.ari_text.specs.declared.words.Word.TheVariants.{Open, Close, Quoted}
 use Rattle.ari_text.specs.Signs.{Sign, opening, closing, name, odd, sign_of, signs_of, IsSpelt, IsSpeltSign, AreSpelt}
-use Rattle.ari_text.specs.Spelling.{is_bare, AreBare, begins_bare, AreNot, ends_line, IsSignOf, Spell, end_of_text, white_byte, line_comment, left_bracket, right_bracket, bare_name, barred_name, quoted_text}
+use Rattle.ari_text.specs.Spelling.{is_bare, AreBare, begins_bare, AreNot, ends_line, IsSignOf, Spell, end_of_text, white_byte, line_comment, left_bracket, right_bracket}
+use Rattle.ari_text.specs.Spelling.{bare_name, barred_name, quoted_text}
 use Rattle.ari_text.specs.Pieces.{IsBareRun, IsFirstPlace, IsEnclosed, word_signs, IsPiece, IsPushed}
 
 pub spelt_name : (name : List ℕ) (ts : List Token) → Spells name ts → ts ≡ record { kind = id_kind; from = 0; to = length name } ∷ [] → IsSpelt name
@@ -84,7 +85,8 @@ pub enclosed_there : (xs : List ℕ) (byte n : ℕ) (text : List ℕ) → IsFirs
 enclosed_there xs byte n text p ne e =
     let lt : n < length xs = omega (arith, p.within, ne) in record {
       rest = drop (suc n) xs;
-      split = sym (split_at_place n xs) ∙ ap (λ (ys : List ℕ). take n xs ++ ys) (found n xs lt ∙ ap (λ (b : ℕ). b ∷ drop (suc n) xs) (p.there lt)) ∙ ap (λ (ys : List ℕ). ys ++ byte ∷ drop (suc n) xs) (sym e);
+      split = sym (split_at_place n xs) ∙ ap (λ (ys : List ℕ). take n xs ++ ys) (found n xs lt ∙ ap (λ (b : ℕ). b ∷ drop (suc n) xs) (p.there lt))
+          ∙ ap (λ (ys : List ℕ). ys ++ byte ∷ drop (suc n) xs) (sym e);
       without = subst (AreNot byte) (sym e) (are_not byte n xs p.before);
     }
 

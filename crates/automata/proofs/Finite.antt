@@ -80,7 +80,8 @@ no_number P Q n (inl p) = inl none
     none (c ∷ cs) e all = absurd (omega (arith, e))
 no_number P Q n (inr q) = inr (record { list = []; long = refl; below = All-nil (λ q. q < n); has = q; before = λ ds long all b. absurd b })
 
-one_more : (P Q : List ℕ → Type 0) (n m : ℕ) → (((q : ℕ) → q < n → AllLists (λ cs. P (q ∷ cs)) n m) ⊎ FirstBelow (λ q. AllLists (λ cs. P (q ∷ cs)) n m) (λ q. FirstList (λ cs. P (q ∷ cs)) (λ cs. Q (q ∷ cs)) n m) n)
+one_more : (P Q : List ℕ → Type 0) (n m : ℕ)
+    → (((q : ℕ) → q < n → AllLists (λ cs. P (q ∷ cs)) n m) ⊎ FirstBelow (λ q. AllLists (λ cs. P (q ∷ cs)) n m) (λ q. FirstList (λ cs. P (q ∷ cs)) (λ cs. Q (q ∷ cs)) n m) n)
     → AllLists P n (suc m) ⊎ FirstList P Q n (suc m)
 one_more P Q n m (inl all) = inl each
   where

@@ -40,7 +40,8 @@ kept_instance sys a s e (var x) q each twin = included sys a (s x) q (e x) twin 
 kept_instance sys a s e (app f ts) q each h = joined (HasOver sys a) (plain_at sys a) s e each (app f ts) q h
 
 -- a contraction keeps what a term reaches
-contraction_kept : (sys : System) (a : Automaton) → AcceptsAll sys (HasOver sys a) → IsClosed sys a → (S : Relation Term) (u v : Term) (q : ℕ) → Contracts sys S u v → Runs (Some sys.arities) a u q → Runs (Some sys.arities) a v q
+contraction_kept : (sys : System) (a : Automaton) → AcceptsAll sys (HasOver sys a) → IsClosed sys a → (S : Relation Term) (u v : Term) (q : ℕ) → Contracts sys S u v
+    → Runs (Some sys.arities) a u q → Runs (Some sys.arities) a v q
 contraction_kept sys a any closed S u v q c h =
     let r = split (HasOver sys a) (plain_at sys a) c.by c.rule.left q (subst (λ z. Runs (Some sys.arities) a z q) c.left h) in
     let kept = closed c.is_rule.0 c.rule r.states q c.is_rule.1 (choice_of (Some sys.arities) a c.by c.rule.left q r) r.run in
@@ -49,23 +50,27 @@ contraction_kept sys a any closed S u v q c h =
 
 -- and so does a step at any place
 mutual
-  place_kept : (sys : System) (a : Automaton) (C : Relation Term) → ((u v : Term) (q : ℕ) → C u v → Runs (Some sys.arities) a u q → Runs (Some sys.arities) a v q) → (u v : Term) (q : ℕ) → Open C u v → Runs (Some sys.arities) a u q → Runs (Some sys.arities) a v q
+  place_kept : (sys : System) (a : Automaton) (C : Relation Term) → ((u v : Term) (q : ℕ) → C u v → Runs (Some sys.arities) a u q → Runs (Some sys.arities) a v q)
+      → (u v : Term) (q : ℕ) → Open C u v → Runs (Some sys.arities) a u q → Runs (Some sys.arities) a v q
   place_kept sys a C keep (var x) v q k h = keep (var x) v q k h
   place_kept sys a C keep (app f ts) v q (inl k) h = keep (app f ts) v q k h
   place_kept sys a C keep (app f ts) v q (inr (us, e, k)) (qs, m, h) = subst (λ z. Runs (Some sys.arities) a z q) (sym e) (qs, m, places_kept sys a C keep ts us qs k h)
 
-  places_kept : (sys : System) (a : Automaton) (C : Relation Term) → ((u v : Term) (q : ℕ) → C u v → Runs (Some sys.arities) a u q → Runs (Some sys.arities) a v q) → (ts us : Terms) (qs : List ℕ) → OpenAny C ts us
+  places_kept : (sys : System) (a : Automaton) (C : Relation Term) → ((u v : Term) (q : ℕ) → C u v → Runs (Some sys.arities) a u q → Runs (Some sys.arities) a v q)
+      → (ts us : Terms) (qs : List ℕ) → OpenAny C ts us
       → ReachAll (HasOver sys a) (plain_at sys a) ts qs → ReachAll (HasOver sys a) (plain_at sys a) us qs
   places_kept sys a C keep nil us qs k h = absurd k
   places_kept sys a C keep (cons t ts) us [] k h = absurd h
   places_kept sys a C keep (cons t ts) us (q ∷ qs) (inl (u, e, k)) (h, hs) = subst (λ z. ReachAll (HasOver sys a) (plain_at sys a) z (q ∷ qs)) (sym e) (place_kept sys a C keep t u q k h, hs)
   places_kept sys a C keep (cons t ts) us (q ∷ qs) (inr (vs, e, k)) (h, hs) = subst (λ z. ReachAll (HasOver sys a) (plain_at sys a) z (q ∷ qs)) (sym e) (h, places_kept sys a C keep ts vs qs k hs)
 
-step_kept : (sys : System) (a : Automaton) → AcceptsAll sys (HasOver sys a) → IsClosed sys a → (n : ℕ) (u v : Term) (q : ℕ) → level sys n u v → Runs (Some sys.arities) a u q → Runs (Some sys.arities) a v q
+step_kept : (sys : System) (a : Automaton) → AcceptsAll sys (HasOver sys a) → IsClosed sys a → (n : ℕ) (u v : Term) (q : ℕ) → level sys n u v → Runs (Some sys.arities) a u q
+    → Runs (Some sys.arities) a v q
 step_kept sys a any closed zero u v q k h = absurd k
 step_kept sys a any closed (suc n) u v q k h = place_kept sys a (Contracts sys (Star (level sys n))) (contraction_kept sys a any closed (Star (level sys n))) u v q (opened _ k) h
 
-pub reduct_kept : (sys : System) (a : Automaton) → AcceptsAll sys (HasOver sys a) → IsClosed sys a → (q : ℕ) {t u : Term} → Star (Rewrites sys) t u → Runs (Some sys.arities) a t q → Runs (Some sys.arities) a u q
+pub reduct_kept : (sys : System) (a : Automaton) → AcceptsAll sys (HasOver sys a) → IsClosed sys a → (q : ℕ) {t u : Term} → Star (Rewrites sys) t u → Runs (Some sys.arities) a t q
+    → Runs (Some sys.arities) a u q
 reduct_kept sys a any closed q done h = h
 reduct_kept sys a any closed q (more {a = u} {b = v} k p) h = reduct_kept sys a any closed q p (step_kept sys a any closed k.0 u v q (level_of_step sys k.0 u v k.1) h)
 
@@ -80,7 +85,8 @@ hypothesis_met S s cs zero c e h = absurd (cc)
 hypothesis_met S s cs (suc k) c e h = met_at S s cs k c e h
 
 -- the instances of a right side that is excluded reach no accepting state
-excluded : (sys : System) (a : Automaton) (s : Substitution) (c : Condition) → AreValuesOver sys.arities s → AcceptsAll sys (HasOver sys a) → IsClosed sys a → IsAccepted (Some sys.arities) a c.left → Excludes (Some sys.arities) a c.right
+excluded : (sys : System) (a : Automaton) (s : Substitution) (c : Condition) → AreValuesOver sys.arities s → AcceptsAll sys (HasOver sys a) → IsClosed sys a
+    → IsAccepted (Some sys.arities) a c.left → Excludes (Some sys.arities) a c.right
     → Star (Rewrites sys) (apply s c.left) (apply s c.right) → ⊥
 excluded sys a s c over any closed (q, final, from) none p =
     let start = joined (HasOver sys a) (plain_at sys a) s (λ x. 0) (λ x. reaches_0 sys a any (s x) (over x)) c.left q from.1 in
@@ -100,7 +106,8 @@ valid sys c a o e (misses any lacks) = absurd (cc)
 valid sys c a o e (closure_fails why any accepts h) = absurd (cc)
 valid sys c a o e (right_side p any accepts closed h) = record { any = any; accepted = accepts; closed = closed.1; excludes = (subst (IsExclusionJudged (Some sys.arities) a c.right) e h).1 }
 
-refuted_by : (sys : System) (cs : List Condition) (k n : ℕ) (a : Automaton) (s : Substitution) (c : Condition) → hypothesis_at cs k ≡ Some c → Valid sys c a → AreValuesOver sys.arities s → Meets (Steps sys n) s cs → ⊥
+refuted_by : (sys : System) (cs : List Condition) (k n : ℕ) (a : Automaton) (s : Substitution) (c : Condition) → hypothesis_at cs k ≡ Some c → Valid sys c a
+    → AreValuesOver sys.arities s → Meets (Steps sys n) s cs → ⊥
 refuted_by sys cs k n a s c is h over met =
     excluded sys a s c over h.any h.closed h.accepted h.excludes (Star-mono (λ u v p. (n, p)) (apply s c.left) (apply s c.right) (hypothesis_met (Steps sys n) s cs k c is met))
 

@@ -75,7 +75,8 @@ mutual
   joined M At s e each (var x) q h = subst (Reach M At (s x)) (sym h) (each x)
   joined M At s e each (app f ts) q (qs, m, h) = (qs, m, all_joined M At s e each ts qs h)
 
-  all_joined : (M : Moves) (At : ℕ → ℕ → Type 0) (s : Substitution) (e : ℕ → ℕ) → ((x : ℕ) → Reach M At (s x) (e x)) → (ts : Terms) (qs : List ℕ) → ReachAll M (at e) ts qs → ReachAll M At (apply_all s ts) qs
+  all_joined : (M : Moves) (At : ℕ → ℕ → Type 0) (s : Substitution) (e : ℕ → ℕ) → ((x : ℕ) → Reach M At (s x) (e x)) → (ts : Terms) (qs : List ℕ) → ReachAll M (at e) ts qs
+      → ReachAll M At (apply_all s ts) qs
   all_joined M At s e each nil qs h = h
   all_joined M At s e each (cons t ts) [] h = absurd h
   all_joined M At s e each (cons t ts) (q ∷ qs) (h, hs) = (joined M At s e each t q h, all_joined M At s e each ts qs hs)

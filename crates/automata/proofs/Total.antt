@@ -52,7 +52,8 @@ module _ (symbols : Symbols) (a : Automaton) where
 
   -- a transition under the symbol to q whose arguments have a property
   some_move : (f q : ℕ) (P : List ℕ → Type 0) → ((qs : List ℕ) → Dec (P qs)) → Dec ((qs : List ℕ) × Has symbols a (Some f) qs q × P qs)
-  some_move f q P test = map_dec (λ (d, c, (m, p)). (d.arguments, m, p)) from (some_member (λ d. Has symbols a (Some f) d.arguments q × P d.arguments) (λ d. dec_and (has (Some f) d.arguments q) (test d.arguments)) a.transitions)
+  some_move f q P test = map_dec (λ (d, c, (m, p)). (d.arguments, m, p)) from
+      (some_member (λ d. Has symbols a (Some f) d.arguments q × P d.arguments) (λ d. dec_and (has (Some f) d.arguments q) (test d.arguments)) a.transitions)
     where
       from : (qs : List ℕ) × Has symbols a (Some f) qs q × P qs → Member (λ d. Has symbols a (Some f) d.arguments q × P d.arguments) a.transitions
       from (qs, m, p) = (record { symbol = Some f; arguments = qs; target = q }, m.listed, (m, p))
@@ -105,7 +106,8 @@ module _ (symbols : Symbols) (a : Automaton) where
     excludes = go (search_lists (λ cs. (q : ℕ) → q < a.states → Arrives cs q → ⊥) (λ cs. FirstBelow (λ q. Arrives cs q → ⊥) (Arrives cs) a.states) arrives a.states (length (variable_occurrences t)))
       where
         go : AllLists (λ cs. (q : ℕ) → q < a.states → Arrives cs q → ⊥) a.states (length (variable_occurrences t))
-            ⊎ FirstList (λ cs. (q : ℕ) → q < a.states → Arrives cs q → ⊥) (λ cs. FirstBelow (λ q. Arrives cs q → ⊥) (Arrives cs) a.states) a.states (length (variable_occurrences t)) → Dec (Excludes symbols a t)
+            ⊎ FirstList (λ cs. (q : ℕ) → q < a.states → Arrives cs q → ⊥) (λ cs. FirstBelow (λ q. Arrives cs q → ⊥) (Arrives cs) a.states) a.states
+            (length (variable_occurrences t)) → Dec (Excludes symbols a t)
         go (inl none) = yes (λ cs q choice accepts run. none cs choice.each choice.states q accepts.1 (accepts, run))
         go (inr f) = no (λ none. none f.list f.has.number (record { each = f.long; states = f.below }) f.has.has.0 f.has.has.1)
 
@@ -124,7 +126,8 @@ module _ (sys : System) (a : Automaton) where
 
   symbol_kept : (f : ℕ) (o : Option ℕ) → slice_get sys.arities f ≡ o → Dec ((n : ℕ) → slice_get sys.arities f ≡ Some n → HasOver sys a (Some f) (replicate n 0) 0)
   symbol_kept f None is = yes (λ n e. absurd (cc))
-  symbol_kept f (Some m) is = map_dec (λ h n e. let same : m ≡ n = cc in subst (λ k. HasOver sys a (Some f) (replicate k 0) 0) same h) (λ h. h m is) (has (Some sys.arities) a (Some f) (replicate m 0) 0)
+  symbol_kept f (Some m) is = map_dec (λ h n e. let same : m ≡ n = cc in subst (λ k. HasOver sys a (Some f) (replicate k 0) 0) same h) (λ h. h m is)
+      (has (Some sys.arities) a (Some f) (replicate m 0) 0)
 
   accepts_all : Dec (AcceptsAll sys (HasOver sys a))
   accepts_all = go (search_below Kept (λ f. Kept f → ⊥) (λ f. decided (symbol_kept f (slice_get sys.arities f) refl)) (length sys.arities)) (has (Some sys.arities) a None [] 0)
@@ -168,7 +171,8 @@ module _ (sys : System) (a : Automaton) where
   module _ (r : Rule) where
     is_kept : (cs : List ℕ) (q : ℕ) (t : Term) → r.right ≡ t → Dec (IsRuleKept (HasOver sys a) r cs q)
     is_kept cs q (var x) e = subst (λ t. Dec (IsKept (HasOver sys a) (state_of (variable_occurrences r.left) cs) t q)) (sym e) (included q (state_of (variable_occurrences r.left) cs x))
-    is_kept cs q (app f ts) e = subst (λ t. Dec (IsKept (HasOver sys a) (state_of (variable_occurrences r.left) cs) t q)) (sym e) (reach (Some sys.arities) a (state_of (variable_occurrences r.left) cs) (app f ts) q)
+    is_kept cs q (app f ts) e = subst (λ t. Dec (IsKept (HasOver sys a) (state_of (variable_occurrences r.left) cs) t q)) (sym e)
+        (reach (Some sys.arities) a (state_of (variable_occurrences r.left) cs) (app f ts) q)
 
     abbrev Holds : List ℕ → ℕ → Type 0
     Holds cs q = ReachBy (HasOver sys a) r.left cs q → IsRuleKept (HasOver sys a) r cs q
@@ -224,7 +228,8 @@ module _ (sys : System) (a : Automaton) where
       same_rule : (j : ℕ) (r : Rule) → rule_at sys j ≡ Some r → j ≡ f.number → f.found ≡ r
       same_rule j r is e = (let there : rule_at sys j ≡ Some f.found = subst (λ k. rule_at sys k ≡ Some f.found) (sym e) f.is_rule in cc)
 
-      within : (ds : List ℕ) (p : ℕ) (r : Rule) → IsChoice a.states r.left ds → ReachBy (HasOver sys a) r.left ds p → f.found ≡ r → (IsChoice a.states f.found.left ds → Holds f.found ds p) → IsRuleKept (HasOver sys a) r ds p
+      within : (ds : List ℕ) (p : ℕ) (r : Rule) → IsChoice a.states r.left ds → ReachBy (HasOver sys a) r.left ds p → f.found ≡ r
+          → (IsChoice a.states f.found.left ds → Holds f.found ds p) → IsRuleKept (HasOver sys a) r ds p
       within ds p r choice run same keep =
           subst (λ s. IsChoice a.states s.left ds → ReachBy (HasOver sys a) s.left ds p → IsRuleKept (HasOver sys a) s ds p) same (λ c h. keep c h) choice run
 

@@ -120,8 +120,10 @@ added_after P Q R a b c p q r first second = record {
     go d (inr h) = second.every d h
 
 -- the same facts under another name of the wanted
-pub answers_renamed : (P Q : Transition → Type 0) (a b : List Transition) (r : Result (Unit {0}) GrowError) → ((d : Transition) → P d → Q d) → ((d : Transition) → Q d → P d) → AddAnswers P a b r → AddAnswers Q a b r
-answers_renamed P Q a b (Ok u) p q (h, few) = (record { part = record { only = λ d k. go d (h.part.only d k); sorted = h.part.sorted }; kept = h.kept; every = λ d k. h.every d (q d k); more = h.more; same = h.same }, few)
+pub answers_renamed : (P Q : Transition → Type 0) (a b : List Transition) (r : Result (Unit {0}) GrowError) → ((d : Transition) → P d → Q d) → ((d : Transition) → Q d → P d)
+    → AddAnswers P a b r → AddAnswers Q a b r
+answers_renamed P Q a b (Ok u) p q (h, few) =
+    (record { part = record { only = λ d k. go d (h.part.only d k); sorted = h.part.sorted }; kept = h.kept; every = λ d k. h.every d (q d k); more = h.more; same = h.same }, few)
   where
     go : (d : Transition) → Contains a d ⊎ P d → Contains a d ⊎ Q d
     go d (inl k) = inl k
@@ -136,7 +138,8 @@ answers_renamed P Q a b (Err TooManyTransitions) p q (h, many) = (record { only 
 answers_renamed P Q a b (Err NoMemory) p q h = h
 
 -- a further call that fails, after what was added
-pub answers_after_error : (P Q R : Transition → Type 0) (a b c e : List Transition) (why : GrowError) → ((d : Transition) → P d → R d) → ((d : Transition) → Q d → R d) → IsAdded P a b → AddAnswers Q b c (Err why) → c ≡ e
+pub answers_after_error : (P Q R : Transition → Type 0) (a b c e : List Transition) (why : GrowError) → ((d : Transition) → P d → R d) → ((d : Transition) → Q d → R d)
+    → IsAdded P a b → AddAnswers Q b c (Err why) → c ≡ e
     → AddAnswers R a e (Err why)
 answers_after_error P Q R a b c e (TooWide rule) p q first h same = h
 answers_after_error P Q R a b c e TooManyStates p q first h same = h

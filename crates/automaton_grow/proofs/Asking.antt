@@ -48,7 +48,8 @@ rule_asked sys s i r ds d is_rule all a es g = go a.asked
 pub below_asked : (sys : System) (s : Term) (k : ℕ) (ds : List Transition) (d : Transition) → ((c : Transition) → Contains ds c → IsAsked sys s c) → IsAskedBelow sys s k ds d → IsAsked sys s d
 below_asked sys s k ds d all a = rule_asked sys s a.number a.rule ds d a.is_rule all a.by_rule
 
-pub below_states : (sys : System) (s : Term) (k : ℕ) (ds : List Transition) (d : Transition) → ((c : Transition) → Contains ds c → HasStates (state_count sys s) c) → IsAskedBelow sys s k ds d → HasStates (state_count sys s) d
+pub below_states : (sys : System) (s : Term) (k : ℕ) (ds : List Transition) (d : Transition) → ((c : Transition) → Contains ds c → HasStates (state_count sys s) c)
+    → IsAskedBelow sys s k ds d → HasStates (state_count sys s) d
 below_states sys s k ds d all a = rule_states (state_count sys s) (first_state sys s a.number) a.rule ds d (omega arith) (room_at sys s a.number a.rule a.is_rule) all a.by_rule
 
 -- what a round makes of such a set is such a set again
@@ -117,6 +118,7 @@ least_when_closed sys s ds part closed = record { grown_set = grown_set; least =
             state = q;
             is_choice = choice;
             reached = reached;
-            asked = inr (subst (λ t. Contains (twins_of (state_of (variable_occurrences r.left) cs) t q ds) (record { symbol = symbol; arguments = qs; target = q })) (sym var_right) (twin_in (state_of (variable_occurrences r.left) cs x) q ds c h refl));
+            asked = inr (subst (λ t. Contains (twins_of (state_of (variable_occurrences r.left) cs) t q ds) (record { symbol = symbol; arguments = qs; target = q }))
+                (sym var_right) (twin_in (state_of (variable_occurrences r.left) cs x) q ds c h refl));
           });
     }

@@ -65,7 +65,8 @@ map_insert xs zero x = refl
 map_insert [] (suc k) x = refl
 map_insert (y ∷ xs) (suc k) x = ap (λ z. transition_view y ∷ z) (map_insert xs k x)
 
-pub put_view : (old new : List Transition) (x : Transition) (d : evidence.Transition) (k : ℕ) → new ≡ insert old k x → transition_view x ≡ d → map transition_view new ≡ insert (map transition_view old) k d
+pub put_view : (old new : List Transition) (x : Transition) (d : evidence.Transition) (k : ℕ) → new ≡ insert old k x → transition_view x ≡ d
+    → map transition_view new ≡ insert (map transition_view old) k d
 put_view old new x d k e same = ap (map transition_view) e ∙ map_insert old k x ∙ ap (insert (map transition_view old) k) same
 
 pub views_length : (xs : List Transition) → length (map transition_view xs) ≡ length xs

@@ -54,7 +54,8 @@ before_inserted y d (suc k) [] h less = (less, tt)
 before_inserted y d (suc k) (x ∷ ds) (h, hs) less = (h, before_inserted y d k ds hs less)
 
 -- put at its place it keeps the list in order
-pub inserted_sorted : (d : Transition) (k : ℕ) (ds : List Transition) → IsSorted IsTransitionBefore ds → AreBefore (take k ds) d → IsBeforeAll IsTransitionBefore d (drop k ds) → IsSorted IsTransitionBefore (take k ds ++ d ∷ drop k ds)
+pub inserted_sorted : (d : Transition) (k : ℕ) (ds : List Transition) → IsSorted IsTransitionBefore ds → AreBefore (take k ds) d → IsBeforeAll IsTransitionBefore d (drop k ds)
+    → IsSorted IsTransitionBefore (take k ds ++ d ∷ drop k ds)
 inserted_sorted d zero ds sorted below above = (above, sorted)
 inserted_sorted d (suc k) [] sorted below above = (tt, tt)
 inserted_sorted d (suc k) (y ∷ ds) (first, rest) (below, belows) above = (before_inserted y d k ds first below, inserted_sorted d k ds rest belows above)

@@ -1,5 +1,6 @@
 -- What is wanted, part by part.
-use Rattle.std.proofs.Common.{◌≡◌, ℕ, zero, suc, ◌+◌, ◌<◌, ◌≤◌, ◌⊎◌, inl, inr, refl, sym, ap, ap₂, ◌∙◌, subst, List, [], ◌∷◌, ◌++◌, map, take, length, get_or, replicate, Some, None, Ok, Err, Result, Bool, true, false, add-one, arith}
+use Rattle.std.proofs.Common.{◌≡◌, ℕ, zero, suc, ◌+◌, ◌<◌, ◌≤◌, ◌⊎◌, inl, inr, refl, sym, ap, ap₂, ◌∙◌, subst, List, [], ◌∷◌, ◌++◌, map, take, length, get_or, replicate, Some}
+use Rattle.std.proofs.Common.{None, Ok, Err, Result, Bool, true, false, add-one, arith}
 use Rattle.std.specs.Prelude.{slice_get, Contains, nat_eq, if◌then◌else◌}
 use Rattle.std.proofs.Common.{eqb-true, eq-eqb}
 use Rattle.std.proofs.lemmas.List.Elements.{Contains-append_left, Contains-append_right, Contains-append_cases}
@@ -52,15 +53,18 @@ module _ {A B : Type 0} (f : A → B) where
   stands (y ∷ xs) (suc i) x h e = Contains-append_right (f y ∷ []) (map f xs) (f x) (stands xs i x (omega arith) e)
 
 -- the wanted so far, with more
-pub answers_next : (P Q R : evidence.Transition → Type 0) (a b c : List evidence.Transition) → ((d : evidence.Transition) → P d → R d) → ((d : evidence.Transition) → Q d → R d) → ((d : evidence.Transition) → R d → P d ⊎ Q d)
+pub answers_next : (P Q R : evidence.Transition → Type 0) (a b c : List evidence.Transition) → ((d : evidence.Transition) → P d → R d) → ((d : evidence.Transition) → Q d → R d)
+    → ((d : evidence.Transition) → R d → P d ⊎ Q d)
     → IsAdded P a b × (length b ≤ 5000) → IsAdded Q b c × (length c ≤ 5000) → IsAdded R a c × (length c ≤ 5000)
 answers_next P Q R a b c p q r (h, few) (k, most) = (added_after P Q R a b c p q r h k, most)
 
-pub answers_error : (P Q R : evidence.Transition → Type 0) (a b c : List evidence.Transition) (why : GrowError) → ((d : evidence.Transition) → P d → R d) → ((d : evidence.Transition) → Q d → R d) → IsAdded P a b × (length b ≤ 5000)
+pub answers_error : (P Q R : evidence.Transition → Type 0) (a b c : List evidence.Transition) (why : GrowError) → ((d : evidence.Transition) → P d → R d)
+    → ((d : evidence.Transition) → Q d → R d) → IsAdded P a b × (length b ≤ 5000)
     → AddAnswers Q b c (Err why) → AddAnswers R a c (Err why)
 answers_error P Q R a b c why p q h k = answers_after_error P Q R a b c c why p q h.0 k refl
 
-answers_first : (P : evidence.Transition → Type 0) (a : List evidence.Transition) → IsSorted IsTransitionBefore a → length a ≤ 5000 → ((d : evidence.Transition) → P d → ⊥) → IsAdded P a a × (length a ≤ 5000)
+answers_first : (P : evidence.Transition → Type 0) (a : List evidence.Transition) → IsSorted IsTransitionBefore a → length a ≤ 5000 → ((d : evidence.Transition) → P d → ⊥)
+    → IsAdded P a a × (length a ≤ 5000)
 answers_first P a sorted few none = (added_nothing P a sorted none, few)
 
 -- the members of a list, one by one
@@ -68,7 +72,8 @@ module _ {A : Type 0} (f : A → evidence.Transition) (xs : List A) where
   abbrev pub Upto : ℕ → evidence.Transition → Type 0
   Upto i = Contains (map f (take i xs))
 
-  pub upto_next : (i : ℕ) (x : A) (a b c : List evidence.Transition) → i < length xs → x ≡ get_or xs i x → IsAdded (Upto i) a b × (length b ≤ 5000) → IsAdded (λ d. d ≡ f x) b c × (length c ≤ 5000) → IsAdded (Upto (i + 1)) a c × (length c ≤ 5000)
+  pub upto_next : (i : ℕ) (x : A) (a b c : List evidence.Transition) → i < length xs → x ≡ get_or xs i x → IsAdded (Upto i) a b × (length b ≤ 5000)
+      → IsAdded (λ d. d ≡ f x) b c × (length c ≤ 5000) → IsAdded (Upto (i + 1)) a c × (length c ≤ 5000)
   upto_next i x a b c h e = answers_next (Upto i) (λ d. d ≡ f x) (Upto (i + 1)) a b c
       (λ d k. subst (λ z. Contains z d) (sym (one_more f xs i x h e)) (Contains-append_left (map f (take i xs)) (f x ∷ []) d k))
       (λ d k. subst (λ z. Contains z d) (sym (one_more f xs i x h e)) (Contains-append_right (map f (take i xs)) (f x ∷ []) d (subst (Contains (f x ∷ [])) (sym k) (contains_head (f x) []))))
@@ -82,7 +87,8 @@ module _ {A : Type 0} (f : A → evidence.Transition) (xs : List A) where
       go d (inl k) = inl k
       go d (inr k) = inr (last d (contains_cases (f x) [] d k))
 
-  pub upto_error : (i : ℕ) (x : A) (a b c : List evidence.Transition) (why : GrowError) → i < length xs → x ≡ get_or xs i x → IsAdded (Upto i) a b × (length b ≤ 5000) → AddAnswers (λ d. d ≡ f x) b c (Err why) → AddAnswers (Contains (map f xs)) a c (Err why)
+  pub upto_error : (i : ℕ) (x : A) (a b c : List evidence.Transition) (why : GrowError) → i < length xs → x ≡ get_or xs i x → IsAdded (Upto i) a b × (length b ≤ 5000)
+      → AddAnswers (λ d. d ≡ f x) b c (Err why) → AddAnswers (Contains (map f xs)) a c (Err why)
   upto_error i x a b c why h e = answers_error (Upto i) (λ d. d ≡ f x) (Contains (map f xs)) a b c why (λ d k. taken f xs i d k) (λ d k. subst (Contains (map f xs)) (sym k) (stands f xs i x h e))
 
 -- twins, one by one
@@ -112,10 +118,12 @@ module _ (p q : ℕ) (ds : List Transition) (i : ℕ) (d : Transition) (h : i < 
       go true e = absurd (n (eqb-true d.target p e))
       go false e = refl
 
-  pub twins_next : (a b c : List evidence.Transition) → d.target ≡ p → IsAdded (So i) a b × (length b ≤ 5000) → IsAdded (λ x. x ≡ record (transition_view d) { target = q }) b c × (length c ≤ 5000) → IsAdded (So (i + 1)) a c × (length c ≤ 5000)
+  pub twins_next : (a b c : List evidence.Transition) → d.target ≡ p → IsAdded (So i) a b × (length b ≤ 5000)
+      → IsAdded (λ x. x ≡ record (transition_view d) { target = q }) b c × (length c ≤ 5000) → IsAdded (So (i + 1)) a c × (length c ≤ 5000)
   twins_next a b c e = answers_next (So i) (λ x. x ≡ record (transition_view d) { target = q }) (So (i + 1)) a b c
       (λ x k. subst (λ z. Contains z x) (sym all) (Contains-append_left (twins p q (map transition_view (take i ds))) (record (transition_view d) { target = q } ∷ []) x k))
-      (λ x k. subst (λ z. Contains z x) (sym all) (Contains-append_right (twins p q (map transition_view (take i ds))) (record (transition_view d) { target = q } ∷ []) x (subst (Contains (record (transition_view d) { target = q } ∷ [])) (sym k) (contains_head (record (transition_view d) { target = q }) []))))
+      (λ x k. subst (λ z. Contains z x) (sym all) (Contains-append_right (twins p q (map transition_view (take i ds))) (record (transition_view d) { target = q } ∷ []) x
+      (subst (Contains (record (transition_view d) { target = q } ∷ [])) (sym k) (contains_head (record (transition_view d) { target = q }) []))))
       (λ x k. go x (Contains-append_cases (twins p q (map transition_view (take i ds))) (record (transition_view d) { target = q } ∷ []) x (subst (λ z. Contains z x) all k)))
     where
       all : twins p q (map transition_view (take (i + 1) ds)) ≡ twins p q (map transition_view (take i ds)) ++ record (transition_view d) { target = q } ∷ []
@@ -130,15 +138,18 @@ module _ (p q : ℕ) (ds : List Transition) (i : ℕ) (d : Transition) (h : i < 
       go x (inr k) = inr (last x (contains_cases (record (transition_view d) { target = q }) [] x k))
 
   pub twins_same : (a b : List evidence.Transition) → (d.target ≡ p → ⊥) → IsAdded (So i) a b × (length b ≤ 5000) → IsAdded (So (i + 1)) a b × (length b ≤ 5000)
-  twins_same a b n k = subst (λ z. IsAdded (Contains z) a b × (length b ≤ 5000)) (sym (next_twins ∙ ap (λ z. twins p q (map transition_view (take i ds)) ++ z) (no_twin n) ∙ append-nil (twins p q (map transition_view (take i ds))))) k
+  twins_same a b n k = subst (λ z. IsAdded (Contains z) a b × (length b ≤ 5000))
+      (sym (next_twins ∙ ap (λ z. twins p q (map transition_view (take i ds)) ++ z) (no_twin n) ∙ append-nil (twins p q (map transition_view (take i ds))))) k
 
-  pub twins_error : (a b c : List evidence.Transition) (why : GrowError) → d.target ≡ p → IsAdded (So i) a b × (length b ≤ 5000) → AddAnswers (λ x. x ≡ record (transition_view d) { target = q }) b c (Err why)
+  pub twins_error : (a b c : List evidence.Transition) (why : GrowError) → d.target ≡ p → IsAdded (So i) a b × (length b ≤ 5000)
+      → AddAnswers (λ x. x ≡ record (transition_view d) { target = q }) b c (Err why)
       → AddAnswers (Contains (twins p q (map transition_view ds))) a c (Err why)
   twins_error a b c why e = answers_error (So i) (λ x. x ≡ record (transition_view d) { target = q }) (Contains (twins p q (map transition_view ds))) a b c why
       (λ x k. twins_within (map transition_view (take i ds)) (map transition_view ds) (λ z m. taken transition_view ds i z m) x k)
       (λ x k. subst (Contains (twins p q (map transition_view ds))) (sym k) (twin_in p q (map transition_view ds) (transition_view d) (stands transition_view ds i d h at) e))
     where
-      twins_within : (xs ys : List evidence.Transition) → ((z : evidence.Transition) → Contains xs z → Contains ys z) → (x : evidence.Transition) → Contains (twins p q xs) x → Contains (twins p q ys) x
+      twins_within : (xs ys : List evidence.Transition) → ((z : evidence.Transition) → Contains xs z → Contains ys z) → (x : evidence.Transition)
+          → Contains (twins p q xs) x → Contains (twins p q ys) x
       twins_within xs ys more x k =
           let t = twin_from p q xs x k in subst (Contains (twins p q ys)) (sym t.same) (twin_in p q ys t.source (more t.source t.stands) t.leads)
 
@@ -163,12 +174,14 @@ module _ (arities : Signature) (i n : ℕ) (h : i < length arities) (at : slice_
           let same : s.arity ≡ n = cc in
           inr (s.same ∙ ap₂ (λ (f k : ℕ). let x : evidence.Transition = record { symbol = Some f; arguments = replicate k 0; target = 0 } in x) e same)
 
-  pub symbols_next : (a b c : List evidence.Transition) → IsAdded (IsForSymbol arities i) a b × (length b ≤ 5000) → IsAdded (λ d. d ≡ record { symbol = Some i; arguments = replicate n 0; target = 0 }) b c × (length c ≤ 5000)
+  pub symbols_next : (a b c : List evidence.Transition) → IsAdded (IsForSymbol arities i) a b × (length b ≤ 5000)
+      → IsAdded (λ d. d ≡ record { symbol = Some i; arguments = replicate n 0; target = 0 }) b c × (length c ≤ 5000)
       → IsAdded (IsForSymbol arities (i + 1)) a c × (length c ≤ 5000)
   symbols_next a b c = answers_next (IsForSymbol arities i) (λ d. d ≡ record { symbol = Some i; arguments = replicate n 0; target = 0 }) (IsForSymbol arities (i + 1)) a b c
       (λ d k. wider i (i + 1) d (omega arith) k) (λ d k. this (i + 1) d (omega arith) k) either
 
-  pub symbols_error : (a b c : List evidence.Transition) (why : GrowError) → IsAdded (IsForSymbol arities i) a b × (length b ≤ 5000) → AddAnswers (λ d. d ≡ record { symbol = Some i; arguments = replicate n 0; target = 0 }) b c (Err why)
+  pub symbols_error : (a b c : List evidence.Transition) (why : GrowError) → IsAdded (IsForSymbol arities i) a b × (length b ≤ 5000)
+      → AddAnswers (λ d. d ≡ record { symbol = Some i; arguments = replicate n 0; target = 0 }) b c (Err why)
       → AddAnswers (IsForSymbol arities (length arities)) a c (Err why)
   symbols_error a b c why = answers_error (IsForSymbol arities i) (λ d. d ≡ record { symbol = Some i; arguments = replicate n 0; target = 0 }) (IsForSymbol arities (length arities)) a b c why
       (λ d k. wider i (length arities) d (omega arith) k) (λ d k. this (length arities) d h k)
@@ -186,7 +199,8 @@ basic_to sys s ds d e (for_term h) = inr (inr (subst (λ z. Contains z d) (sym e
 
 -- the two kinds of right sides
 module _ (r : math.Rule) (n : ℕ) (ds : List evidence.Transition) (cs : List ℕ) (q : ℕ) where
-  pub asked_var : (x : ℕ) (a b : List evidence.Transition) (o : Result (Unit {0}) GrowError) → r.right ≡ var x → AddAnswers (Contains (twins (state_of (variable_occurrences r.left) cs x) q ds)) a b o → AddAnswers (IsAskedAt n r ds cs q) a b o
+  pub asked_var : (x : ℕ) (a b : List evidence.Transition) (o : Result (Unit {0}) GrowError) → r.right ≡ var x
+      → AddAnswers (Contains (twins (state_of (variable_occurrences r.left) cs x) q ds)) a b o → AddAnswers (IsAskedAt n r ds cs q) a b o
   asked_var x a b o is = answers_renamed (Contains (twins (state_of (variable_occurrences r.left) cs x) q ds)) (IsAskedAt n r ds cs q) a b o
       (λ d h. inr (subst (λ t. Contains (twins_of (state_of (variable_occurrences r.left) cs) t q ds) d) (sym is) h)) (λ d h. go d h)
     where
@@ -194,7 +208,8 @@ module _ (r : math.Rule) (n : ℕ) (ds : List evidence.Transition) (cs : List �
       go d (inl h) = absurd (contains_none d (subst (λ t. Contains (grown (state_of (variable_occurrences r.left) cs) n t q) d) is h))
       go d (inr h) = subst (λ t. Contains (twins_of (state_of (variable_occurrences r.left) cs) t q ds) d) is h
 
-  pub asked_app : (f : ℕ) (ts : terms.Terms) (some a b : List evidence.Transition) (o : Result (Unit {0}) GrowError) → r.right ≡ app f ts → some ≡ grown (state_of (variable_occurrences r.left) cs) n r.right q → AddAnswers (Contains some) a b o → AddAnswers (IsAskedAt n r ds cs q) a b o
+  pub asked_app : (f : ℕ) (ts : terms.Terms) (some a b : List evidence.Transition) (o : Result (Unit {0}) GrowError) → r.right ≡ app f ts
+      → some ≡ grown (state_of (variable_occurrences r.left) cs) n r.right q → AddAnswers (Contains some) a b o → AddAnswers (IsAskedAt n r ds cs q) a b o
   asked_app f ts some a b o is e = answers_renamed (Contains some) (IsAskedAt n r ds cs q) a b o (λ d h. inl (subst (λ z. Contains z d) e h)) (λ d h. go d h)
     where
       go : (d : evidence.Transition) → IsAskedAt n r ds cs q d → Contains some d
@@ -207,33 +222,46 @@ module _ (n : ℕ) (r : math.Rule) (ds : List evidence.Transition) (rows : List 
   more_rows xs ys d more a = record { choice = a.choice; state = a.state; row = more (a.choice, a.state) a.row; asked = a.asked }
 
   module _ (i : ℕ) (row : Arrival) (h : i < length rows) (at : row ≡ get_or rows i row) where
-    split_rows : (d : evidence.Transition) → IsAskedByRows n r ds (map arrival_view (take i rows) ++ arrival_view row ∷ []) d → IsAskedByRows n r ds (map arrival_view (take i rows)) d ⊎ IsAskedAt n r ds row.choice.items row.state d
+    split_rows : (d : evidence.Transition) → IsAskedByRows n r ds (map arrival_view (take i rows) ++ arrival_view row ∷ []) d
+        → IsAskedByRows n r ds (map arrival_view (take i rows)) d ⊎ IsAskedAt n r ds row.choice.items row.state d
     split_rows d a = go (Contains-append_cases (map arrival_view (take i rows)) (arrival_view row ∷ []) (a.choice, a.state) a.row)
       where
         last : (let x : List ℕ × ℕ = (a.choice, a.state) in x ≡ arrival_view row) ⊎ Contains {X = List ℕ × ℕ} [] (a.choice, a.state) → IsAskedAt n r ds row.choice.items row.state d
         last (inl e) = subst (λ (z : List ℕ × ℕ). IsAskedAt n r ds z.0 z.1 d) e a.asked
         last (inr k) = absurd (contains_none (a.choice, a.state) k)
 
-        go : Contains {X = List ℕ × ℕ} (map arrival_view (take i rows)) (a.choice, a.state) ⊎ Contains {X = List ℕ × ℕ} (arrival_view row ∷ []) (a.choice, a.state) → IsAskedByRows n r ds (map arrival_view (take i rows)) d ⊎ IsAskedAt n r ds row.choice.items row.state d
+        go : Contains {X = List ℕ × ℕ} (map arrival_view (take i rows)) (a.choice, a.state) ⊎ Contains {X = List ℕ × ℕ} (arrival_view row ∷ []) (a.choice, a.state)
+            → IsAskedByRows n r ds (map arrival_view (take i rows)) d ⊎ IsAskedAt n r ds row.choice.items row.state d
         go (inl k) = inl (record { choice = a.choice; state = a.state; row = k; asked = a.asked })
         go (inr k) = inr (last (contains_cases (arrival_view row) [] (a.choice, a.state) k))
 
-    pub rows_next : (a b c : List evidence.Transition) → IsAdded (IsAskedByRows n r ds (map arrival_view (take i rows))) a b × (length b ≤ 5000) → IsAdded (IsAskedAt n r ds row.choice.items row.state) b c × (length c ≤ 5000)
+    pub rows_next : (a b c : List evidence.Transition) → IsAdded (IsAskedByRows n r ds (map arrival_view (take i rows))) a b × (length b ≤ 5000)
+        → IsAdded (IsAskedAt n r ds row.choice.items row.state) b c × (length c ≤ 5000)
         → IsAdded (IsAskedByRows n r ds (map arrival_view (take (i + 1) rows))) a c × (length c ≤ 5000)
     rows_next a b c k m = subst (λ z. IsAdded (IsAskedByRows n r ds z) a c × (length c ≤ 5000)) (sym (one_more arrival_view rows i row h at))
-        (answers_next (IsAskedByRows n r ds (map arrival_view (take i rows))) (IsAskedAt n r ds row.choice.items row.state) (IsAskedByRows n r ds (map arrival_view (take i rows) ++ arrival_view row ∷ [])) a b c
-        (λ d x. more_rows (map arrival_view (take i rows)) (map arrival_view (take i rows) ++ arrival_view row ∷ []) d (λ y z. Contains-append_left (map arrival_view (take i rows)) (arrival_view row ∷ []) y z) x)
-        (λ d x. record { choice = row.choice.items; state = row.state; row = Contains-append_right (map arrival_view (take i rows)) (arrival_view row ∷ []) (arrival_view row) (contains_head (arrival_view row) []); asked = x })
+        (answers_next (IsAskedByRows n r ds (map arrival_view (take i rows))) (IsAskedAt n r ds row.choice.items row.state)
+        (IsAskedByRows n r ds (map arrival_view (take i rows) ++ arrival_view row ∷ [])) a b c
+        (λ d x. more_rows (map arrival_view (take i rows)) (map arrival_view (take i rows) ++ arrival_view row ∷ []) d
+        (λ y z. Contains-append_left (map arrival_view (take i rows)) (arrival_view row ∷ []) y z) x)
+        (λ d x. record {
+          choice = row.choice.items;
+          state = row.state;
+          row = Contains-append_right (map arrival_view (take i rows)) (arrival_view row ∷ []) (arrival_view row)
+              (contains_head (arrival_view row) []);
+          asked = x;
+        })
         split_rows k m)
 
-    pub rows_error : (a b c : List evidence.Transition) (why : GrowError) → IsAdded (IsAskedByRows n r ds (map arrival_view (take i rows))) a b × (length b ≤ 5000) → AddAnswers (IsAskedAt n r ds row.choice.items row.state) b c (Err why)
+    pub rows_error : (a b c : List evidence.Transition) (why : GrowError) → IsAdded (IsAskedByRows n r ds (map arrival_view (take i rows))) a b × (length b ≤ 5000)
+        → AddAnswers (IsAskedAt n r ds row.choice.items row.state) b c (Err why)
         → AddAnswers (IsAskedByRows n r ds (map arrival_view rows)) a c (Err why)
     rows_error a b c why = answers_error (IsAskedByRows n r ds (map arrival_view (take i rows))) (IsAskedAt n r ds row.choice.items row.state) (IsAskedByRows n r ds (map arrival_view rows)) a b c why
         (λ d x. more_rows (map arrival_view (take i rows)) (map arrival_view rows) d (λ y z. taken arrival_view rows i y z) x)
         (λ d x. record { choice = row.choice.items; state = row.state; row = stands arrival_view rows i row h at; asked = x })
 
 -- the rows are what the left side reaches
-pub rows_rule : (a : Automaton) (n : ℕ) (r : math.Rule) (rows : List (List ℕ × ℕ)) (before after : List evidence.Transition) (o : Result (Unit {0}) GrowError) → AreAllStates a → AreArrivals (under_all a) r.left rows
+pub rows_rule : (a : Automaton) (n : ℕ) (r : math.Rule) (rows : List (List ℕ × ℕ)) (before after : List evidence.Transition) (o : Result (Unit {0}) GrowError) → AreAllStates a
+    → AreArrivals (under_all a) r.left rows
     → AddAnswers (IsAskedByRows n r a.transitions rows) before after o → AddAnswers (IsAskedByRule a.states n r a.transitions) before after o
 rows_rule a n r rows before after o good arrive = answers_renamed (IsAskedByRows n r a.transitions rows) (IsAskedByRule a.states n r a.transitions) before after o to from
   where
@@ -247,7 +275,8 @@ rows_rule a n r rows before after o good arrive = answers_renamed (IsAskedByRows
         record {
           choice = k.choice;
           state = k.state;
-          row = arrive.complete k.choice k.state k.is_choice (by-mono (moves a.transitions) (Has None a) (λ f qs q m. moves_had a.states a.accepting a.transitions good f qs q m) r.left k.choice k.state k.reached);
+          row = arrive.complete k.choice k.state k.is_choice (by-mono (moves a.transitions) (Has None a) (λ f qs q m. moves_had a.states a.accepting a.transitions good f qs q m)
+              r.left k.choice k.state k.reached);
           asked = k.asked;
         }
 
@@ -273,26 +302,31 @@ module _ (sys : math.System) (s : terms.Term) (ds : List evidence.Transition) (i
           inr (subst (λ q. IsAskedByRule (state_count sys s) (first_state sys s i) q ds d) same (subst (λ z. IsAskedByRule (state_count sys s) (first_state sys s z) a.rule ds d) e a.by_rule))
 
   module _ (n first : ℕ) (states : n ≡ state_count sys s) (firsts : first ≡ first_state sys s i) where
-    renamed : (b c : List evidence.Transition) (o : Result (Unit {0}) GrowError) → AddAnswers (IsAskedByRule n first r ds) b c o → AddAnswers (IsAskedByRule (state_count sys s) (first_state sys s i) r ds) b c o
+    renamed : (b c : List evidence.Transition) (o : Result (Unit {0}) GrowError) → AddAnswers (IsAskedByRule n first r ds) b c o
+        → AddAnswers (IsAskedByRule (state_count sys s) (first_state sys s i) r ds) b c o
     renamed b c o h = subst (λ z. AddAnswers (IsAskedByRule z (first_state sys s i) r ds) b c o) states (subst (λ z. AddAnswers (IsAskedByRule n z r ds) b c o) firsts h)
 
-    pub rules_next : (a b c : List evidence.Transition) → IsAdded (IsAskedBelow sys s i ds) a b × (length b ≤ 5000) → IsAdded (IsAskedByRule n first r ds) b c × (length c ≤ 5000) → IsAdded (IsAskedBelow sys s (i + 1) ds) a c × (length c ≤ 5000)
+    pub rules_next : (a b c : List evidence.Transition) → IsAdded (IsAskedBelow sys s i ds) a b × (length b ≤ 5000) → IsAdded (IsAskedByRule n first r ds) b c × (length c ≤ 5000)
+        → IsAdded (IsAskedBelow sys s (i + 1) ds) a c × (length c ≤ 5000)
     rules_next a b c k m = answers_next (IsAskedBelow sys s i ds) (IsAskedByRule (state_count sys s) (first_state sys s i) r ds) (IsAskedBelow sys s (i + 1) ds) a b c
         (λ d x. further i (i + 1) d (omega arith) x) (λ d x. this_rule (i + 1) d (omega arith) x) split_rules k (renamed b c (Ok tt) m)
 
-    pub rules_error : (a b c : List evidence.Transition) (why : GrowError) → i < length sys.rules → IsAdded (IsAskedBelow sys s i ds) a b × (length b ≤ 5000) → AddAnswers (IsAskedByRule n first r ds) b c (Err why)
+    pub rules_error : (a b c : List evidence.Transition) (why : GrowError) → i < length sys.rules → IsAdded (IsAskedBelow sys s i ds) a b × (length b ≤ 5000)
+        → AddAnswers (IsAskedByRule n first r ds) b c (Err why)
         → AddAnswers (IsAskedBelow sys s (length sys.rules) ds) a c (Err why)
     rules_error a b c why low k m = answers_error (IsAskedBelow sys s i ds) (IsAskedByRule (state_count sys s) (first_state sys s i) r ds) (IsAskedBelow sys s (length sys.rules) ds) a b c why
         (λ d x. further i (length sys.rules) d (omega arith) x) (λ d x. this_rule (length sys.rules) d low x) k (renamed b c (Err why) m)
 
-pub rules_end : (sys : math.System) (s : terms.Term) (ds : List evidence.Transition) (i : ℕ) (a b : List evidence.Transition) → i ≡ length sys.rules → IsAdded (IsAskedBelow sys s i ds) a b × (length b ≤ 5000) → IsAdded (IsAskedBelow sys s (length sys.rules) ds) a b × (length b ≤ 5000)
+pub rules_end : (sys : math.System) (s : terms.Term) (ds : List evidence.Transition) (i : ℕ) (a b : List evidence.Transition) → i ≡ length sys.rules
+    → IsAdded (IsAskedBelow sys s i ds) a b × (length b ≤ 5000) → IsAdded (IsAskedBelow sys s (length sys.rules) ds) a b × (length b ≤ 5000)
 rules_end sys s ds i a b e k = subst (λ z. IsAdded (IsAskedBelow sys s z ds) a b × (length b ≤ 5000)) e k
 
 pub rules_begin : (sys : math.System) (s : terms.Term) (ds a : List evidence.Transition) → IsSorted IsTransitionBefore a → length a ≤ 5000 → IsAdded (IsAskedBelow sys s 0 ds) a a × (length a ≤ 5000)
 rules_begin sys s ds a sorted few = answers_first (IsAskedBelow sys s 0 ds) a sorted few (λ d x. let b = x.below in omega arith)
 
 -- the second part may fail
-pub answers_then : (P Q R : evidence.Transition → Type 0) (a b c : List evidence.Transition) (o : Result (Unit {0}) GrowError) → ((d : evidence.Transition) → P d → R d) → ((d : evidence.Transition) → Q d → R d) → ((d : evidence.Transition) → R d → P d ⊎ Q d)
+pub answers_then : (P Q R : evidence.Transition → Type 0) (a b c : List evidence.Transition) (o : Result (Unit {0}) GrowError) → ((d : evidence.Transition) → P d → R d)
+    → ((d : evidence.Transition) → Q d → R d) → ((d : evidence.Transition) → R d → P d ⊎ Q d)
     → IsAdded P a b × (length b ≤ 5000) → AddAnswers Q b c o → AddAnswers R a c o
 answers_then P Q R a b c (Ok u) p q r h k = answers_next P Q R a b c p q r h k
 answers_then P Q R a b c (Err why) p q r h k = answers_error P Q R a b c why p q h k
@@ -302,9 +336,12 @@ module _ (arities : Signature) (some a b c : List evidence.Transition) (symbols 
   IsEarly d = IsForSymbol arities (length arities) d ⊎ (d ≡ record { symbol = None; arguments = []; target = 0 })
 
   pub basic_error : (why : GrowError) → AddAnswers (λ d. d ≡ record { symbol = None; arguments = []; target = 0 }) b c (Err why) → AddAnswers (IsBasicOf arities some) a c (Err why)
-  basic_error why = answers_error (IsForSymbol arities (length arities)) (λ d. d ≡ record { symbol = None; arguments = []; target = 0 }) (IsBasicOf arities some) a b c why (λ d h. inl h) (λ d h. inr (inl h)) symbols
+  basic_error why = answers_error (IsForSymbol arities (length arities)) (λ d. d ≡ record { symbol = None; arguments = []; target = 0 }) (IsBasicOf arities some) a b c why
+      (λ d h. inl h) (λ d h. inr (inl h)) symbols
 
-  pub basic_whole : (e : List evidence.Transition) (o : Result (Unit {0}) GrowError) → IsAdded (λ d. d ≡ record { symbol = None; arguments = []; target = 0 }) b c × (length c ≤ 5000) → AddAnswers (Contains some) c e o → AddAnswers (IsBasicOf arities some) a e o
+  pub basic_whole : (e : List evidence.Transition) (o : Result (Unit {0}) GrowError)
+      → IsAdded (λ d. d ≡ record { symbol = None; arguments = []; target = 0 }) b c × (length c ≤ 5000) → AddAnswers (Contains some) c e o
+      → AddAnswers (IsBasicOf arities some) a e o
   basic_whole e o bar = answers_then IsEarly (Contains some) (IsBasicOf arities some) a c e o widen (λ d h. inr (inr h)) split
       (answers_next (IsForSymbol arities (length arities)) (λ d. d ≡ record { symbol = None; arguments = []; target = 0 }) IsEarly a b c (λ d h. inl h) (λ d h. inr h) (λ d h. h) symbols bar)
     where
@@ -322,7 +359,8 @@ pub start_inside : (s : terms.Term) (out : List evidence.Transition) → out ≡
 start_inside (var x) out e = e
 start_inside (app f ts) out e = e
 
-pub started : (sys : math.System) (s : terms.Term) (arities : Signature) (some old new : List evidence.Transition) (o : Result (Unit {0}) GrowError) → arities ≡ sys.arities → some ≡ inside (λ x. 0) 1 s → old ≡ [] → AddAnswers (IsBasicOf arities some) old new o
+pub started : (sys : math.System) (s : terms.Term) (arities : Signature) (some old new : List evidence.Transition) (o : Result (Unit {0}) GrowError) → arities ≡ sys.arities
+    → some ≡ inside (λ x. 0) 1 s → old ≡ [] → AddAnswers (IsBasicOf arities some) old new o
     → AddAnswers (IsBasic sys s) [] new o
 started sys s arities some old new o e f g h =
     answers_renamed (IsBasicOf sys.arities some) (IsBasic sys s) [] new o (λ d k. basic_from sys s some d f k) (λ d k. basic_to sys s some d f k)
@@ -334,14 +372,17 @@ start_error sys s ds TooManyStates h = h
 start_error sys s ds TooManyTransitions (h, many) = first_many sys s ds h many
 start_error sys s ds NoMemory h = tt
 
-pub round_error : (sys : math.System) (s : terms.Term) (ds es : List evidence.Transition) (why : GrowError) → IsPartial sys s ds → AddAnswers (IsAskedBelow sys s (length sys.rules) ds) ds es (Err why) → RoundAnswers sys s ds (Err why)
+pub round_error : (sys : math.System) (s : terms.Term) (ds es : List evidence.Transition) (why : GrowError) → IsPartial sys s ds
+    → AddAnswers (IsAskedBelow sys s (length sys.rules) ds) ds es (Err why) → RoundAnswers sys s ds (Err why)
 round_error sys s ds es (TooWide rule) old h = h
 round_error sys s ds es TooManyStates old h = h
 round_error sys s ds es TooManyTransitions old (h, many) = next_many sys s (length sys.rules) ds es old h many
 round_error sys s ds es NoMemory old h = tt
 
-pub round_whole : (sys : math.System) (s : terms.Term) (ds es : List evidence.Transition) → IsPartial sys s ds → IsAdded (IsAskedBelow sys s (length sys.rules) ds) ds es × (length es ≤ 5000) → IsAdded (IsAskedBelow sys s (length sys.rules) ds) ds es × IsPartial sys s es
+pub round_whole : (sys : math.System) (s : terms.Term) (ds es : List evidence.Transition) → IsPartial sys s ds
+    → IsAdded (IsAskedBelow sys s (length sys.rules) ds) ds es × (length es ≤ 5000) → IsAdded (IsAskedBelow sys s (length sys.rules) ds) ds es × IsPartial sys s es
 round_whole sys s ds es old (h, few) = (h, next_partial sys s (length sys.rules) ds es old h few)
 
-pub round_same : (sys : math.System) (s : terms.Term) (ds es : List evidence.Transition) → IsPartial sys s ds → IsAdded (IsAskedBelow sys s (length sys.rules) ds) ds es → length es ≡ length ds → AreLeast sys s ds
+pub round_same : (sys : math.System) (s : terms.Term) (ds es : List evidence.Transition) → IsPartial sys s ds → IsAdded (IsAskedBelow sys s (length sys.rules) ds) ds es
+    → length es ≡ length ds → AreLeast sys s ds
 round_same sys s ds es old h e = least_when_closed sys s ds old (λ d a. subst (λ z. Contains z d) (h.same e) (h.every d a))

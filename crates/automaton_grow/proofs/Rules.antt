@@ -57,14 +57,16 @@ module _ (rs : List Rule) (i : ℕ) (r : Rule) (h : i < length rs) (at : r ≡ g
   count_step n p all e inv =
       add_assoc n p (all_proper (map rule_view (drop (i + 1) rs))) ∙ ap (λ z. n + z) (ap (λ z. z + all_proper (map rule_view (drop (i + 1) rs))) e ∙ sym count_here) ∙ inv
 
-pub first_next : (sys : math.System) (s : Term) (i : ℕ) (r : math.Rule) (first p : ℕ) → slice_get sys.rules i ≡ Some r → first ≡ first_state sys s i → p ≡ proper r.right → first + p ≡ first_state sys s (i + 1)
+pub first_next : (sys : math.System) (s : Term) (i : ℕ) (r : math.Rule) (first p : ℕ) → slice_get sys.rules i ≡ Some r → first ≡ first_state sys s i → p ≡ proper r.right
+    → first + p ≡ first_state sys s (i + 1)
 first_next sys s i r first p at e q = rw add-one (let h = proper_at sys.rules i r at in omega arith)
 
 pub first_low : (sys : math.System) (s : Term) (i : ℕ) (r : math.Rule) (n first : ℕ) → slice_get sys.rules i ≡ Some r → first ≡ first_state sys s i → n ≡ state_count sys s → first ≤ n
 first_low sys s i r n first at e same = let h = room_at sys s i r at in omega arith
 
 -- widths
-pub narrow_next : (n : ℕ) (rs : List Rule) (i : ℕ) (r : Rule) → i < length rs → r ≡ get_or rs i r → AreNarrowBelow n (map rule_view rs) i → (IsWideFor n (rule_view r).left → ⊥) → AreNarrowBelow n (map rule_view rs) (i + 1)
+pub narrow_next : (n : ℕ) (rs : List Rule) (i : ℕ) (r : Rule) → i < length rs → r ≡ get_or rs i r → AreNarrowBelow n (map rule_view rs) i → (IsWideFor n (rule_view r).left → ⊥)
+    → AreNarrowBelow n (map rule_view rs) (i + 1)
 narrow_next n rs i r h at below here k q less is_rule wide = go (split k i (omega arith))
   where
     split : (a b : ℕ) → a < b + 1 → (a < b) ⊎ (a ≡ b)
@@ -78,7 +80,8 @@ narrow_next n rs i r h at below here k q less is_rule wide = go (split k i (omeg
         let same : q ≡ rule_view r = cc in
         here (subst (λ z. IsWideFor n z.left) same wide)
 
-pub first_wide : (n : ℕ) (rs : List Rule) (i number : ℕ) (r : Rule) → i < length rs → r ≡ get_or rs i r → number ≡ i + 1 → AreNarrowBelow n (map rule_view rs) i → IsWideFor n (rule_view r).left → IsFirstWideFor n (map rule_view rs) number
+pub first_wide : (n : ℕ) (rs : List Rule) (i number : ℕ) (r : Rule) → i < length rs → r ≡ get_or rs i r → number ≡ i + 1 → AreNarrowBelow n (map rule_view rs) i
+    → IsWideFor n (rule_view r).left → IsFirstWideFor n (map rule_view rs) number
 first_wide n rs i number r h at e below wide = record { place = i; rule = rule_view r; numbered = e ∙ add-one i; is_rule = slice_get-map_read rule_view rs i r h at; wide = wide; earlier = below }
 
 pub narrow_power : (n k : ℕ) → (100000 < n ^ k → ⊥) → n ^ k ≤ 100000

@@ -30,7 +30,8 @@ twin_from p q (c ∷ ds) d h = go (λ k. later_twin p q c ds d (twin_from p q ds
     first rest e (inl same) = record { source = c; stands = contains_head c ds; leads = eqb-true c.target p e; same = same }
     first rest e (inr k) = rest k
 
-    go : (Contains (twins p q ds) d → IsTwin p q (c ∷ ds) d) → (b : Bool) → nat_eq c.target p ≡ b → Contains (if b then (record c { target = q }) ∷ twins p q ds else twins p q ds) d → IsTwin p q (c ∷ ds) d
+    go : (Contains (twins p q ds) d → IsTwin p q (c ∷ ds) d) → (b : Bool) → nat_eq c.target p ≡ b
+        → Contains (if b then (record c { target = q }) ∷ twins p q ds else twins p q ds) d → IsTwin p q (c ∷ ds) d
     go rest true e k = first rest e (contains_cases (record c { target = q }) (twins p q ds) d k)
     go rest false e k = rest k
 
@@ -74,13 +75,15 @@ reached_below n ds (app f ts) cs q good all (qs, m, h) = (good (record { symbol 
 
 -- what state 0 and the term ask for
 pub basic_states : (sys : System) (s : Term) (d : Transition) → IsBasic sys s d → HasStates (state_count sys s) d
-basic_states sys s d (for_symbol f n arity same) = subst (HasStates (state_count sys s)) (sym same) (record { head = tt; arguments = All-replicate (λ q. q < state_count sys s) n 0 (omega arith); target = omega arith })
+basic_states sys s d (for_symbol f n arity same) = subst (HasStates (state_count sys s)) (sym same)
+    (record { head = tt; arguments = All-replicate (λ q. q < state_count sys s) n 0 (omega arith); target = omega arith })
 basic_states sys s d (for_variables same) = subst (HasStates (state_count sys s)) (sym same) (record { head = refl; arguments = All-nil (λ q. q < state_count sys s); target = omega arith })
 basic_states sys s d (for_term h) =
     All-contains (HasStates (state_count sys s)) (inside (λ x. 0) 1 s) d (inside_states (state_count sys s) (λ x. 0) (λ x. omega arith) s 1 (omega arith)) h
 
 -- what a rule asks for
-pub rule_states : (n k : ℕ) (r : Rule) (ds : List Transition) (d : Transition) → 0 < n → k + proper r.right ≤ n → ((c : Transition) → Contains ds c → HasStates n c) → IsAskedByRule n k r ds d → HasStates n d
+pub rule_states : (n k : ℕ) (r : Rule) (ds : List Transition) (d : Transition) → 0 < n → k + proper r.right ≤ n → ((c : Transition) → Contains ds c → HasStates n c)
+    → IsAskedByRule n k r ds d → HasStates n d
 rule_states n k r ds d some room good a = go a.asked
   where
     e : ℕ → ℕ

@@ -12,7 +12,8 @@ use Rattle.term_core.specs.declared.terms.Term.{Term}
 use Rattle.term_core.proofs.Over.{views-drop}
 
 module _ (e : ℕ → ℕ) (ts : List Term) (i : ℕ) where
-  pub tops_next : (t : Term) (qs more all : List ℕ) (n q k : ℕ) → i < length ts → t ≡ get_or ts i t → qs ++ tops e n (views (drop i ts)) ≡ all → more ≡ qs ++ q ∷ [] → q ≡ top e n (view t) → k ≡ n + inner (view t)
+  pub tops_next : (t : Term) (qs more all : List ℕ) (n q k : ℕ) → i < length ts → t ≡ get_or ts i t → qs ++ tops e n (views (drop i ts)) ≡ all → more ≡ qs ++ q ∷ []
+      → q ≡ top e n (view t) → k ≡ n + inner (view t)
       → more ++ tops e k (views (drop (i + 1) ts)) ≡ all
   tops_next t qs more all n q k h at inv put is next =
       ap₂ (λ z m. z ++ tops e m (views (drop (i + 1) ts))) (put ∙ ap (λ z. qs ++ z ∷ []) is) next
@@ -23,7 +24,8 @@ module _ (e : ℕ → ℕ) (ts : List Term) (i : ℕ) where
   inside_grown n (var x) = refl
   inside_grown n (app f us) = rw add-one refl
 
-  pub grown_next : (t : Term) (out more all : List evidence.Transition) (n k : ℕ) → i < length ts → t ≡ get_or ts i t → out ++ inside_all e n (views (drop i ts)) ≡ all → more ≡ out ++ grown e (n + 1) (view t) n → k ≡ n + inner (view t)
+  pub grown_next : (t : Term) (out more all : List evidence.Transition) (n k : ℕ) → i < length ts → t ≡ get_or ts i t → out ++ inside_all e n (views (drop i ts)) ≡ all
+      → more ≡ out ++ grown e (n + 1) (view t) n → k ≡ n + inner (view t)
       → more ++ inside_all e k (views (drop (i + 1) ts)) ≡ all
   grown_next t out more all n k h at inv put next =
       ap₂ (λ z m. z ++ inside_all e m (views (drop (i + 1) ts))) (put ∙ ap (λ z. out ++ z) (sym (inside_grown n (view t)))) next

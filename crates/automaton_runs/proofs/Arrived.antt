@@ -71,12 +71,14 @@ module _ (a : Indexed) (t : Term) where
       choices_before : (j : ℕ) → j < k → IsBefore (choice_of b j) (choice_of b k)
       choices_before j l =
           before_behind b.front (get_or b.tails j []) (get_or b.tails k [])
-          (pair_at IsBefore b.tails j k (get_or b.tails j []) (get_or b.tails k []) ordered l (slice_get-get_or b.tails j [] (let low : k < length b.tails = holds in omega arith)) (slice_get-get_or b.tails k [] holds))
+          (pair_at IsBefore b.tails j k (get_or b.tails j []) (get_or b.tails k []) ordered l (slice_get-get_or b.tails j [] (let low : k < length b.tails = holds in omega arith))
+          (slice_get-get_or b.tails k [] holds))
 
       sorted_more : AllPairs IsArrivalBefore (old ++ here)
       sorted_more =
           pairs_from_ordered {X = Pair} IsArrivalBefore (old ++ here)
-          (ordered_append {X = Pair} IsArrivalBefore old here (ordered_from_pairs {X = Pair} IsArrivalBefore old before.sorted) (ordered_states (choice_of b k) qs (ordered_from_pairs (λ x y. x < y) qs up)) apart)
+          (ordered_append {X = Pair} IsArrivalBefore old here (ordered_from_pairs {X = Pair} IsArrivalBefore old before.sorted)
+          (ordered_states (choice_of b k) qs (ordered_from_pairs (λ x y. x < y) qs up)) apart)
         where
           apart : (x y : Pair) → IsAmong x old → IsAmong y here → IsArrivalBefore x y
           apart x y i j =
@@ -101,11 +103,13 @@ module _ (a : Indexed) (t : Term) where
     reached_here : (q : ℕ) → IsAmong q (row_of s k) ↔ ReachBy (Finds a) t (choice_of b k) q
     reached_here q = (λ i. ((where_reached q k).0 ((turned k q).0 i)).1, λ h. (turned k q).1 ((where_reached q k).1 (holds, h)))
 
-    pub arrivals_choice : AllPairs IsBefore b.tails → (first old new : List Pair) (cs qs : List ℕ) → HaveBatchArrivals a t b k first old → AllPairs (λ x y. x < y) qs → qs ≡ row_of s k → cs ≡ choice_of b k → new ≡ old ++ map (with_choice cs) qs
+    pub arrivals_choice : AllPairs IsBefore b.tails → (first old new : List Pair) (cs qs : List ℕ) → HaveBatchArrivals a t b k first old → AllPairs (λ x y. x < y) qs
+        → qs ≡ row_of s k → cs ≡ choice_of b k → new ≡ old ++ map (with_choice cs) qs
         → HaveBatchArrivals a t b (k + 1) first new
     arrivals_choice ordered first old new cs qs (more, is, before) up row here put = (
       more ++ map (with_choice (choice_of b k)) qs,
-      put ∙ ap (λ (l : List ℕ). old ++ map (with_choice l) qs) here ∙ ap (λ (l : List Pair). l ++ map (with_choice (choice_of b k)) qs) is ∙ append_assoc first more (map (with_choice (choice_of b k)) qs),
+      put ∙ ap (λ (l : List ℕ). old ++ map (with_choice l) qs) here ∙ ap (λ (l : List Pair). l ++ map (with_choice (choice_of b k)) qs) is
+          ∙ append_assoc first more (map (with_choice (choice_of b k)) qs),
       batch_more b k more before qs ordered holds up (λ q. subst (λ (l : List ℕ). IsAmong q l ↔ ReachBy (Finds a) t (choice_of b k) q) (sym row) (reached_here q)),
     )
 
@@ -118,7 +122,8 @@ module _ (a : Indexed) (t : Term) where
     none_of_fronts = record { each = λ cs q h. absurd h; complete = λ cs q h. let low = h.low in absurd (omega arith); sorted = λ i j d l h. absurd (omega arith) }
 
     -- one front more
-    module _ (choices : AreChoices a t c) (n : ℕ) (front : List ℕ) (at : slice_get c.fronts n ≡ Some front) (b : Batch) (is : b ≡ record { front = front; width = c.width; tails = c.tails }) (old more : List Pair) (before : AreFrontArrivals a t c n old)
+    module _ (choices : AreChoices a t c) (n : ℕ) (front : List ℕ) (at : slice_get c.fronts n ≡ Some front) (b : Batch)
+        (is : b ≡ record { front = front; width = c.width; tails = c.tails }) (old more : List Pair) (before : AreFrontArrivals a t c n old)
         (here : AreBatchArrivals a t b (length b.tails) more) where
       abbrev own : Batch
       own = record { front = front; width = c.width; tails = c.tails }
@@ -151,7 +156,17 @@ module _ (a : Indexed) (t : Term) where
       complete_fronts cs q e = ⊎_elim earlier last (cases_lt e.number n)
         where
           earlier : e.number < n → IsAmong {X = Pair} (cs, q) (old ++ more)
-          earlier l = among_left {X = Pair} (cs, q) old more (before.complete cs q record { number = e.number; front = e.front; tail = e.tail; low = l; is_front = e.is_front; is_tail = e.is_tail; is = e.is; reached = e.reached })
+          earlier l = among_left {X = Pair} (cs, q) old more
+              (before.complete cs q record {
+                number = e.number;
+                front = e.front;
+                tail = e.tail;
+                low = l;
+                is_front = e.is_front;
+                is_tail = e.is_tail;
+                is = e.is;
+                reached = e.reached;
+              })
 
           last : n ≤ e.number → IsAmong {X = Pair} (cs, q) (old ++ more)
           last l =
@@ -168,20 +183,27 @@ module _ (a : Indexed) (t : Term) where
       sorted_fronts : AllPairs IsArrivalBefore (old ++ more)
       sorted_fronts =
           pairs_from_ordered {X = Pair} IsArrivalBefore (old ++ more)
-          (ordered_append {X = Pair} IsArrivalBefore old more (ordered_from_pairs {X = Pair} IsArrivalBefore old before.sorted) (ordered_from_pairs {X = Pair} IsArrivalBefore more of_own.sorted) apart)
+          (ordered_append {X = Pair} IsArrivalBefore old more (ordered_from_pairs {X = Pair} IsArrivalBefore old before.sorted)
+          (ordered_from_pairs {X = Pair} IsArrivalBefore more of_own.sorted) apart)
         where
           apart : (x y : Pair) → IsAmong x old → IsAmong y more → IsArrivalBefore x y
           apart x y i j =
               let e = before.each x.0 x.1 i in
               let f = of_front y.0 y.1 j in
-              let long : length e.front ≡ length f.front = let one = choices.long e.front (place_among c.fronts e.number e.front e.is_front) in let two = choices.long f.front (place_among c.fronts f.number f.front f.is_front) in omega arith in
-              let first = before_fronts e.front f.front e.tail f.tail long (pair_at IsBefore c.fronts e.number f.number e.front f.front choices.fronts_ordered (subst (λ (m : ℕ). e.number < m) (sym (of_front_number y.0 y.1 j)) e.low) e.is_front f.is_front) in
+              let long : length e.front ≡ length f.front = let one = choices.long e.front (place_among c.fronts e.number e.front e.is_front) in
+              let two = choices.long f.front (place_among c.fronts f.number f.front f.is_front) in omega arith in
+              let first = before_fronts e.front f.front e.tail f.tail long (pair_at IsBefore c.fronts e.number f.number e.front f.front choices.fronts_ordered
+              (subst (λ (m : ℕ). e.number < m) (sym (of_front_number y.0 y.1 j)) e.low) e.is_front f.is_front) in
               inl (subst (λ (l : List ℕ). IsBefore l y.0) (sym e.is) (subst (IsBefore (e.front ++ e.tail)) (sym f.is) first))
 
       pub fronts_more : (new : List Pair) → new ≡ old ++ more → AreFrontArrivals a t c (n + 1) new
       fronts_more new put =
           subst (AreFrontArrivals a t c (n + 1)) (sym put)
-          (record { each = λ cs q h. ⊎_elim (λ i. later cs q (before.each cs q i)) (λ i. of_front cs q i) (among_either {X = Pair} (cs, q) old more h); complete = complete_fronts; sorted = sorted_fronts })
+          (record {
+            each = λ cs q h. ⊎_elim (λ i. later cs q (before.each cs q i)) (λ i. of_front cs q i) (among_either {X = Pair} (cs, q) old more h);
+            complete = complete_fronts;
+            sorted = sorted_fronts;
+          })
 
     -- behind all fronts
     pub arrivals_end : AreChoices a t c → (n : ℕ) (rows : List Pair) → length c.fronts ≤ n → AreFrontArrivals a t c n rows → AreArrivals a t rows

@@ -1,5 +1,6 @@
 -- Batches of choices: what their parts say of the choices.
-use Rattle.std.proofs.Common.{◌≡◌, ◌≢◌, ◌↔◌, ◌⊎◌, inl, inr, ⊎_elim, ℕ, zero, suc, ◌+◌, ◌<◌, ◌≤◌, Bool, true, false, nat_eq, if◌then◌else◌, List, [], ◌∷◌, ◌++◌, length, get_or, take, ltb, None, Some, slice_get, Vec, Global, refl, ap, sym, subst, ◌∙◌, arith, eq-eqb}
+use Rattle.std.proofs.Common.{◌≡◌, ◌≢◌, ◌↔◌, ◌⊎◌, inl, inr, ⊎_elim, ℕ, zero, suc, ◌+◌, ◌<◌, ◌≤◌, Bool, true, false, nat_eq, if◌then◌else◌, List, [], ◌∷◌, ◌++◌, length, get_or}
+use Rattle.std.proofs.Common.{take, ltb, None, Some, slice_get, Vec, Global, refl, ap, sym, subst, ◌∙◌, arith, eq-eqb}
 use Rattle.std.proofs.lemmas.Bool.{cases_lt, eqb-true, ltb-true, ltb-false}
 use Rattle.std.proofs.lemmas.List.{take_more, take_all}
 use Rattle.std.proofs.lemmas.Option.{same_Some, get_or_from_slice_get, slice_get-get_or, slice_get_read, slice_get_within}
@@ -23,7 +24,8 @@ each_more P (z ∷ xs) x each last (suc i) y e = each_more (λ j. P (suc j)) xs 
 
 -- a relation of the numbers below n to states that they are at, with one more
 module _ (At : ℕ → ℕ → Type 0) (old : NumberRelation) (n : ℕ) (had : (q k : ℕ) → Relates old q k ↔ ((k < n) × At k q)) where
-  pub leaf_put : (new : NumberRelation) (state : ℕ) → ((q k : ℕ) → Relates new q k ↔ (Relates old q k ⊎ ((q ≡ state) × (k ≡ n)))) → At n state → ((q : ℕ) → At n q → q ≡ state) → (q k : ℕ) → Relates new q k ↔ ((k < n + 1) × At k q)
+  pub leaf_put : (new : NumberRelation) (state : ℕ) → ((q k : ℕ) → Relates new q k ↔ (Relates old q k ⊎ ((q ≡ state) × (k ≡ n)))) → At n state → ((q : ℕ) → At n q → q ≡ state)
+      → (q k : ℕ) → Relates new q k ↔ ((k < n + 1) × At k q)
   leaf_put new state made here alone q k = (λ h. there ((made q k).0 h), λ h. back h.1 h.0 (cases_lt k n))
     where
       there : Relates old q k ⊎ ((q ≡ state) × (k ≡ n)) → (k < n + 1) × At k q
@@ -96,7 +98,8 @@ pub zeros_all : (list : List ℕ) (i : ℕ) → length list ≤ i → AreZeros (
 zeros_all list i past front = subst AreZeros (take_all i list past) front
 
 -- the states of a batch at a place of its front
-pub states_in_front : (b : Batch) (place state : ℕ) (r : NumberRelation) → slice_get b.front place ≡ Some state → ((q k : ℕ) → Relates r q k ↔ ((k < length b.tails) × (q ≡ state))) → AreStatesAt b place r
+pub states_in_front : (b : Batch) (place state : ℕ) (r : NumberRelation) → slice_get b.front place ≡ Some state
+    → ((q k : ℕ) → Relates r q k ↔ ((k < length b.tails) × (q ≡ state))) → AreStatesAt b place r
 states_in_front b place state r at is q k =
     let here = slice_get-append_left b.front (get_or b.tails k []) place (slice_get_within b.front place state at) ∙ at in (
       λ h. let g = (is q k).0 h in (g.0, here ∙ ap Some (sym g.1)),
@@ -168,7 +171,8 @@ only_zero (y ∷ ys) (c ∷ cs) x all = either (nat_eq x y) (all c (inl refl)) (
     either true e f = e
     either false e f = f
 
-pub states_alone : (b : Batch) (names : List ℕ) (x : ℕ) (r : NumberRelation) → b.front ≡ [] → ((list : List ℕ) → IsAmong list b.tails → AreZeros list) → ((q k : ℕ) → Relates r q k ↔ (Holds b k × (q ≡ 0)))
+pub states_alone : (b : Batch) (names : List ℕ) (x : ℕ) (r : NumberRelation) → b.front ≡ [] → ((list : List ℕ) → IsAmong list b.tails → AreZeros list)
+    → ((q k : ℕ) → Relates r q k ↔ (Holds b k × (q ≡ 0)))
     → (q k : ℕ) → Relates r q k ↔ (Holds b k × (q ≡ state_of names (choice_of b k) x))
 states_alone b names x r front all zeros q k = (
   λ h. let z = (zeros q k).0 h in (z.0, z.1 ∙ sym (none z.0)),

@@ -1,5 +1,6 @@
 -- Lists of the choices of a state of each pool: what is on them, and in which order.
-use Rattle.std.proofs.Common.{◌≡◌, ℕ, zero, suc, ◌+◌, ◌-◌, ◌*◌, ◌<◌, ◌≤◌, inl, inr, ⊎_elim, List, [], ◌∷◌, ◌++◌, map, length, get_or, take, drop, AllPairs, Some, slice_get, Vec, Global, refl, ap, ap₂, sym, subst, ◌∙◌, length-append, suc-mul, arith}
+use Rattle.std.proofs.Common.{◌≡◌, ℕ, zero, suc, ◌+◌, ◌-◌, ◌*◌, ◌<◌, ◌≤◌, inl, inr, ⊎_elim, List, [], ◌∷◌, ◌++◌, map, length, get_or, take, drop, AllPairs, Some, slice_get, Vec}
+use Rattle.std.proofs.Common.{Global, refl, ap, ap₂, sym, subst, ◌∙◌, length-append, suc-mul, arith}
 use Rattle.std.proofs.lemmas.List.{length-map, get_or-map, drop_more}
 use Rattle.std.proofs.lemmas.Option.{get_or_from_slice_get, slice_get_within}
 use Rattle.rewriting.specs.Prelude.{IsBefore, IsAmong}
@@ -52,7 +53,8 @@ length_each (q ∷ qs) lists =
     omega (arith, length-append (map (λ cs. q ∷ cs) lists) (before_each qs lists), length-map lists (λ cs. q ∷ cs))
 
 -- one more pool, before the others
-pub choices_before : (vs : List (Vec ℕ Global)) (place : ℕ) (v : Vec ℕ Global) → 0 < place → place ≤ length vs → v ≡ get_or vs (place - 1) v → before_each v.items (choices_of (drop place (as_lists vs))) ≡ choices_of (drop (place - 1) (as_lists vs))
+pub choices_before : (vs : List (Vec ℕ Global)) (place : ℕ) (v : Vec ℕ Global) → 0 < place → place ≤ length vs → v ≡ get_or vs (place - 1) v
+    → before_each v.items (choices_of (drop place (as_lists vs))) ≡ choices_of (drop (place - 1) (as_lists vs))
 choices_before vs place v some within is =
     let inside : place - 1 < length vs = omega arith in
     let next : place - 1 + 1 ≡ place = omega arith in

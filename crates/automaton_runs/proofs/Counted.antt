@@ -58,7 +58,8 @@ has_from a t i e =
 
 pub counts_has : (a : Indexed) (s : Option ℕ) (qs : List ℕ) (q : ℕ) → Finds a s qs q → counts a.symbols a.automaton.states (record { symbol = s; arguments = qs; target = q }) ≡ true
 counts_has a s qs q h =
-    and_from (is_head a.symbols s qs) _ (head_to a.symbols s qs h.head) (and_from (are_below a.automaton.states qs) (nat_lt q a.automaton.states) (below_states a.automaton.states qs h.arguments) (lt-ltb q a.automaton.states h.target))
+    and_from (is_head a.symbols s qs) _ (head_to a.symbols s qs h.head)
+    (and_from (are_below a.automaton.states qs) (nat_lt q a.automaton.states) (below_states a.automaton.states qs h.arguments) (lt-ltb q a.automaton.states h.target))
 
 -- what stands at a symbol
 pub symbol_from : (a : Indexed) (f : ℕ) (t : Transition) → IsAmong t (filter (chosen a.symbols symbol_key a.automaton.states f) a.automaton.transitions) → Finds a (Some f) t.arguments t.target
@@ -67,7 +68,9 @@ symbol_from a f t h =
     let p = and_parts (counts a.symbols a.automaton.states t) (is_number t.symbol f) i.1 in
     subst (λ (s : Option ℕ). Finds a s t.arguments t.target) (number_is t.symbol f p.1) (has_from a t i.0 p.0)
 
-pub symbol_to : (a : Indexed) (f : ℕ) (qs : List ℕ) (q : ℕ) → Finds a (Some f) qs q → IsAmong (record { symbol = Some f; arguments = qs; target = q }) (filter (chosen a.symbols symbol_key a.automaton.states f) a.automaton.transitions)
+pub symbol_to : (a : Indexed) (f : ℕ) (qs : List ℕ) (q : ℕ) → Finds a (Some f) qs q
+    → IsAmong (record { symbol = Some f; arguments = qs; target = q }) (filter (chosen a.symbols symbol_key a.automaton.states f) a.automaton.transitions)
 symbol_to a f qs q h =
     let t : Transition = record { symbol = Some f; arguments = qs; target = q } in
-    filter_in (chosen a.symbols symbol_key a.automaton.states f) t a.automaton.transitions (among_contained t a.automaton.transitions h.listed) (and_from (counts a.symbols a.automaton.states t) (nat_eq f f) (counts_has a (Some f) qs q h) (eq-eqb f f refl))
+    filter_in (chosen a.symbols symbol_key a.automaton.states f) t a.automaton.transitions (among_contained t a.automaton.transitions h.listed)
+    (and_from (counts a.symbols a.automaton.states t) (nat_eq f f) (counts_has a (Some f) qs q h) (eq-eqb f f refl))

@@ -29,7 +29,8 @@ zip_relations R (x ∷ xs) [] z = absurd z
 zip_relations R (x ∷ xs) (e ∷ es) z = (z.0, zip_relations R xs es z.1)
 
 -- the numbers are those of the choices
-number_holds : (b : Batch) (a : Indexed) (names : List ℕ) (ts : List Term) (rs : List NumberRelation) (qs all : List ℕ) (k : ℕ) → AreEvaluated b a names ts rs → ((k : ℕ) → IsAmong k all ↔ Holds b k) → IsOneOf rs all k → AreRelated rs qs k → Holds b k
+number_holds : (b : Batch) (a : Indexed) (names : List ℕ) (ts : List Term) (rs : List NumberRelation) (qs all : List ℕ) (k : ℕ) → AreEvaluated b a names ts rs
+    → ((k : ℕ) → IsAmong k all ↔ Holds b k) → IsOneOf rs all k → AreRelated rs qs k → Holds b k
 number_holds b a names [] [] qs all k z numbers one h = (numbers k).0 one
 number_holds b a names (t ∷ ts) [] qs all k z numbers one h = absurd z
 number_holds b a names [] (r ∷ rs) qs all k z numbers one h = absurd z
@@ -55,7 +56,8 @@ reach_related M At E k each (t ∷ ts) [] qs z h = absurd z
 reach_related M At E k each (t ∷ ts) (r ∷ rs) [] z h = absurd h
 reach_related M At E k each (t ∷ ts) (r ∷ rs) (q ∷ qs) z h = (each t r q z.0 h.0, reach_related M At E k each ts rs qs z.1 h.1)
 
-pub symbol_reached : (b : Batch) (a : Indexed) (names : List ℕ) (t : Term) (f : ℕ) (v : Vec Term Global) (ts : List Term) (rs : List NumberRelation) (all : List ℕ) (r : NumberRelation) → t ≡ Fun f v → ts ≡ v.items
+pub symbol_reached : (b : Batch) (a : Indexed) (names : List ℕ) (t : Term) (f : ℕ) (v : Vec Term Global) (ts : List Term) (rs : List NumberRelation) (all : List ℕ)
+    (r : NumberRelation) → t ≡ Fun f v → ts ≡ v.items
     → AreEvaluated b a names ts rs → ((k : ℕ) → IsAmong k all ↔ Holds b k) → ((q k : ℕ) → Relates r q k ↔ (IsOneOf rs all k × IsReachedFrom a f rs q k)) → AreWhere b (Reaches a names (view t)) r
 symbol_reached b a names t f v ts rs all r is items z numbers from q k =
     let shown : view t ≡ math.app f (views ts) = ap view is ∙ view-Fun f v ∙ ap (λ (l : List Term). math.app f (views l)) (sym items) in (
@@ -65,10 +67,19 @@ symbol_reached b a names t f v ts rs all r is items z numbers from q k =
           (holds, subst (λ (u : math.Term). Reach (Finds a) (at (state_of names (choice_of b k))) u q) (sym shown) (p.1.0, p.1.1, related_reach b a names k holds ts rs p.1.0 z p.1.2)),
       λ (holds, reach).
           let p = subst (λ (u : math.Term). Reach (Finds a) (at (state_of names (choice_of b k))) u q) shown reach in
-          (from q k).1 (one_of_all rs all k ((numbers k).1 holds), (p.0, p.1, reach_related (Finds a) (at (state_of names (choice_of b k))) (λ t r. AreWhere b (Reaches a names (view t)) r) k (λ t r q w h. (w q k).1 (holds, h)) ts rs p.0 z p.2)),
+          (from q k).1 (
+            one_of_all rs all k ((numbers k).1 holds),
+            (
+              p.0,
+              p.1,
+              reach_related (Finds a) (at (state_of names (choice_of b k))) (λ t r. AreWhere b (Reaches a names (view t)) r) k
+                  (λ t r q w h. (w q k).1 (holds, h)) ts rs p.0 z p.2,
+            ),
+          ),
     )
 
-pub variable_reached : (b : Batch) (a : Indexed) (names : List ℕ) (t : Term) (x : ℕ) (r : NumberRelation) → t ≡ Var x → ((q k : ℕ) → Relates r q k ↔ (Holds b k × (q ≡ state_of names (choice_of b k) x)))
+pub variable_reached : (b : Batch) (a : Indexed) (names : List ℕ) (t : Term) (x : ℕ) (r : NumberRelation) → t ≡ Var x
+    → ((q k : ℕ) → Relates r q k ↔ (Holds b k × (q ≡ state_of names (choice_of b k) x)))
     → AreWhere b (Reaches a names (view t)) r
 variable_reached b a names t x r is states q k =
     let shown : view t ≡ math.var x = ap view is ∙ view-Var x in

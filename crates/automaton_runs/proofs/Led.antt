@@ -18,7 +18,8 @@ option_is None f e = absurd (false≢true e)
 option_is (Some g) f e = ap Some (eqb-true g f e)
 
 -- what holds of one of the elements of a list, and of one more
-pub one_more : {X A B C : Type 0} (P : X → Type 0) (xs : List X) (x : X) (ys : List X) → ys ≡ xs ++ x ∷ [] → A ↔ (B ⊎ ((y : X) × IsAmong y xs × P y)) → C ↔ (A ⊎ P x) → C ↔ (B ⊎ ((y : X) × IsAmong y ys × P y))
+pub one_more : {X A B C : Type 0} (P : X → Type 0) (xs : List X) (x : X) (ys : List X) → ys ≡ xs ++ x ∷ [] → A ↔ (B ⊎ ((y : X) × IsAmong y xs × P y)) → C ↔ (A ⊎ P x)
+    → C ↔ (B ⊎ ((y : X) × IsAmong y ys × P y))
 one_more {X = X} {A = A} {B = B} {C = C} P xs x ys e front more = (into, back)
   where
     there : (y : X) × IsAmong y xs × P y → (y : X) × IsAmong y ys × P y
@@ -46,19 +47,22 @@ module _ (a : Indexed) (f : ℕ) (all : List ℕ) (rs : List NumberRelation) (ke
       let has = (looked_from a key s t i).0 in
       (e.number, (t.arguments, subst (λ (o : Option ℕ). Finds a o t.arguments q) e.symbol (subst (λ (r : ℕ). Finds a t.symbol t.arguments r) (sym e.target) has), e.arguments))
 
-  to_led : (qs : List ℕ) → IsAmong (record { symbol = Some f; arguments = qs; target = q }) (filter (chosen a.symbols key a.automaton.states s) a.automaton.transitions) → IsOneOf rs all k → AreRelated rs qs k
+  to_led : (qs : List ℕ) → IsAmong (record { symbol = Some f; arguments = qs; target = q }) (filter (chosen a.symbols key a.automaton.states s) a.automaton.transitions)
+      → IsOneOf rs all k → AreRelated rs qs k
       → HaveLeads f all rs (filter (chosen a.symbols key a.automaton.states s) a.automaton.transitions) q k
   to_led qs i n e = (record { symbol = Some f; arguments = qs; target = q }, i, record { symbol = refl; number = n; arguments = e; target = refl })
 
 -- without arguments the symbol leads by its transitions
-pub led_by_symbol : (a : Indexed) (f q k : ℕ) (all : List ℕ) (rs : List NumberRelation) → HaveLeads f all rs (filter (chosen a.symbols symbol_key a.automaton.states f) a.automaton.transitions) q k ↔ (IsOneOf rs all k × IsReachedFrom a f rs q k)
+pub led_by_symbol : (a : Indexed) (f q k : ℕ) (all : List ℕ) (rs : List NumberRelation)
+    → HaveLeads f all rs (filter (chosen a.symbols symbol_key a.automaton.states f) a.automaton.transitions) q k ↔ (IsOneOf rs all k × IsReachedFrom a f rs q k)
 led_by_symbol a f q k all rs = (
   λ h. from_led a f all rs symbol_key f q k h,
   λ (n, (qs, has, e)). to_led a f all rs symbol_key f q k qs (looked_to a symbol_key f (Some f) qs q has refl) n e,
 )
 
 -- with a first argument it leads by the transitions from a state of the first relation
-pub led_by_first : (a : Indexed) (f q k : ℕ) (all : List ℕ) (r : NumberRelation) (rs : List NumberRelation) → HaveLeadsByFirst a r f all (r ∷ rs) q k ↔ (IsOneOf (r ∷ rs) all k × IsReachedFrom a f (r ∷ rs) q k)
+pub led_by_first : (a : Indexed) (f q k : ℕ) (all : List ℕ) (r : NumberRelation) (rs : List NumberRelation)
+    → HaveLeadsByFirst a r f all (r ∷ rs) q k ↔ (IsOneOf (r ∷ rs) all k × IsReachedFrom a f (r ∷ rs) q k)
 led_by_first a f q k all r rs = (λ (s, (p, h)). from_led a f all (r ∷ rs) first_key s q k h, back)
   where
     back : IsOneOf (r ∷ rs) all k × IsReachedFrom a f (r ∷ rs) q k → HaveLeadsByFirst a r f all (r ∷ rs) q k
@@ -78,7 +82,8 @@ module _ {A B : Type 0} (P : ℕ → Type 0) (n : ℕ) (front : A ↔ (B ⊎ ((s
   pub state_more : {C : Type 0} → C ↔ (A ⊎ P n) → C ↔ (B ⊎ ((s : ℕ) × (s < n + 1) × P s))
   state_more more = (
     λ c. ⊎_elim (λ a. ⊎_elim inl (λ (s, l, p). inr (s, omega arith, p)) (front.0 a)) (λ p. inr (n, omega arith, p)) (more.0 c),
-    λ h. ⊎_elim (λ b. more.1 (inl (front.1 (inl b)))) (λ (s, l, p). ⊎_elim (λ (k : s < n). more.1 (inl (front.1 (inr (s, k, p))))) (λ (k : n ≤ s). let same : s ≡ n = omega arith in more.1 (inr (subst P same p))) (cases_lt s n)) h,
+    λ h. ⊎_elim (λ b. more.1 (inl (front.1 (inl b)))) (λ (s, l, p). ⊎_elim (λ (k : s < n). more.1 (inl (front.1 (inr (s, k, p))))) (λ (k : n ≤ s). let same : s ≡ n = omega arith in
+        more.1 (inr (subst P same p))) (cases_lt s n)) h,
   )
 
   pub state_passed : (P n → ⊥) → A ↔ (B ⊎ ((s : ℕ) × (s < n + 1) × P s))
@@ -95,11 +100,13 @@ pub led_here : {A C F : Type 0} (L : Type 0) → F → C ↔ (A ⊎ L) → C ↔
 led_here L f h = (λ c. ⊎_elim inl (λ l. inr (f, l)) (h.0 c), λ k. h.1 (⊎_elim inl (λ (g, l). inr l) k))
 
 -- all that is related to numbers in the end
-pub reached_by_symbol : {A C : Type 0} (a : Indexed) (f q k : ℕ) (all : List ℕ) (rs : List NumberRelation) → (A → ⊥) → (ts : List Transition) → ts ≡ filter (chosen a.symbols symbol_key a.automaton.states f) a.automaton.transitions
+pub reached_by_symbol : {A C : Type 0} (a : Indexed) (f q k : ℕ) (all : List ℕ) (rs : List NumberRelation) → (A → ⊥) → (ts : List Transition)
+    → ts ≡ filter (chosen a.symbols symbol_key a.automaton.states f) a.automaton.transitions
     → C ↔ (A ⊎ HaveLeads f all rs ts q k) → C ↔ (IsOneOf rs all k × IsReachedFrom a f rs q k)
 reached_by_symbol {A = A} {C = C} a f q k all rs none ts is h =
     let l = led_by_symbol a f q k all rs in
-    let here : C ↔ (A ⊎ HaveLeads f all rs (filter (chosen a.symbols symbol_key a.automaton.states f) a.automaton.transitions) q k) = subst (λ (us : List Transition). C ↔ (A ⊎ HaveLeads f all rs us q k)) is h in
+    let here : C ↔ (A ⊎ HaveLeads f all rs (filter (chosen a.symbols symbol_key a.automaton.states f) a.automaton.transitions) q k) = subst
+    (λ (us : List Transition). C ↔ (A ⊎ HaveLeads f all rs us q k)) is h in
     (λ c. l.0 (⊎_elim (λ x. absurd (none x)) (λ y. y) (here.0 c)), λ r. here.1 (inr (l.1 r)))
 
 pub reached_by_first : {A C : Type 0} (a : Indexed) (f q k : ℕ) (all : List ℕ) (first : NumberRelation) (rs : List NumberRelation) → (A → ⊥) → Some first ≡ slice_get rs 0

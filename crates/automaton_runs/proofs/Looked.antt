@@ -23,4 +23,5 @@ module _ (a : Indexed) (key : Key) (k : ℕ) where
   looked_to s qs q h e =
       let t : Transition = record { symbol = s; arguments = qs; target = q } in
       let same : is_number (key_of key t) k ≡ true = ap (λ (o : Option ℕ). is_number o k) e ∙ eq-eqb k k refl in
-      filter_in (chosen a.symbols key a.automaton.states k) t a.automaton.transitions (among_contained t a.automaton.transitions h.listed) (and_from (counts a.symbols a.automaton.states t) (is_number (key_of key t) k) (counts_has a s qs q h) same)
+      filter_in (chosen a.symbols key a.automaton.states k) t a.automaton.transitions (among_contained t a.automaton.transitions h.listed)
+      (and_from (counts a.symbols a.automaton.states t) (is_number (key_of key t) k) (counts_has a s qs q h) same)

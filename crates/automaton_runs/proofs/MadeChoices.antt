@@ -1,5 +1,6 @@
 -- The choices by which a term may arrive: of its pools, or, where there is one state, that state for each occurrence.
-use Rattle.std.proofs.Common.{◌≡◌, ℕ, zero, suc, ◌-◌, ◌<◌, ◌≤◌, inl, inr, ⊎_elim, List, [], ◌∷◌, ◌++◌, length, take, drop, replicate, All, AllPairs, refl, ap, ap₂, sym, subst, ◌∙◌, length-append, length-drop, length-take-le, take-append-drop, arith}
+use Rattle.std.proofs.Common.{◌≡◌, ℕ, zero, suc, ◌-◌, ◌<◌, ◌≤◌, inl, inr, ⊎_elim, List, [], ◌∷◌, ◌++◌, length, take, drop, replicate, All, AllPairs, refl, ap, ap₂, sym, subst, ◌∙◌}
+use Rattle.std.proofs.Common.{length-append, length-drop, length-take-le, take-append-drop, arith}
 use Rattle.std.proofs.lemmas.List.{length-replicate}
 use Rattle.std.proofs.lemmas.List.Elements.{All-nil, All-cons, All-head, All-tail}
 use Rattle.rewriting.specs.Prelude.{Term, IsAmong, IsBefore, variable_occurrences}
@@ -46,7 +47,8 @@ module _ (a : Indexed) (t : Term) (pools : List (List ℕ)) (is : pools ≡ pool
   both : (front tail : List ℕ) → AreOf (take start pools) front → AreOf (drop start pools) tail → AreOf pools (front ++ tail)
   both front tail f s = subst (λ (ps : List (List ℕ)). AreOf ps (front ++ tail)) (take-append-drop start pools) (of_both (take start pools) (drop start pools) front tail f s)
 
-  pub choices_are : (fronts tails : List (List ℕ)) → AreFronts a t (take start pools) (drop start pools) fronts → tails ≡ choices_of (drop start pools) → AreChoices a t (record { fronts = fronts; width = length pools - start; tails = tails })
+  pub choices_are : (fronts tails : List (List ℕ)) → AreFronts a t (take start pools) (drop start pools) fronts → tails ≡ choices_of (drop start pools)
+      → AreChoices a t (record { fronts = fronts; width = length pools - start; tails = tails })
   choices_are fronts tails firsts last = record {
     long = λ front i. let here = first_long front (firsts.among front i) in let all = long in omega arith;
     wide = λ tail i. last_long tail (of_tails tail i);
@@ -62,7 +64,8 @@ module _ (a : Indexed) (t : Term) (pools : List (List ℕ)) (is : pools ≡ pool
           whole,
         );
     fronts_ordered = firsts.ordered (λ qs i. ascending qs (among_first start pools qs i));
-    tails_ordered = subst (AllPairs IsBefore) (sym last) (pairs_from_ordered IsBefore (choices_of (drop start pools)) (ordered_choices (drop start pools) (λ qs i. ascending qs (among_last start pools qs i))));
+    tails_ordered = subst (AllPairs IsBefore) (sym last)
+        (pairs_from_ordered IsBefore (choices_of (drop start pools)) (ordered_choices (drop start pools) (λ qs i. ascending qs (among_last start pools qs i))));
   }
     where
       of_tails : (tail : List ℕ) → IsAmong tail tails → AreOf (drop start pools) tail
@@ -92,7 +95,8 @@ pub zeros_are : (a : Indexed) (t : Term) (m : ℕ) → a.automaton.states ≡ 1 
 zeros_are a t m one long = record {
   long = λ front i. ⊎_elim (λ (e : front ≡ []). let none = ap length e in omega arith) (λ f. absurd f) i;
   wide = λ tail i. ⊎_elim (λ e. ap length e ∙ length-replicate m 0) (λ f. absurd f) i;
-  choices = λ front tail i j. ⊎_elim (λ e. ⊎_elim (λ f. subst (λ (l : List ℕ). IsChoice a.automaton.states t l) (sym (ap₂ (λ (x y : List ℕ). x ++ y) e f)) zero_choice) (λ f. absurd f) j) (λ f. absurd f) i;
+  choices = λ front tail i j. ⊎_elim (λ e. ⊎_elim (λ f. subst (λ (l : List ℕ). IsChoice a.automaton.states t l) (sym (ap₂ (λ (x y : List ℕ). x ++ y) e f)) zero_choice)
+      (λ f. absurd f) j) (λ f. absurd f) i;
   complete = λ cs q choice r. ([], replicate m 0, inl refl, inl refl, zeros_only m cs (choice.each ∙ sym long) (subst (λ (n : ℕ). All (λ q. q < n) cs) one choice.states));
   fronts_ordered = λ i j d l h. absurd (omega arith);
   tails_ordered = λ i j d l h. absurd (omega arith);

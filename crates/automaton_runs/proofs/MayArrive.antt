@@ -1,5 +1,6 @@
 -- Fronts of choices by which a term may arrive: what is left out has no arrival.
-use Rattle.std.proofs.Common.{◌≡◌, ◌↔◌, ◌⊎◌, inl, inr, ⊎_elim, ℕ, zero, suc, ◌+◌, ◌-◌, ◌<◌, ◌≤◌, List, [], ◌∷◌, ◌++◌, length, get_or, AllPairs, Some, slice_get, Vec, Global, refl, ap, sym, subst, ◌∙◌, length-append, arith}
+use Rattle.std.proofs.Common.{◌≡◌, ◌↔◌, ◌⊎◌, inl, inr, ⊎_elim, ℕ, zero, suc, ◌+◌, ◌-◌, ◌<◌, ◌≤◌, List, [], ◌∷◌, ◌++◌, length, get_or, AllPairs, Some, slice_get, Vec, Global, refl}
+use Rattle.std.proofs.Common.{ap, sym, subst, ◌∙◌, length-append, arith}
 use Rattle.std.specs.List.{AllZip}
 use Rattle.std.proofs.lemmas.Bool.{cases_lt}
 use Rattle.std.proofs.lemmas.Option.{slice_get_within, slice_get-get_or, same_Some}
@@ -28,7 +29,8 @@ use Rattle.automaton_runs.proofs.ChoiceLists.{in_choices, of_choices, of_long, o
 use Rattle.automaton_runs.proofs.Ordered.{IsOrdered, ordered_append, pairs_from_ordered}
 
 -- one more state with all numbers
-pub anywhere_more : (all qs : List ℕ) (q : ℕ) (more : List ℕ) (old new : NumberRelation) → more ≡ qs ++ q ∷ [] → IsAnywhere all qs old → ((p k : ℕ) → Relates new p k ↔ (Relates old p k ⊎ ((p ≡ q) × IsAmong k all))) → IsAnywhere all more new
+pub anywhere_more : (all qs : List ℕ) (q : ℕ) (more : List ℕ) (old new : NumberRelation) → more ≡ qs ++ q ∷ [] → IsAnywhere all qs old
+    → ((p k : ℕ) → Relates new p k ↔ (Relates old p k ⊎ ((p ≡ q) × IsAmong k all))) → IsAnywhere all more new
 anywhere_more all qs q more old new is front put p k i n =
     (put p k).1
     (⊎_elim (λ h. inl (front p k h n)) (λ h. inr (⊎_elim (λ e. e) (λ f. absurd f) h, n)) (among_either p qs (q ∷ []) (subst (IsAmong p) is i)))
@@ -48,7 +50,8 @@ rights_more r left row old new is made had p q l h =
     (λ (high : left ≤ p). let same : p ≡ left = omega arith in (made q).1 (inr (subst (IsAmong q) (sym is) (subst (λ (s : ℕ). IsAmong q (row_of r s)) same h))))
     (cases_lt p left)
 
-pub rights_none : (r : NumberRelation) (left : ℕ) (set : List ℕ) → [] ≡ row_of r left → ((p q : ℕ) → p < left → Relates r p q → IsAmong q set) → (p q : ℕ) → p < left + 1 → Relates r p q → IsAmong q set
+pub rights_none : (r : NumberRelation) (left : ℕ) (set : List ℕ) → [] ≡ row_of r left → ((p q : ℕ) → p < left → Relates r p q → IsAmong q set) → (p q : ℕ) → p < left + 1
+    → Relates r p q → IsAmong q set
 rights_none r left set is had p q l h =
     ⊎_elim (λ (low : p < left). had p q low h)
     (λ (high : left ≤ p). let same : p ≡ left = omega arith in absurd (subst (IsAmong q) (sym is) (subst (λ (s : ℕ). IsAmong q (row_of r s)) same h)))
@@ -76,7 +79,8 @@ module _ (fronts pools : List (List ℕ)) (rs made : List NumberRelation) (all :
   fronts_give j front cs at long number of i h =
       let place : i ≡ 0 + i = omega arith in
       subst (λ (p : ℕ). MayHave (rs ++ made) j p (get_or (front ++ cs) i 0)) place
-      (⊎_elim (λ (l : i < length front). in_front i l) (λ (l : length front ≤ i). let m : length rs + (i - length front) ≡ i = omega arith in let n : length front + (i - length front) ≡ i = omega arith in
+      (⊎_elim (λ (l : i < length front). in_front i l) (λ (l : length front ≤ i). let m : length rs + (i - length front) ≡ i = omega arith in
+      let n : length front + (i - length front) ≡ i = omega arith in
       subst (λ (p : ℕ). MayHave (rs ++ made) j p (get_or (front ++ cs) i 0)) m (subst (λ (p : ℕ). MayHave (rs ++ made) j (length rs + (i - length front)) (get_or (front ++ cs) p 0)) n
       (behind (i - length front) (omega (arith, length-append front cs))))) (cases_lt i (length front)))
     where
@@ -92,14 +96,16 @@ module _ (fronts pools : List (List ℕ)) (rs made : List NumberRelation) (all :
           let r = facing (IsAnywhere all) pools made m pool.0 anywhere pool.1 in
           subst (MayHave (rs ++ made) j (length rs + m)) (sym (get_or-append-add front cs m 0)) (r.0, slice_get-append_right rs made m ∙ r.1, r.2 (get_or cs m 0) j pool.2 number)
 
-  pub possible_are : (a : Indexed) (t u : math.Term) (start : ℕ) (places : List NumberRelation) (r : NumberRelation) (set : List ℕ) → places ≡ rs ++ made → u ≡ linear 0 t → length rs ≡ start → ((k : ℕ) → IsAmong k all ↔ (k < length fronts))
+  pub possible_are : (a : Indexed) (t u : math.Term) (start : ℕ) (places : List NumberRelation) (r : NumberRelation) (set : List ℕ) → places ≡ rs ++ made → u ≡ linear 0 t
+      → length rs ≡ start → ((k : ℕ) → IsAmong k all ↔ (k < length fronts))
       → ((front : List ℕ) → IsAmong front fronts → length front ≡ start) → MayReach a all places u r → ((p q : ℕ) → Relates r p q → IsAmong q set) → ArePossible a t fronts pools set
   possible_are a t u start places r set is numbered long numbers alike may rights j q front cs at of reach =
       let within = slice_get_within fronts j front at in
       let number = (numbers j).1 within in
       let same : length rs ≡ length front = long ∙ sym (alike front (place_among fronts j front at)) in
       let linked = linear_reach (MayHave (rs ++ made) j) (Finds a) 0 t (front ++ cs) q (fronts_give j front cs at same number of) reach in
-      rights q j (may q j number (subst (λ (l : List NumberRelation). Reach (Finds a) (MayHave l j) u q) (sym is) (subst (λ (w : math.Term). Reach (Finds a) (MayHave (rs ++ made) j) w q) (sym numbered) linked)))
+      rights q j (may q j number (subst (λ (l : List NumberRelation). Reach (Finds a) (MayHave l j) u q) (sym is)
+      (subst (λ (w : math.Term). Reach (Finds a) (MayHave (rs ++ made) j) w q) (sym numbered) linked)))
 
 -- lists that are chosen by their numbers
 pub record AreChosenBelow (lists : List (List ℕ)) (set : List ℕ) (n : ℕ) (made : List (List ℕ)) : Type 0 where
@@ -110,7 +116,8 @@ pub record AreChosenBelow (lists : List (List ℕ)) (set : List ℕ) (n : ℕ) (
 module _ (lists : List (List ℕ)) (set : List ℕ) (n : ℕ) (old : List (List ℕ)) (front : AreChosenBelow lists set n old) where
   pub chosen_more : (list : List ℕ) (new : List (List ℕ)) → slice_get lists n ≡ Some list → new ≡ old ++ list ∷ [] → AreChosenBelow lists set (n + 1) new
   chosen_more list new at is = record {
-    among = λ l h. ⊎_elim (λ i. let r = front.among l i in let low = r.1 in (r.0, omega arith, r.2)) (λ i. (n, omega arith, ⊎_elim (λ e. at ∙ ap Some (sym e)) (λ f. absurd f) i)) (among_either l old (list ∷ []) (subst (IsAmong l) is h));
+    among = λ l h. ⊎_elim (λ i. let r = front.among l i in let low = r.1 in (r.0, omega arith, r.2)) (λ i. (n, omega arith, ⊎_elim (λ e. at ∙ ap Some (sym e)) (λ f. absurd f) i))
+        (among_either l old (list ∷ []) (subst (IsAmong l) is h));
     kept = λ j l low e i. subst (IsAmong l) (sym is)
         (⊎_elim (λ (h : j < n). among_left l old (list ∷ []) (front.kept j l h e i))
         (λ (h : n ≤ j). let same : j ≡ n = omega arith in among_right l old (list ∷ []) (inl (same_Some l list (sym e ∙ ap (slice_get lists) same ∙ at)))) (cases_lt j n));
@@ -156,14 +163,16 @@ module _ (a : Indexed) (t : math.Term) (firsts others all : List (List ℕ)) (is
   }
 
 module _ (a : Indexed) (all : List ℕ) (places : List NumberRelation) where
-  pub may_symbol : (t : Term) (f : ℕ) (v : Vec Term Global) (ts : List Term) (made : List NumberRelation) (r : NumberRelation) → t ≡ Fun f v → ts ≡ v.items → AllZip (λ t r. MayReach a all places (view t) r) ts made
+  pub may_symbol : (t : Term) (f : ℕ) (v : Vec Term Global) (ts : List Term) (made : List NumberRelation) (r : NumberRelation) → t ≡ Fun f v → ts ≡ v.items
+      → AllZip (λ t r. MayReach a all places (view t) r) ts made
       → ((q k : ℕ) → Relates r q k ↔ (IsOneOf made all k × IsReachedFrom a f made q k)) → MayReach a all places (view t) r
   may_symbol t f v ts made r is items z from q k i h =
       let shown : view t ≡ math.app f (views ts) = ap view is ∙ view-Fun f v ∙ ap (λ (l : List Term). math.app f (views l)) (sym items) in
       let p = subst (λ (u : math.Term). Reach (Finds a) (MayHave places k) u q) shown h in
       (from q k).1 (one_of_all made all k i, (p.0, p.1, reach_related (Finds a) (MayHave places k) (λ t r. MayReach a all places (view t) r) k (λ t r q m h. m q k i h) ts made p.0 z p.2))
 
-  pub may_variable : (t : Term) (x : ℕ) (s : NumberRelation) → t ≡ Var x → ((r : NumberRelation) → slice_get places x ≡ Some r → (q k : ℕ) → Relates r q k → Relates s q k) → MayReach a all places (view t) s
+  pub may_variable : (t : Term) (x : ℕ) (s : NumberRelation) → t ≡ Var x → ((r : NumberRelation) → slice_get places x ≡ Some r → (q k : ℕ) → Relates r q k → Relates s q k)
+      → MayReach a all places (view t) s
   may_variable t x s is copied q k i h =
       let shown : view t ≡ math.var x = ap view is ∙ view-Var x in
       let (r, at, has) = subst (λ (u : math.Term). Reach (Finds a) (MayHave places k) u q) shown h in

@@ -1,5 +1,6 @@
 -- A term with its variable occurrences numbered: a state for each number is a choice.
-use Rattle.std.proofs.Common.{◌≡◌, ◌↔◌, ℕ, zero, suc, ◌+◌, ◌<◌, Bool, false, nat_eq, if◌then◌else◌, List, [], ◌∷◌, ◌++◌, length, get_or, take, drop, refl, ap, sym, subst, ◌∙◌, arith, length-append, length-drop}
+use Rattle.std.proofs.Common.{◌≡◌, ◌↔◌, ℕ, zero, suc, ◌+◌, ◌<◌, Bool, false, nat_eq, if◌then◌else◌, List, [], ◌∷◌, ◌++◌, length, get_or, take, drop, refl, ap, sym, subst, ◌∙◌}
+use Rattle.std.proofs.Common.{arith, length-append, length-drop}
 use Rattle.std.proofs.lemmas.List.{get_or_append_left, get_or-append-add, take-append-drop}
 use Rattle.std.proofs.lemmas.Bool.{eq-eqb, ne_eqb}
 use Rattle.std.proofs.Math.Seq.{length-take-le}
@@ -87,7 +88,8 @@ mutual
   linear_to M e i (var x) cs q l g h = to_variable e i cs q l g h
   linear_to M e i (app f ts) cs q l g (qs, m, r) = (qs, m, linear_to_all M e i ts cs qs l g r)
 
-  linear_to_all : (M : Moves) (e : ℕ → ℕ) (i : ℕ) (ts : Terms) (cs qs : List ℕ) → length cs ≡ length (variable_occurrences_of ts) → AreGiven (at e) i cs → ReachAll M (at e) (linear_all i ts) qs → ReachAllBy M ts cs qs
+  linear_to_all : (M : Moves) (e : ℕ → ℕ) (i : ℕ) (ts : Terms) (cs qs : List ℕ) → length cs ≡ length (variable_occurrences_of ts) → AreGiven (at e) i cs
+      → ReachAll M (at e) (linear_all i ts) qs → ReachAllBy M ts cs qs
   linear_to_all M e i nil [] qs l g h = (refl, h)
   linear_to_all M e i nil (c ∷ cs) qs l g h = absurd (omega arith)
   linear_to_all M e i (cons t ts) cs [] l g h = absurd h

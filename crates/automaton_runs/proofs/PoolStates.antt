@@ -1,5 +1,6 @@
 -- The states of pools: those that stand at a place in transitions, in order; and by no other does a term arrive.
-use Rattle.std.proofs.Common.{◌≡◌, ◌↔◌, ◌⊎◌, inl, inr, ⊎_elim, ℕ, zero, suc, ◌+◌, ◌<◌, Bool, true, List, [], ◌∷◌, ◌++◌, filter, length, AllPairs, All, Some, slice_get, refl, ap, sym, subst, ◌∙◌, length-append, arith}
+use Rattle.std.proofs.Common.{◌≡◌, ◌↔◌, ◌⊎◌, inl, inr, ⊎_elim, ℕ, zero, suc, ◌+◌, ◌<◌, Bool, true, List, [], ◌∷◌, ◌++◌, filter, length, AllPairs, All, Some, slice_get, refl, ap}
+use Rattle.std.proofs.Common.{sym, subst, ◌∙◌, length-append, arith}
 use Rattle.std.proofs.lemmas.Bool.{false≢true, or_cases, or_right, or_left}
 use Rattle.std.proofs.lemmas.List.Elements.{All-head}
 use Rattle.std.proofs.lemmas.Option.{get_or_from_slice_get, slice_get_within}
@@ -21,7 +22,8 @@ use Rattle.automaton_runs.proofs.ChoiceLists.{of_both}
 stands_from : (place q : ℕ) (ts : List Transition) → stands_in place q ts ≡ true → (t : Transition) × IsAmong t ts × (slice_get t.arguments place ≡ Some q)
 stands_from place q [] e = absurd (false≢true e)
 stands_from place q (t ∷ ts) e =
-    ⊎_elim (λ h. (t, inl refl, number_is (slice_get t.arguments place) q h)) (λ h. let r = stands_from place q ts h in (r.0, inr r.1, r.2)) (or_cases (is_number (slice_get t.arguments place) q) (stands_in place q ts) e)
+    ⊎_elim (λ h. (t, inl refl, number_is (slice_get t.arguments place) q h)) (λ h. let r = stands_from place q ts h in (r.0, inr r.1, r.2))
+    (or_cases (is_number (slice_get t.arguments place) q) (stands_in place q ts) e)
 
 stands_to : (place q : ℕ) (ts : List Transition) (t : Transition) → IsAmong t ts → slice_get t.arguments place ≡ Some q → stands_in place q ts ≡ true
 stands_to place q [] t h e = absurd h
@@ -36,7 +38,8 @@ stands_more place q ts t = (into, back)
     into : stands_in place q (ts ++ t ∷ []) ≡ true → (stands_in place q ts ≡ true) ⊎ (slice_get t.arguments place ≡ Some q)
     into e =
         let r = stands_from place q (ts ++ t ∷ []) e in
-        ⊎_elim (λ h. inl (stands_to place q ts r.0 h r.2)) (λ h. inr (⊎_elim (λ f. ap (λ (v : Transition). slice_get v.arguments place) (sym f) ∙ r.2) (λ f. absurd f) h)) (among_either r.0 ts (t ∷ []) r.1)
+        ⊎_elim (λ h. inl (stands_to place q ts r.0 h r.2)) (λ h. inr (⊎_elim (λ f. ap (λ (v : Transition). slice_get v.arguments place) (sym f) ∙ r.2) (λ f. absurd f) h))
+        (among_either r.0 ts (t ∷ []) r.1)
 
     back : (stands_in place q ts ≡ true) ⊎ (slice_get t.arguments place ≡ Some q) → stands_in place q (ts ++ t ∷ []) ≡ true
     back (inl e) = let r = stands_from place q ts e in stands_to place q (ts ++ t ∷ []) r.0 (among_left r.0 ts (t ∷ []) r.1) r.2
@@ -87,7 +90,8 @@ module _ (a : Indexed) where
     complete_from f place (cons t ts) cs [] h stand = absurd h
     complete_from f place (cons t ts) cs (q ∷ qs) (before, after, is, one, others) stand =
         subst (AreOf (pools_at a f place t ++ pools_from a f (suc place) ts)) (sym is)
-        (of_both (pools_at a f place t) (pools_from a f (suc place) ts) before after (complete_at f place t before q one (stand_first f place q qs stand)) (complete_from f (suc place) ts after qs others (stand_rest f place q qs stand)))
+        (of_both (pools_at a f place t) (pools_from a f (suc place) ts) before after (complete_at f place t before q one (stand_first f place q qs stand))
+        (complete_from f (suc place) ts after qs others (stand_rest f place q qs stand)))
 
   -- by other states the term does not arrive
   pub pools_complete : (t : Term) (cs : List ℕ) (q : ℕ) → IsChoice a.automaton.states t cs → ReachBy (Finds a) t cs q → AreOf (pools_of a t) cs
@@ -128,7 +132,8 @@ module _ (a : Indexed) where
 
     pools_from_are : (f place : ℕ) (ts : Terms) (qs : List ℕ) → IsAmong qs (pools_from a f place ts) → IsPool qs
     pools_from_are f place nil qs h = absurd h
-    pools_from_are f place (cons t ts) qs h = ⊎_elim (λ i. pools_at_are f place t qs i) (λ i. pools_from_are f (suc place) ts qs i) (among_either qs (pools_at a f place t) (pools_from a f (suc place) ts) h)
+    pools_from_are f place (cons t ts) qs h = ⊎_elim (λ i. pools_at_are f place t qs i) (λ i. pools_from_are f (suc place) ts qs i)
+        (among_either qs (pools_at a f place t) (pools_from a f (suc place) ts) h)
 
   pub pools_are : (t : Term) (qs : List ℕ) → IsAmong qs (pools_of a t) → IsPool qs
   pools_are (var x) qs (inl e) = subst IsPool (sym e) (λ q i. of_below a.automaton.states q i, below_ascending a.automaton.states)

@@ -22,7 +22,8 @@ row_or_none (Some row) none e = refl
 
 module _ (all : List ℕ) (rs : List NumberRelation) (qs : List ℕ) where
   module _ (alike : length rs ≡ length qs) (i : ℕ) (r : NumberRelation) (inside : i < length rs) (is : r ≡ get_or rs i r) where
-    pub shared_more : (old new row : List ℕ) → row ≡ row_of r (get_or qs i 0) → ((k : ℕ) → IsAmong k new ↔ (IsAmong k old × IsAmong k row)) → ((k : ℕ) → IsAmong k old ↔ (IsAmong k all × AreRelated (take i rs) (take i qs) k))
+    pub shared_more : (old new row : List ℕ) → row ≡ row_of r (get_or qs i 0) → ((k : ℕ) → IsAmong k new ↔ (IsAmong k old × IsAmong k row))
+        → ((k : ℕ) → IsAmong k old ↔ (IsAmong k all × AreRelated (take i rs) (take i qs) k))
         → (k : ℕ) → IsAmong k new ↔ (IsAmong k all × AreRelated (take (i + 1) rs) (take (i + 1) qs) k)
     shared_more old new row here kept front k =
         let s = zip_step (λ r q. Relates r q k) rs qs i r (get_or qs i 0) inside (omega (arith, alike)) is (get_or_default qs i 0 (get_or qs i 0) (omega (arith, alike))) in (
@@ -30,12 +31,14 @@ module _ (all : List ℕ) (rs : List NumberRelation) (qs : List ℕ) where
           λ (n, z). let p = s.0 z in (kept k).1 ((front k).1 (n, p.0), subst (IsAmong k) (sym here) p.1),
         )
 
-  pub shared_all : (i : ℕ) (set : List ℕ) → length rs ≤ i → length rs ≡ length qs → ((k : ℕ) → IsAmong k set ↔ (IsAmong k all × AreRelated (take i rs) (take i qs) k)) → (k : ℕ) → IsAmong k set ↔ (IsAmong k all × AreRelated rs qs k)
+  pub shared_all : (i : ℕ) (set : List ℕ) → length rs ≤ i → length rs ≡ length qs → ((k : ℕ) → IsAmong k set ↔ (IsAmong k all × AreRelated (take i rs) (take i qs) k)) → (k : ℕ)
+      → IsAmong k set ↔ (IsAmong k all × AreRelated rs qs k)
   shared_all i set past alike front k =
       let w = zip_all (λ r q. Relates r q k) rs qs i past (omega (arith, alike)) in (λ h. let f = (front k).0 h in (f.0, w.0 f.1), λ (n, z). (front k).1 (n, w.1 z))
 
 -- a state that one of the relations lacks
-pub not_related : (rs : List NumberRelation) (qs : List ℕ) (i : ℕ) (r : NumberRelation) → i < length rs → r ≡ get_or rs i r → (((k : ℕ) × Relates r (get_or qs i 0) k) → ⊥) → length rs ≡ length qs → (k : ℕ) → AreRelated rs qs k → ⊥
+pub not_related : (rs : List NumberRelation) (qs : List ℕ) (i : ℕ) (r : NumberRelation) → i < length rs → r ≡ get_or rs i r → (((k : ℕ) × Relates r (get_or qs i 0) k) → ⊥)
+    → length rs ≡ length qs → (k : ℕ) → AreRelated rs qs k → ⊥
 not_related rs qs i r inside is never alike k z = never (k, zip_at (λ r q. Relates r q k) rs qs i r (get_or qs i 0) inside is (get_or_default qs i 0 (get_or qs i 0) (omega (arith, alike))) z)
 
 pub as_many : (rs : List NumberRelation) (qs : List ℕ) (k : ℕ) → AreRelated rs qs k → length rs ≡ length qs
@@ -43,7 +46,8 @@ as_many rs qs k z = zip_length (λ r q. Relates r q k) rs qs z
 
 -- what is put to a target
 module _ {S T : ℕ → Type 0} (old : NumberRelation) (target : ℕ) where
-  pub put_as : (new : NumberRelation) → ((q k : ℕ) → Relates new q k ↔ (Relates old q k ⊎ ((q ≡ target) × S k))) → ((k : ℕ) → S k ↔ T k) → (q k : ℕ) → Relates new q k ↔ (Relates old q k ⊎ ((q ≡ target) × T k))
+  pub put_as : (new : NumberRelation) → ((q k : ℕ) → Relates new q k ↔ (Relates old q k ⊎ ((q ≡ target) × S k))) → ((k : ℕ) → S k ↔ T k) → (q k : ℕ)
+      → Relates new q k ↔ (Relates old q k ⊎ ((q ≡ target) × T k))
   put_as new put same q k = (λ h. ⊎_elim inl (λ (e, s). inr (e, (same k).0 s)) ((put q k).0 h), λ h. (put q k).1 (⊎_elim inl (λ (e, t). inr (e, (same k).1 t)) h))
 
 -- by the first relation and the others
@@ -58,7 +62,8 @@ module _ (r : NumberRelation) (rs : List NumberRelation) (qs : List ℕ) (n s : 
       (λ h. (subst (IsAmong k) here h.0, h.1), λ h. (subst (IsAmong k) (sym here) h.0, h.1))
 
   -- what is put of the first, and kept of the others
-  pub related_rest : (old row front new : List ℕ) → old ≡ [] → row ≡ row_of r s → ((k : ℕ) → IsAmong k front ↔ (IsAmong k old ⊎ IsAmong k row)) → ((k : ℕ) → IsAmong k new ↔ (IsAmong k front × AreRelated rs (drop 1 qs) k))
+  pub related_rest : (old row front new : List ℕ) → old ≡ [] → row ≡ row_of r s → ((k : ℕ) → IsAmong k front ↔ (IsAmong k old ⊎ IsAmong k row))
+      → ((k : ℕ) → IsAmong k new ↔ (IsAmong k front × AreRelated rs (drop 1 qs) k))
       → (k : ℕ) → IsAmong k new ↔ AreRelated (r ∷ rs) qs k
   related_rest old row front new none here put kept k =
       let f = related_first row here k in (

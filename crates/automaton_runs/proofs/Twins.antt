@@ -52,7 +52,8 @@ known_equal x y e = first (option_cmp nat_cmp x.symbol y.symbol) refl e
         ap (λ (f : Option ℕ). made f x.args.now x.target) p ∙ ap (λ (qs : List ℕ). made y.symbol qs x.target) (same_of _ _ s) ∙ ap (λ (q : ℕ). made y.symbol y.args.now q) (equal_of _ _ t)
     second Greater s p t = absurd (cc)
 
-    first : (o : Ordering) → option_cmp nat_cmp x.symbol y.symbol ≡ o → ordering_then o (ordering_then (slice_cmp nat_cmp x.args.now y.args.now) (nat_cmp x.target y.target)) ≡ Equal → known_view x ≡ known_view y
+    first : (o : Ordering) → option_cmp nat_cmp x.symbol y.symbol ≡ o
+        → ordering_then o (ordering_then (slice_cmp nat_cmp x.args.now y.args.now) (nat_cmp x.target y.target)) ≡ Equal → known_view x ≡ known_view y
     first Less s t = absurd (cc)
     first Equal s t = second (slice_cmp nat_cmp x.args.now y.args.now) refl (option_same _ _ s) t
     first Greater s t = absurd (cc)
@@ -63,7 +64,8 @@ known_tied x y e =
     let two : slice_cmp nat_cmp x.args.now y.args.now ≡ Equal =
     subst (λ (s : List ℕ). slice_cmp nat_cmp x.args.now s ≡ Equal) (ap (λ (t : Transition). t.arguments) e) (tied_itself nat_list_cmp_total x.args.now) in
     let three : nat_cmp x.target y.target ≡ Equal = subst (λ (s : ℕ). nat_cmp x.target s ≡ Equal) (ap (λ (t : Transition). t.target) e) (tied_itself nat_cmp_total x.target) in
-    ap (λ (o : Ordering). ordering_then o (ordering_then (slice_cmp nat_cmp x.args.now y.args.now) (nat_cmp x.target y.target))) one ∙ ap (λ (o : Ordering). ordering_then o (nat_cmp x.target y.target)) two
+    ap (λ (o : Ordering). ordering_then o (ordering_then (slice_cmp nat_cmp x.args.now y.args.now) (nat_cmp x.target y.target))) one
+    ∙ ap (λ (o : Ordering). ordering_then o (nat_cmp x.target y.target)) two
     ∙ three
 
 inserted : (k x : Known) (xs rest : List Known) (u : Transition) → IsAmong u (map known_view rest) ↔ (IsAmong u (map known_view xs) ⊎ (u ≡ known_view k)) → (o : Ordering) → compare_known k x ≡ o
@@ -93,7 +95,8 @@ pub looked_up : (a : Indexed) (ks : List Known) (k : Known) → ((t : Transition
     → (list_any (is_at (compare_known k)) ks ≡ true) ↔ Finds a k.symbol k.args.now k.target
 looked_up a ks k same = (
   λ e. let i = in_filter (counts a.symbols a.automaton.states) (known_view k) a.automaton.transitions ((same (known_view k)).0 (found ks k e)) in has_from a (known_view k) i.0 i.1,
-  λ h. stands ks k ((same (known_view k)).1 (filter_in (counts a.symbols a.automaton.states) (known_view k) a.automaton.transitions (among_contained (known_view k) a.automaton.transitions h.listed) (counts_has a k.symbol k.args.now k.target h))),
+  λ h. stands ks k ((same (known_view k)).1 (filter_in (counts a.symbols a.automaton.states) (known_view k) a.automaton.transitions
+      (among_contained (known_view k) a.automaton.transitions h.listed) (counts_has a k.symbol k.args.now k.target h))),
 )
 
 filter_parts : (p : Transition → Bool) (ts : List Transition) (t u : Transition) → IsAmong u (filter p (ts ++ t ∷ [])) ↔ (IsAmong u (filter p ts) ⊎ ((u ≡ t) × (p t ≡ true)))
@@ -118,7 +121,8 @@ known_more symbols n ts t old new same step u =
     )
 
 -- a transition that counts is put into the set
-pub put_counted : (symbols : Symbols) (n : ℕ) (t : cert.Transition) (k : Known) (old new : List Known) → known_view k ≡ transition_view t → new ≡ insert_key compare_known old k → counts symbols n (transition_view t) ≡ true
+pub put_counted : (symbols : Symbols) (n : ℕ) (t : cert.Transition) (k : Known) (old new : List Known) → known_view k ≡ transition_view t → new ≡ insert_key compare_known old k
+    → counts symbols n (transition_view t) ≡ true
     → (u : Transition) → IsAmong u (map known_view new) ↔ (IsAmong u (map known_view old) ⊎ ((u ≡ transition_view t) × (counts symbols n (transition_view t) ≡ true)))
 put_counted symbols n t k old new same is e u =
     let step = in_inserted old k u in (

@@ -38,7 +38,8 @@ reducts_match sys t c n s w is p =
     (f.by, apply-filled var var f.by f.by (λ x. ⊥) (λ x none. absurd none) (λ x. sym (apply-var (f.by x))) n c w (cap_keeps sys any (λ x. ⊥) t c (λ x o. tt) is) f.fills ∙ apply-var w)
 
 -- conditions that are met
-right_instances : (sys : System) (n : ℕ) (s : Substitution) (cs : List Condition) (ds : Caps) → AreCapsOf sys any (left_sides cs) ds → Meets (Steps sys n) s cs → AreInstances ds (apply_all s (right_sides cs))
+right_instances : (sys : System) (n : ℕ) (s : Substitution) (cs : List Condition) (ds : Caps) → AreCapsOf sys any (left_sides cs) ds → Meets (Steps sys n) s cs
+    → AreInstances ds (apply_all s (right_sides cs))
 right_instances sys n s [] ds e met = subst (λ z. AreInstances z nil) (sym e) refl
 right_instances sys n s (c ∷ cs) ds (d, ds', e, h, hs) (p, met) =
     subst (λ z. AreInstances z (cons (apply s c.right) (apply_all s (right_sides cs)))) (sym e) (
@@ -53,6 +54,7 @@ pub never_met : (sys : System) (cs : List Condition) → IsCapOutcome sys cs cla
 never_met sys cs o n b over met =
     let s = values_of b in
     let f = fillings 0 o.lefts (apply_all s (right_sides cs)) (right_instances sys n s cs o.lefts o.are met) in
-    let filled_is = apply_all-filled var var f.by f.by (λ x. ⊥) (λ x none. absurd none) (λ x. sym (apply-var (f.by x))) 0 o.lefts (apply_all s (right_sides cs)) (caps_keep sys any (λ x. ⊥) (left_sides cs) o.lefts (λ x y. tt) o.are) f.fills in
+    let filled_is = apply_all-filled var var f.by f.by (λ x. ⊥) (λ x none. absurd none) (λ x. sym (apply-var (f.by x))) 0 o.lefts (apply_all s (right_sides cs))
+    (caps_keep sys any (λ x. ⊥) (left_sides cs) o.lefts (λ x y. tt) o.are) f.fills in
     no_unifier (apply_all even (all_filled var 0 o.lefts)) (apply_all odd (right_sides cs)) o.outcome (both f.by s)
     (apply_all-even f.by s (all_filled var 0 o.lefts) ∙ (filled_is ∙ (apply_all-var (apply_all s (right_sides cs)) ∙ sym (apply_all-odd f.by s (right_sides cs)))))

@@ -23,7 +23,8 @@ variable_safe sys well x q s is e = (well is.0 q is.1).left (variable_pattern s 
 rigid_instance : (sys : System) → IsWellFormed sys → (t : Term) (c : Cap) (w : Term) → IsCapOf sys kept t c → Reaches sys t w → IsInstance c w
 rigid_instance sys well t c w is p = reaches_keeps sys c (cap_safe sys kept (variable_safe sys well) t c is) (subst (IsInstance c) (apply-var t) (cap_instance sys kept var (λ x. refl) t c is)) p
 
-pub rigid_reducts : (sys : System) (t : Term) (c : Cap) (n : ℕ) (w : Term) → IsWellFormed sys → IsCapOf sys kept t c → ((x : ℕ) → occurs x t ≡ true → x < n) → Reaches sys t w → IsReductOf n (filled var n c) w
+pub rigid_reducts : (sys : System) (t : Term) (c : Cap) (n : ℕ) (w : Term) → IsWellFormed sys → IsCapOf sys kept t c → ((x : ℕ) → occurs x t ≡ true → x < n) → Reaches sys t w
+    → IsReductOf n (filled var n c) w
 rigid_reducts sys t c n w well is below p =
     let f = filling n c w (rigid_instance sys well t c w is p) in
     record {

@@ -68,7 +68,8 @@ mutual
   cap_instance sys leaf s at (var x) c h = subst (λ z. IsInstance z (s x)) (sym h) (at x)
   cap_instance sys leaf s at (app f ts) c (cs, hs, h) = top_instance sys (node f cs) c (apply s (app f ts)) (apply_all s ts, refl, caps_instances sys leaf s at ts cs hs) h
 
-  pub caps_instances : (sys : System) (leaf : ℕ → Cap) (s : Substitution) → ((x : ℕ) → IsInstance (leaf x) (s x)) → (ts : Terms) (cs : Caps) → AreCapsOf sys leaf ts cs → AreInstances cs (apply_all s ts)
+  pub caps_instances : (sys : System) (leaf : ℕ → Cap) (s : Substitution) → ((x : ℕ) → IsInstance (leaf x) (s x)) → (ts : Terms) (cs : Caps) → AreCapsOf sys leaf ts cs
+      → AreInstances cs (apply_all s ts)
   caps_instances sys leaf s at nil cs h = subst (λ z. AreInstances z nil) (sym h) refl
   caps_instances sys leaf s at (cons t ts) cs (d, ds, e, h, hs) =
       subst (λ z. AreInstances z (cons (apply s t) (apply_all s ts))) (sym e) (apply s t, apply_all s ts, refl, cap_instance sys leaf s at t d h, caps_instances sys leaf s at ts ds hs)

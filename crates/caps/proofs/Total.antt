@@ -10,7 +10,8 @@ use Rattle.caps.specs.Caps.{Cap, hole, node, Caps, no_caps, caps, holes, any, al
 use Rattle.caps.specs.Evidence.{JudgedByCaps, past_both, IsPairOutcome}
 
 -- a symbol over capped arguments
-at_node : (sys : System) (leaf : ℕ → Cap) (f : ℕ) (ts : Terms) (cs : Caps) → AreCapsOf sys leaf ts cs → DoRulesClash sys (frozen sys (node f cs)) ⊎ ((o : Outcome) × (o ≢ clash) × IsFirstRule sys (frozen sys (node f cs)) o)
+at_node : (sys : System) (leaf : ℕ → Cap) (f : ℕ) (ts : Terms) (cs : Caps) → AreCapsOf sys leaf ts cs
+    → DoRulesClash sys (frozen sys (node f cs)) ⊎ ((o : Outcome) × (o ≢ clash) × IsFirstRule sys (frozen sys (node f cs)) o)
     → ((c : Cap) × IsCapOf sys leaf (app f ts) c) ⊎ IsCapLarge sys leaf (app f ts)
 at_node sys leaf f ts cs are (inl all) = inl (node f cs, (cs, are, inl (all, refl)))
 at_node sys leaf f ts cs are (inr (unifier b, n, first)) = inl (hole, (cs, are, inr ((b, first), refl)))
@@ -49,20 +50,24 @@ count_sides (c ∷ cs) = ap suc (count_sides cs)
 pub caps_total : (sys : System) (cs : List Condition) → (o : Option EvidenceReason) × JudgedByCaps sys cs o
 caps_total sys cs = go (caps_exist sys any (left_sides cs))
   where
-    judged : (lefts : Caps) → AreCapsOf sys any (left_sides cs) lefts → (o : Outcome) × IsOutcome (apply_all even (all_filled var 0 lefts)) (apply_all odd (right_sides cs)) o → (o : Option EvidenceReason) × JudgedByCaps sys cs o
+    judged : (lefts : Caps) → AreCapsOf sys any (left_sides cs) lefts → (o : Outcome) × IsOutcome (apply_all even (all_filled var 0 lefts)) (apply_all odd (right_sides cs)) o
+        → (o : Option EvidenceReason) × JudgedByCaps sys cs o
     judged lefts are (clash, r) = (None, record { lefts = lefts; are = are; outcome = r })
     judged lefts are (unifier b, r) = (Some tcap_unifies, (b, record { lefts = lefts; are = are; outcome = r }))
     judged lefts are (too_large, r) = (Some tcap_large, inr (record { lefts = lefts; are = are; outcome = r }))
 
     go : ((lefts : Caps) × AreCapsOf sys any (left_sides cs) lefts) ⊎ AreCapsLarge sys any (left_sides cs) → (o : Option EvidenceReason) × JudgedByCaps sys cs o
-    go (inl (lefts, are)) = judged lefts are (outcome_exists _ _ (count-apply even (all_filled var 0 lefts) ∙ (count_caps sys any var (left_sides cs) lefts 0 are ∙ (count_sides cs ∙ sym (count-apply odd (right_sides cs))))))
+    go (inl (lefts, are)) = judged lefts are (outcome_exists _ _
+        (count-apply even (all_filled var 0 lefts) ∙ (count_caps sys any var (left_sides cs) lefts 0 are ∙ (count_sides cs ∙ sym (count-apply odd (right_sides cs))))))
     go (inr h) = (Some tcap_large, inl h)
 
 -- two terms have an outcome, or one of them has no cap; `leaf` is `any` for caps, and `kept` for rigid ones
 pub pair_total : (sys : System) (leaf : ℕ → Cap) (u v : Term) → ((o : Outcome) × IsPairOutcome sys leaf u v o) ⊎ (IsCapLarge sys leaf u ⊎ IsCapLarge sys leaf v)
 pair_total sys leaf u v = go (cap_exists sys leaf u) (cap_exists sys leaf v)
   where
-    go : ((c : Cap) × IsCapOf sys leaf u c) ⊎ IsCapLarge sys leaf u → ((c : Cap) × IsCapOf sys leaf v c) ⊎ IsCapLarge sys leaf v → ((o : Outcome) × IsPairOutcome sys leaf u v o) ⊎ (IsCapLarge sys leaf u ⊎ IsCapLarge sys leaf v)
-    go (inl (c, is)) (inl (d, at)) = let base = past_both sys c d in let r = outcome_of (apply even (frozen_from base c)) (apply odd (frozen_from base d)) in inl (r.0, record { first = c; second = d; is_first = is; is_second = at; outcome = r.1 })
+    go : ((c : Cap) × IsCapOf sys leaf u c) ⊎ IsCapLarge sys leaf u → ((c : Cap) × IsCapOf sys leaf v c) ⊎ IsCapLarge sys leaf v
+        → ((o : Outcome) × IsPairOutcome sys leaf u v o) ⊎ (IsCapLarge sys leaf u ⊎ IsCapLarge sys leaf v)
+    go (inl (c, is)) (inl (d, at)) = let base = past_both sys c d in let r = outcome_of (apply even (frozen_from base c)) (apply odd (frozen_from base d)) in
+        inl (r.0, record { first = c; second = d; is_first = is; is_second = at; outcome = r.1 })
     go (inl c) (inr h) = inr (inr h)
     go (inr h) d = inr (inl h)

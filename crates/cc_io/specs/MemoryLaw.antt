@@ -4,7 +4,8 @@ use Rattle.std.specs.Option.{option_map}
 use Rattle.cc_io.specs.declared.memory.MemoryFile.{MemoryFile}
 use Rattle.cc_io.specs.Memory.{file_name_at, unread_at}
 
-none-unread-at : (file : Option MemoryFile) (at : ℕ) → IfNone (option_map (λ f. string_bytes f.name) file) (IfSome (option_map (drop at) (option_map (λ f. f.bytes.items) file)) (λ unread. unread ≡ []))
+none-unread-at : (file : Option MemoryFile) (at : ℕ)
+    → IfNone (option_map (λ f. string_bytes f.name) file) (IfSome (option_map (drop at) (option_map (λ f. f.bytes.items) file)) (λ unread. unread ≡ []))
 none-unread-at None at = tt
 none-unread-at (Some f) at = tt
 

@@ -8,7 +8,8 @@ use Rattle.certificates.specs.Prelude.{simplified_certificate, Rejection}
 use Rattle.cert_grammar.specs.Versions.{Version, first_version, second_version, CanSimplify}
 use Rattle.valid_certificates.specs.Kinds.{Kind}
 use Rattle.valid_certificates.specs.Entries.{AreNotSettled, DoNotSettle, pair_is_large, pairs_are_many, entry_fails}
-use Rattle.valid_certificates.specs.Confluence.{IsOrthoRejected, not_left_linear, not_type3, not_oriented, not_right_stable, ortho_pairs_fail, IsQuasiRejected, not_deterministic, side_is_reducible, measure_is_bad, unraveling_is_large, quasi_pairs_fail}
+use Rattle.valid_certificates.specs.Confluence.{IsOrthoRejected, not_left_linear, not_type3, not_oriented, not_right_stable, ortho_pairs_fail, IsQuasiRejected, not_deterministic}
+use Rattle.valid_certificates.specs.Confluence.{side_is_reducible, measure_is_bad, unraveling_is_large, quasi_pairs_fail}
 use Rattle.valid_certificates.specs.Peaks.{RedexPlace, AreNotRefuted, AreNotShownApart, AreNoValidEnds, IsPeakRejected, foreign_start, first_fails, second_fails, not_apart}
 use Rattle.valid_certificates.specs.Certificates.{IsMeasureJudged, IsRejected}
 use Rattle.cert_check.specs.Kinds.{HasNoSteps, IsOfStep}

@@ -51,7 +51,8 @@ none_before sys last c e good judged =
     })
 
 -- a peak behind good steps is one before them
-pub apart_before : (sys next : System) (steps : List Simplification) (body : Certificate) → IsSystem sys → AllSimplify sys steps next → IsPeakApart next body → IsPeakApart sys (simplified_certificate steps body)
+pub apart_before : (sys next : System) (steps : List Simplification) (body : Certificate) → IsSystem sys → AllSimplify sys steps next → IsPeakApart next body
+    → IsPeakApart sys (simplified_certificate steps body)
 apart_before sys next steps body good all (end, peak, ends, reaches) =
     let carried : (u v : Term) → _ = λ u v leads. peaks_back sys next steps peak.start u v (well_formed sys good) all (reaches.apart u v leads) in
     (end, peak, (next, all, ends), record { leads = reaches.leads; apart = carried })

@@ -89,7 +89,8 @@ module _ (sys last : System) (steps : List Simplification) (good : IsSystem sys)
 
   module _ (t : OpenedText) where
     abbrev pub ApartBehind : Type 0
-    ApartBehind = (names : NameTable) (bytes : List ℕ) (before : Option (List Simplification)) → IsOpenedFor last names bytes before t → (c : Certificate) × IsCertificateText names bytes (behind before c) × IsPeakApart last c
+    ApartBehind = (names : NameTable) (bytes : List ℕ) (before : Option (List Simplification)) → IsOpenedFor last names bytes before t → (c : Certificate)
+        × IsCertificateText names bytes (behind before c) × IsPeakApart last c
 
     abbrev pub ApartBefore : Type 0
     ApartBefore = (names : NameTable) (bytes : List ℕ) → IsOpenedFor sys names bytes (Some steps) t → (c : Certificate) × IsCertificateText names bytes c × IsPeakApart sys c

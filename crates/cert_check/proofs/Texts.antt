@@ -114,7 +114,8 @@ module _ (names : NameTable) (bytes : List ℕ) (before : Option (List Simplific
   text_so : (es : List PairEntry) → IsCertificateText r.names r.bytes (certificate_for (opening_behind before own) es) → IsCertificateText names bytes (behind before (certificate_for own es))
   text_so es h =
       subst (IsCertificateText names bytes) (certificate_behind before own es)
-      (subst (λ n. IsCertificateText n bytes (certificate_for (opening_behind before own) es)) here.0 (subst (λ b. IsCertificateText r.names b (certificate_for (opening_behind before own) es)) here.1 h))
+      (subst (λ n. IsCertificateText n bytes (certificate_for (opening_behind before own) es)) here.0
+      (subst (λ b. IsCertificateText r.names b (certificate_for (opening_behind before own) es)) here.1 h))
 
   told_so : (e : CertError) → IsRefusedAs r.names r.bytes e → IsRefusedAs names bytes e
   told_so e h = subst (λ n. IsRefusedAs n bytes e) here.0 (subst (λ b. IsRefusedAs r.names b e) here.1 h)
@@ -186,5 +187,6 @@ module _ (names : NameTable) (bytes : List ℕ) (before : Option (List Simplific
 
 -- what it shows
 pub peak_shows : (sys : System) (peak : Peak) (t : OpenedText) → t ≡ whole (peak_certificate peak) → (e : Result Verdict BytesError) → OnNo e (IsPeakApart sys (peak_certificate peak))
-    → OnNo e ((names : NameTable) (bytes : List ℕ) (before : Option (List Simplification)) → IsOpenedFor sys names bytes before t → (c : Certificate) × IsCertificateText names bytes (behind before c) × IsPeakApart sys c)
+    → OnNo e ((names : NameTable) (bytes : List ℕ) (before : Option (List Simplification)) → IsOpenedFor sys names bytes before t → (c : Certificate)
+    × IsCertificateText names bytes (behind before c) × IsPeakApart sys c)
 peak_shows sys peak t shown e = so_no _ _ e (λ apart names bytes before h. (peak_certificate peak, peak_text names bytes before peak t shown h.opened, apart))

@@ -41,18 +41,26 @@ coefficient_lines n ks = coefficients_marks n ks ++ (fixed (codes "\n") ∷ [])
 -- what is left of the start's line behind a term
 abbrev pub Behind : Naming → List Frame → ℕ → List Mark → Type 0
 Behind names [] n ms = ms ≡ fixed (codes "\n") ∷ []
-Behind names (g ∷ fs) n ms = (ts : Terms) × (rest : List Mark) × (ms ≡ further_marks names (suc (suc (length fs))) n ts ++ (behind (has_arity g.name (g.argument + count ts)) ∷ rest)) × Behind names fs (n + size_all ts) rest
+Behind names (g ∷ fs) n ms = (ts : Terms) × (rest : List Mark)
+    × (ms ≡ further_marks names (suc (suc (length fs))) n ts ++ (behind (has_arity g.name (g.argument + count ts)) ∷ rest)) × Behind names fs (n + size_all ts) rest
 
 -- the marks that an item spells
 abbrev pub Form : Naming → Item → List Mark → Type 0
 Form names opening ms = (given : Option Bool) × (v : Version) × (bs : List Automaton) × (c : Certificate) × IsOfVersion v c × (ms ≡ certificate_marks names (uses_in v) bs given c)
-Form names (heading given) ms = (v : Version) × (bs : List Automaton) × (c : Certificate) × IsOfVersion v c × (ms ≡ heading_marks names (uses_in v) bs ++ (body_marks names (uses_in v) given c ++ closing))
-Form names (shared_line given) ms = (bs : List Automaton) × (c : Certificate) × IsOfVersion second_version c × (ms ≡ fixed (codes "shared ") ∷ number_for shared_automata (length bs) ∷ fixed (codes "\n") ∷ (automata_marks names bs ++ (body_marks names second_uses given c ++ closing)))
-Form names (shared_count given) ms = (bs : List Automaton) × (c : Certificate) × IsOfVersion second_version c × (ms ≡ number_for shared_automata (length bs) ∷ fixed (codes "\n") ∷ (automata_marks names bs ++ (body_marks names second_uses given c ++ closing)))
-Form names (automata_left n given) ms = (b : Automaton) × (bs : List Automaton) × (c : Certificate) × IsOfVersion second_version c × (length bs ≡ n) × (ms ≡ automata_marks names (b ∷ bs) ++ (body_marks names second_uses given c ++ closing))
-Form names (automaton_end n given) ms = (bs : List Automaton) × (c : Certificate) × IsOfVersion second_version c × (length bs ≡ n) × (ms ≡ closed (shares automaton_ends) ∷ (automata_marks names bs ++ (body_marks names second_uses given c ++ closing)))
+Form names (heading given) ms = (v : Version) × (bs : List Automaton) × (c : Certificate) × IsOfVersion v c
+    × (ms ≡ heading_marks names (uses_in v) bs ++ (body_marks names (uses_in v) given c ++ closing))
+Form names (shared_line given) ms = (bs : List Automaton) × (c : Certificate) × IsOfVersion second_version c
+    × (ms ≡ fixed (codes "shared ") ∷ number_for shared_automata (length bs) ∷ fixed (codes "\n") ∷ (automata_marks names bs ++ (body_marks names second_uses given c ++ closing)))
+Form names (shared_count given) ms = (bs : List Automaton) × (c : Certificate) × IsOfVersion second_version c
+    × (ms ≡ number_for shared_automata (length bs) ∷ fixed (codes "\n") ∷ (automata_marks names bs ++ (body_marks names second_uses given c ++ closing)))
+Form names (automata_left n given) ms = (b : Automaton) × (bs : List Automaton) × (c : Certificate) × IsOfVersion second_version c × (length bs ≡ n)
+    × (ms ≡ automata_marks names (b ∷ bs) ++ (body_marks names second_uses given c ++ closing))
+Form names (automaton_end n given) ms = (bs : List Automaton) × (c : Certificate) × IsOfVersion second_version c × (length bs ≡ n)
+    × (ms ≡ closed (shares automaton_ends) ∷ (automata_marks names bs ++ (body_marks names second_uses given c ++ closing)))
 Form names (simplified given) ms = (c : Certificate) × IsOfVersion second_version c × (ms ≡ body_marks names second_uses given c ++ closing)
-Form names simplification_count ms = (ss : List Simplification) × (ms ≡ word (numeral (length ss)) (in_range 0 1 (suc largest) (length ss) ∷ is_few simplifications (length ss) ∷ []) ∷ fixed (codes "\n") ∷ simplifications_marks names second_uses ss)
+Form names simplification_count ms = (ss : List Simplification)
+    × (ms ≡ word (numeral (length ss)) (in_range 0 1 (suc largest) (length ss) ∷ is_few simplifications (length ss) ∷ []) ∷ fixed (codes "\n")
+    ∷ simplifications_marks names second_uses ss)
 Form names (simplifications_left n) ms = (x : Simplification) × (ss : List Simplification) × (length ss ≡ n) × (ms ≡ simplifications_marks names second_uses (x ∷ ss))
 Form names (body v given) ms = (c : Certificate) × IsUnsimplified c × IsOfVersion v c × (ms ≡ body_marks names (uses_in v) given c ++ closing)
 Form names (between b) ms = ms ≡ fixed (between_text b) ∷ []
@@ -73,7 +81,8 @@ Form names (evidence v) ms = (e : PairEvidence) × (ms ≡ evidence_marks names 
 Form names (infeasibility v) ms = (e : InfeasibilityEvidence) × (ms ≡ infeasibility_marks names (uses_in v) e)
 Form names shared_use ms = (n : ℕ) × (ms ≡ use_mark n ∷ fixed (codes "\n") ∷ [])
 Form names states_line ms = (a : Automaton) × (ms ≡ automaton_marks names a)
-Form names state_count ms = (n : ℕ) × (qs : List ℕ) × (ts : List Transition) × (ms ≡ word (numeral n) (in_range 0 1 (suc largest) n ∷ is_few states n ∷ []) ∷ fixed (codes "\naccepting") ∷ (accepting_marks n qs ++ transition_lines names n ts))
+Form names state_count ms = (n : ℕ) × (qs : List ℕ) × (ts : List Transition)
+    × (ms ≡ word (numeral n) (in_range 0 1 (suc largest) n ∷ is_few states n ∷ []) ∷ fixed (codes "\naccepting") ∷ (accepting_marks n qs ++ transition_lines names n ts))
 Form names (accepting_line n) ms = (qs : List ℕ) × (ts : List Transition) × (ms ≡ fixed (codes "\naccepting") ∷ (accepting_marks n qs ++ transition_lines names n ts))
 Form names (accepting n) ms = (qs : List ℕ) × (ts : List Transition) × (ms ≡ accepting_marks n qs ++ transition_lines names n ts)
 Form names (accepted_state n) ms = (q : ℕ) × (qs : List ℕ) × (ts : List Transition) × (ms ≡ state n q ∷ (accepting_marks n qs ++ transition_lines names n ts))
@@ -90,7 +99,8 @@ Form names (steps_left level n) ms = (st : Step) × (d : Derivation) × (step_co
 Form names (condition_count level) ms = (ds : Derivations) × (ms ≡ number (derivation_count ds) ∷ fixed (codes "\n") ∷ derivations_marks (suc level) ds)
 Form names (start_line v) ms = (p : Peak) × (ms ≡ peak_marks names (uses_in v) p ++ closing)
 Form names (node n fs) ms = (t : Term) × (rest : List Mark) × (ms ≡ term_marks names (suc (length fs)) n t ++ rest) × Behind names fs (n + size t) rest
-Form names (name_behind n name fs) ms = (ts : Terms) × (rest : List Mark) × (ms ≡ arguments_marks names (suc (suc (length fs))) n ts ++ (behind (has_arity name (count ts)) ∷ rest)) × Behind names fs (n + size_all ts) rest
+Form names (name_behind n name fs) ms = (ts : Terms) × (rest : List Mark) × (ms ≡ arguments_marks names (suc (suc (length fs))) n ts ++ (behind (has_arity name (count ts)) ∷ rest))
+    × Behind names fs (n + size_all ts) rest
 Form names (term_behind n fs) ms = Behind names fs n ms
 Form names (term_closed n name k fs) ms = (rest : List Mark) × (ms ≡ behind (has_arity name k) ∷ rest) × Behind names fs n rest
 Form names (next_argument n g fs) ms = Behind names (g ∷ fs) n ms
@@ -157,19 +167,23 @@ with_mark {m} {n} {a} {b} e f = ap (λ (x : Mark). x ∷ a) e ∙ ap (λ (x : Li
 
 -- ---- derivations, steps and transitions that are counted
 
-pub derivations_then : (names : Naming) (level n : ℕ) (s : List Item) (ms : List Mark) → Forms names (derivations level n ++ s) ms → (ds : Derivations) × (derivation_count ds ≡ n) × After names (derivations_marks level ds) s ms
+pub derivations_then : (names : Naming) (level n : ℕ) (s : List Item) (ms : List Mark) → Forms names (derivations level n ++ s) ms
+    → (ds : Derivations) × (derivation_count ds ≡ n) × After names (derivations_marks level ds) s ms
 derivations_then names level zero s ms h = (no_derivations, refl, record { back = ms; text = refl; forms = h })
 derivations_then names level (suc n) s ms h = (first_derivation h.3.0 h.3.1, ap suc h.3.2, record { back = h.1; text = h.2 ∙ ap (λ (x : List Mark). x ++ h.1) h.3.3; forms = h.4 })
 
-pub steps_then : (names : Naming) (level n : ℕ) (s : List Item) (ms : List Mark) → Forms names (steps_of level n ++ s) ms → (d : Derivation) × (step_count d ≡ n) × After names (steps_marks level d) s ms
+pub steps_then : (names : Naming) (level n : ℕ) (s : List Item) (ms : List Mark) → Forms names (steps_of level n ++ s) ms
+    → (d : Derivation) × (step_count d ≡ n) × After names (steps_marks level d) s ms
 steps_then names level zero s ms h = (no_steps, refl, record { back = ms; text = refl; forms = h })
 steps_then names level (suc n) s ms h = (first_step h.3.0 h.3.1, ap suc h.3.2, record { back = h.1; text = h.2 ∙ ap (λ (x : List Mark). x ++ h.1) h.3.3; forms = h.4 })
 
-pub transitions_then : (names : Naming) (bound n : ℕ) (s : List Item) (ms : List Mark) → Forms names (transitions_of bound n ++ s) ms → (ts : List Transition) × (length ts ≡ n) × After names (transitions_marks names bound ts) s ms
+pub transitions_then : (names : Naming) (bound n : ℕ) (s : List Item) (ms : List Mark) → Forms names (transitions_of bound n ++ s) ms
+    → (ts : List Transition) × (length ts ≡ n) × After names (transitions_marks names bound ts) s ms
 transitions_then names bound zero s ms h = ([], refl, record { back = ms; text = refl; forms = h })
 transitions_then names bound (suc n) s ms h = (h.3.0 ∷ h.3.1, ap suc h.3.2, record { back = h.1; text = h.2 ∙ ap (λ (x : List Mark). x ++ h.1) h.3.3; forms = h.4 })
 
-pub simplifications_then : (names : Naming) (n : ℕ) (s : List Item) (ms : List Mark) → Forms names (simplifications_of n ++ s) ms → (ss : List Simplification) × (length ss ≡ n) × After names (simplifications_marks names second_uses ss) s ms
+pub simplifications_then : (names : Naming) (n : ℕ) (s : List Item) (ms : List Mark) → Forms names (simplifications_of n ++ s) ms
+    → (ss : List Simplification) × (length ss ≡ n) × After names (simplifications_marks names second_uses ss) s ms
 simplifications_then names zero s ms h = ([], refl, record { back = ms; text = refl; forms = h })
 simplifications_then names (suc n) s ms h = (h.3.0 ∷ h.3.1, ap suc h.3.2, record { back = h.1; text = h.2 ∙ ap (λ (x : List Mark). x ++ h.1) h.3.3; forms = h.4 })
 
@@ -192,5 +206,12 @@ no_more level (first_derivation d ds) e = absurd (omega (arith, e))
 
 pub derivation_then : (names : Naming) (s : List Item) (ms : List Mark) → Forms names (derivations_left 1 0 ∷ s) ms → (d : Derivation) × After names (derivation_marks d) s ms
 derivation_then names s ms h =
-    let d = h.3.0 in
-    (d, record { back = h.1; text = h.2 ∙ ap (λ (x : List Mark). x ++ h.1) (h.3.3 ∙ ap (λ (x : List Mark). derivation_marks d ++ x) (no_more 1 h.3.1 h.3.2) ∙ append-nil (derivation_marks d)); forms = h.4 })
+    let d = h.3.0 in (
+      d,
+      record {
+        back = h.1;
+        text = h.2 ∙ ap (λ (x : List Mark). x ++ h.1) (h.3.3 ∙ ap (λ (x : List Mark). derivation_marks d ++ x) (no_more 1 h.3.1 h.3.2)
+            ∙ append-nil (derivation_marks d));
+        forms = h.4;
+      },
+    )

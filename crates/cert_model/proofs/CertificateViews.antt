@@ -17,5 +17,6 @@ quasi_shown measure pairs = search (rules, the_lemmas)
 pub peak_shown : (peak : peaks.Peak) → certificate_view (Peak peak) ≡ peak_certificate (peak_view peak)
 peak_shown peak = search (rules, the_lemmas)
 
-pub simplified_shown : (steps : Vec Simp Global) (body : Box Certificate Global) → certificate_view (Simplified steps body) ≡ simplified_certificate (map simp_view steps.items) (certificate_view body.value)
+pub simplified_shown : (steps : Vec Simp Global) (body : Box Certificate Global)
+    → certificate_view (Simplified steps body) ≡ simplified_certificate (map simp_view steps.items) (certificate_view body.value)
 simplified_shown steps body = search (rules, the_lemmas)

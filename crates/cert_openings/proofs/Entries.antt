@@ -1,5 +1,6 @@
 -- One entry more, and the last line.
-use Rattle.std.proofs.Common.{◌≡◌, ◌⊎◌, inl, inr, ℕ, zero, suc, ◌+◌, ◌-◌, ◌≤◌, slice_get, Some, ◌<◌, cond, List, [], ◌∷◌, ◌++◌, length, refl, sym, ap, ◌∙◌, subst, codes, decimal, append_assoc, append-nil, length-append, arith}
+use Rattle.std.proofs.Common.{◌≡◌, ◌⊎◌, inl, inr, ℕ, zero, suc, ◌+◌, ◌-◌, ◌≤◌, slice_get, Some, ◌<◌, cond, List, [], ◌∷◌, ◌++◌, length, refl, sym, ap, ◌∙◌, subst, codes, decimal}
+use Rattle.std.proofs.Common.{append_assoc, append-nil, length-append, arith}
 use Rattle.general_lemmas.proofs.Lists.{three_parts}
 use Rattle.certificates.specs.Prelude.{Automaton, PairEntry, Certificate}
 use Rattle.cops_names.specs.NameTable.{NameTable}
@@ -15,7 +16,8 @@ use Rattle.cert_openings.specs.Laws.{IsWhole, IsReadTo, IsTold}
 
 pairs_more : (es : List PairEntry) (p : PairEntry) → used_by_pairs (es ++ p ∷ []) ≡ used_by_pairs es ++ used_by_evidence p.evidence
 pairs_more [] p = append-nil (used_by_evidence p.evidence)
-pairs_more (e ∷ es) p = ap (λ (l : List Automaton). used_by_evidence e.evidence ++ l) (pairs_more es p) ∙ sym (append_assoc (used_by_evidence e.evidence) (used_by_pairs es) (used_by_evidence p.evidence))
+pairs_more (e ∷ es) p = ap (λ (l : List Automaton). used_by_evidence e.evidence ++ l) (pairs_more es p)
+    ∙ sym (append_assoc (used_by_evidence e.evidence) (used_by_pairs es) (used_by_evidence p.evidence))
 
 automata_more : (o : Opening) (es : List PairEntry) (p : PairEntry) → automata_of (certificate_for o (es ++ p ∷ [])) ≡ automata_of (certificate_for o es) ++ used_by_evidence p.evidence
 automata_more ortho_opening es p = pairs_more es p
@@ -31,7 +33,8 @@ unfolded_both : (a b : List Automaton) (names : NameTable) → unfolded_length n
 unfolded_both [] b names = omega arith
 unfolded_both (x ∷ a) b names = let q = unfolded_both a b names in omega (arith, q)
 
-shared_more : (o : Opening) (es : List PairEntry) (p : PairEntry) (names : NameTable) → shared_by names (certificate_for o (es ++ p ∷ [])) ≡ with_new names (shared_by names (certificate_for o es)) (used_by_evidence p.evidence)
+shared_more : (o : Opening) (es : List PairEntry) (p : PairEntry) (names : NameTable)
+    → shared_by names (certificate_for o (es ++ p ∷ [])) ≡ with_new names (shared_by names (certificate_for o es)) (used_by_evidence p.evidence)
 shared_more o es p names = ap (with_new names []) (automata_more o es p) ∙ new_both (automata_of (certificate_for o es)) (used_by_evidence p.evidence) names []
 
 -- ---- its text
@@ -42,12 +45,14 @@ entry_text names u p = codes "pair " ++ (decimal p.inner ++ (codes " " ++ (posit
 
 pairs_text_more : (es : List PairEntry) (p : PairEntry) (names : NameTable) (u : Uses) → pairs_text names u (es ++ p ∷ []) ≡ pairs_text names u es ++ pairs_text names u (p ∷ [])
 pairs_text_more [] p names u = refl
-pairs_text_more (e ∷ es) p names u = ap (λ (w : List ℕ). entry_text names u e ++ w) (pairs_text_more es p names u) ∙ sym (append_assoc (entry_text names u e) (pairs_text names u es) (pairs_text names u (p ∷ [])))
+pairs_text_more (e ∷ es) p names u = ap (λ (w : List ℕ). entry_text names u e ++ w) (pairs_text_more es p names u)
+    ∙ sym (append_assoc (entry_text names u e) (pairs_text names u es) (pairs_text names u (p ∷ [])))
 
 behind_steps : (b d w x : List ℕ) → b ++ 10 ∷ (d ++ (w ++ x)) ≡ (b ++ 10 ∷ (d ++ w)) ++ x
 behind_steps b d w x = ap (λ (z : List ℕ). b ++ 10 ∷ z) (sym (append_assoc d w x)) ∙ sym (append_assoc b (10 ∷ (d ++ w)) x)
 
-body_more : (o : Opening) (es : List PairEntry) (p : PairEntry) (names : NameTable) (u : Uses) → body_text names u (certificate_for o (es ++ p ∷ [])) ≡ body_text names u (certificate_for o es) ++ pairs_text names u (p ∷ [])
+body_more : (o : Opening) (es : List PairEntry) (p : PairEntry) (names : NameTable) (u : Uses)
+    → body_text names u (certificate_for o (es ++ p ∷ [])) ≡ body_text names u (certificate_for o es) ++ pairs_text names u (p ∷ [])
 body_more ortho_opening es p names u = ap (λ (w : List ℕ). codes "ortho\n" ++ w) (pairs_text_more es p names u)
 body_more (quasi_opening m) es p names u =
     ap (λ (w : List ℕ). codes "quasi\n" ++ (measure_text names m ++ w)) (pairs_text_more es p names u)
@@ -62,7 +67,8 @@ are_more : (es : List PairEntry) (p : PairEntry) (names : NameTable) → ArePair
 are_more [] p names h k = k
 are_more (e ∷ es) p names h k = (h.0, h.1, h.2, h.3, are_more es p names h.4 k)
 
-within_more : (o : Opening) (es : List PairEntry) (p : PairEntry) (names : NameTable) → length es < 20000 → ArePairs names (p ∷ []) → IsWithin names (certificate_for o es) → IsWithin names (certificate_for o (es ++ p ∷ []))
+within_more : (o : Opening) (es : List PairEntry) (p : PairEntry) (names : NameTable) → length es < 20000 → ArePairs names (p ∷ []) → IsWithin names (certificate_for o es)
+    → IsWithin names (certificate_for o (es ++ p ∷ []))
 within_more ortho_opening es p names l k h = let long = length-append es (p ∷ []) in (omega (arith, l, long), are_more es p names h.1 k)
 within_more (quasi_opening m) es p names l k h = let long = length-append es (p ∷ []) in (h.0, omega (arith, l, long), are_more es p names h.2 k)
 within_more (simplified_opening steps o) es p names l k h = (h.0, h.1, h.2, within_more o es p names l k h.3)
@@ -83,10 +89,13 @@ allowed_more (simplified_opening steps o) es ps v h = simplify_more v o es ps h
 
 -- ---- what is shared and what is left
 
-same_shared : (o : Opening) (es : List PairEntry) (p : PairEntry) (names : NameTable) (left then : List Automaton) → with_new names (shared_by names (certificate_for o es)) (used_by_evidence p.evidence) ++ then ≡ shared_by names (certificate_for o es) ++ left → shared_by names (certificate_for o (es ++ p ∷ [])) ++ then ≡ shared_by names (certificate_for o es) ++ left
+same_shared : (o : Opening) (es : List PairEntry) (p : PairEntry) (names : NameTable) (left then : List Automaton)
+    → with_new names (shared_by names (certificate_for o es)) (used_by_evidence p.evidence) ++ then ≡ shared_by names (certificate_for o es) ++ left
+    → shared_by names (certificate_for o (es ++ p ∷ [])) ++ then ≡ shared_by names (certificate_for o es) ++ left
 same_shared o es p names left then e = ap (λ (l : List Automaton). l ++ then) (shared_more o es p names) ∙ e
 
-left_more : (v : Version) (o : Opening) (es : List PairEntry) (p : PairEntry) (names : NameTable) (left then : List Automaton) → AreLeft v names (certificate_for o es) left → Takes v names (certificate_for o es) left (used_by_evidence p.evidence) then → AreLeft v names (certificate_for o (es ++ p ∷ [])) then
+left_more : (v : Version) (o : Opening) (es : List PairEntry) (p : PairEntry) (names : NameTable) (left then : List Automaton) → AreLeft v names (certificate_for o es) left
+    → Takes v names (certificate_for o es) left (used_by_evidence p.evidence) then → AreLeft v names (certificate_for o (es ++ p ∷ [])) then
 left_more first_version o es p names left then h t = t
 left_more second_version o es p names left then h t =
     let same = same_shared o es p names left then t.0 in
@@ -99,11 +108,15 @@ left_more second_version o es p names left then h t =
     )
 
 -- the lines before the body and the numbers are those of before
-heading_more : (v : Version) (o : Opening) (es : List PairEntry) (p : PairEntry) (names : NameTable) (left then : List Automaton) → Takes v names (certificate_for o es) left (used_by_evidence p.evidence) then → heading_text v names (shared_by names (certificate_for o (es ++ p ∷ [])) ++ then) ≡ heading_text v names (shared_by names (certificate_for o es) ++ left)
+heading_more : (v : Version) (o : Opening) (es : List PairEntry) (p : PairEntry) (names : NameTable) (left then : List Automaton)
+    → Takes v names (certificate_for o es) left (used_by_evidence p.evidence) then
+    → heading_text v names (shared_by names (certificate_for o (es ++ p ∷ [])) ++ then) ≡ heading_text v names (shared_by names (certificate_for o es) ++ left)
 heading_more first_version o es p names left then t = refl
 heading_more second_version o es p names left then t = ap (heading_text second_version names) (same_shared o es p names left then t.0)
 
-uses_more : (v : Version) (o : Opening) (es : List PairEntry) (p : PairEntry) (names : NameTable) (left then : List Automaton) → Takes v names (certificate_for o es) left (used_by_evidence p.evidence) then → uses_with v names (shared_by names (certificate_for o (es ++ p ∷ [])) ++ then) ≡ uses_with v names (shared_by names (certificate_for o es) ++ left)
+uses_more : (v : Version) (o : Opening) (es : List PairEntry) (p : PairEntry) (names : NameTable) (left then : List Automaton)
+    → Takes v names (certificate_for o es) left (used_by_evidence p.evidence) then
+    → uses_with v names (shared_by names (certificate_for o (es ++ p ∷ [])) ++ then) ≡ uses_with v names (shared_by names (certificate_for o es) ++ left)
 uses_more first_version o es p names left then t = refl
 uses_more second_version o es p names left then t = ap (uses_with second_version names) (same_shared o es p names left then t.0)
 
@@ -152,7 +165,8 @@ pick_stands (a ∷ all) (suc (suc n)) low high =
     let d : n ≡ suc n - 1 = omega arith in
     ap (slice_get (a ∷ all)) e ∙ ap (slice_get all) d ∙ pick_stands all (suc n) (omega arith) (let q : suc (suc n) ≤ suc (length all) = high in omega arith)
 
-pub number_tells : (names : NameTable) (now left : List Automaton) (n : ℕ) → AllNew [] (texts_of names (now ++ left)) → 1 ≤ n → n ≤ length (now ++ left) → n ≤ suc (length now) → IsTold names now left n
+pub number_tells : (names : NameTable) (now left : List Automaton) (n : ℕ) → AllNew [] (texts_of names (now ++ left)) → 1 ≤ n → n ≤ length (now ++ left)
+    → n ≤ suc (length now) → IsTold names now left n
 number_tells names now left n h low high most =
     let r = told (n ∷ []) names (now ++ left) now left h refl (low, high, most, tt) in
     record {
@@ -192,14 +206,16 @@ is_shared : (v : Version) (names : NameTable) (c : Certificate) (left : List Aut
 is_shared first_version names c left e h = tt
 is_shared second_version names c left e h = (subst (λ (l : List Automaton). length l ≤ 1000) (ap (λ (l : List Automaton). shared_by names c ++ l) e ∙ append-nil (shared_by names c)) h.0, h.3)
 
-whole_text : (names : NameTable) (v : Version) (c : Certificate) (answer : List ℕ) (left : List Automaton) (rest : List ℕ) → left ≡ [] → rest ≡ codes "end\n" → text_behind names v c answer (shared_by names c ++ left) rest ≡ answer ++ certificate_text v names c
+whole_text : (names : NameTable) (v : Version) (c : Certificate) (answer : List ℕ) (left : List Automaton) (rest : List ℕ) → left ≡ [] → rest ≡ codes "end\n"
+    → text_behind names v c answer (shared_by names c ++ left) rest ≡ answer ++ certificate_text v names c
 whole_text names v c answer left rest e f =
     let shared = shared_by names c in
     ap (text_behind names v c answer (shared ++ left)) f
     ∙ ap (λ (l : List Automaton). text_behind names v c answer l (codes "end\n")) (ap (λ (l : List Automaton). shared ++ l) e ∙ append-nil shared)
     ∙ ap (λ (u : Uses). answer ++ (heading_text v names shared ++ (body_text names u c ++ codes "end\n"))) (sym (uses_same v names c))
 
-pub whole_is_text : (names : NameTable) (bytes : List ℕ) (o : Opening) (es : List PairEntry) (at : ℕ) → (h : IsRead names bytes o es at) → h.left ≡ [] → h.rest ≡ codes "end\n" → IsCertificateText names bytes (certificate_for o es)
+pub whole_is_text : (names : NameTable) (bytes : List ℕ) (o : Opening) (es : List PairEntry) (at : ℕ) → (h : IsRead names bytes o es at) → h.left ≡ [] → h.rest ≡ codes "end\n"
+    → IsCertificateText names bytes (certificate_for o es)
 whole_is_text names bytes o es at h e f = (h.version, record { spelt = (h.allowed, h.within, is_shared h.version names c h.left e h.are_left); text = by h.is_answer })
   where
     c : Certificate

@@ -51,7 +51,8 @@ record Marked (names : NameTable) (v : Version) (c : Certificate) (answer : List
   named : HaveNames (certificate_marks (name_of names) (uses_with v names all) all given c)
   allowed : IsOfVersion (version_of (uses_with v names all)) c
 
-marked : (names : NameTable) (bytes : List ℕ) (o : Opening) (es : List PairEntry) (at : ℕ) → (h : IsRead names bytes o es at) → Marked names h.version (certificate_for o es) h.answer (shared_by names (certificate_for o es) ++ h.left)
+marked : (names : NameTable) (bytes : List ℕ) (o : Opening) (es : List PairEntry) (at : ℕ) → (h : IsRead names bytes o es at)
+    → Marked names h.version (certificate_for o es) h.answer (shared_by names (certificate_for o es) ++ h.left)
 marked names bytes o es at h = by h.is_answer
   where
     c : Certificate
@@ -77,7 +78,8 @@ marked names bytes o es at h = by h.is_answer
         let p = spelt_alone c names u all (short_with h.version names c h.left h.are_left) (heading_with h.version names c h.left h.are_left) h.within in
         record {
           given = None;
-          text = p.text ∙ ap (λ (w : Version). heading_text w names all ++ behind) version ∙ ap (λ (a : List ℕ). a ++ (heading_text h.version names all ++ behind)) (sym e) ∙ three_parts h.answer (heading_text h.version names all) (body_text names u c) (codes "end\n");
+          text = p.text ∙ ap (λ (w : Version). heading_text w names all ++ behind) version ∙ ap (λ (a : List ℕ). a ++ (heading_text h.version names all ++ behind)) (sym e)
+              ∙ three_parts h.answer (heading_text h.version names all) (body_text names u c) (codes "end\n");
           named = p.named;
           allowed = allowed;
         }
@@ -85,7 +87,8 @@ marked names bytes o es at h = by h.is_answer
         let p = spelt_answered c names u all (short_with h.version names c h.left h.are_left) (heading_with h.version names c h.left h.are_left) h.within in
         record {
           given = Some (answer_of c);
-          text = p.text ∙ ap (λ (w : Version). answer_line c ++ (heading_text w names all ++ behind)) version ∙ ap (λ (a : List ℕ). a ++ (heading_text h.version names all ++ behind)) (answer_is o es ∙ sym e)
+          text = p.text ∙ ap (λ (w : Version). answer_line c ++ (heading_text w names all ++ behind)) version
+              ∙ ap (λ (a : List ℕ). a ++ (heading_text h.version names all ++ behind)) (answer_is o es ∙ sym e)
               ∙ three_parts h.answer (heading_text h.version names all) (body_text names u c) (codes "end\n");
           named = p.named;
           allowed = allowed;
@@ -95,13 +98,15 @@ stand : (v : Version) (names : NameTable) (c : Certificate) (left : List Automat
 stand first_version names c left h = tt
 stand second_version names c left h = (h.2, among_all (automata_of c) names (shared_by names c) left (shared_numbered names c).each)
 
-left_same : (v w : Version) (names : NameTable) (c d : Certificate) (l m : List Automaton) → v ≡ w → c ≡ d → AreLeft v names c l → AreLeft w names d m → AreSame v (shared_by names c ++ l) (shared_by names d ++ m) → l ≡ m
+left_same : (v w : Version) (names : NameTable) (c d : Certificate) (l m : List Automaton) → v ≡ w → c ≡ d → AreLeft v names c l → AreLeft w names d m
+    → AreSame v (shared_by names c ++ l) (shared_by names d ++ m) → l ≡ m
 left_same first_version first_version names c d l m e f h k s = h ∙ sym k
 left_same first_version second_version names c d l m e f h k s = absurd cc
 left_same second_version first_version names c d l m e f h k s = absurd cc
 left_same second_version second_version names c d l m e f h k s = append_cancel_left (shared_by names c) l m (s ∙ ap (λ (x : Certificate). shared_by names x ++ m) (sym f))
 
-pub one_reading : (names : NameTable) (bytes : List ℕ) (o p : Opening) (es fs : List PairEntry) (at : ℕ) → (h : IsRead names bytes o es at) → (k : IsRead names bytes p fs at) → AreOne names bytes o p es fs at h k
+pub one_reading : (names : NameTable) (bytes : List ℕ) (o p : Opening) (es fs : List PairEntry) (at : ℕ) → (h : IsRead names bytes o es at) → (k : IsRead names bytes p fs at)
+    → AreOne names bytes o p es fs at h k
 one_reading names bytes o p es fs at h k =
     let x = name_of names in
     let c = certificate_for o es in
@@ -112,12 +117,14 @@ one_reading names bytes o p es fs at h k =
     let yours = marked names bytes p fs at k in
     let lengths : length h.rest ≡ length k.rest = omega (arith, h.place, k.place) in
     let cut = same_cut (front_text names h.version c h.answer bs) (front_text names k.version d k.answer ds) h.rest k.rest
-    (sym (h.text ∙ three_parts h.answer (heading_text h.version names bs) (body_text names (uses_with h.version names bs) c) h.rest) ∙ (k.text ∙ three_parts k.answer (heading_text k.version names ds) (body_text names (uses_with k.version names ds) d) k.rest)) lengths in
+    (sym (h.text ∙ three_parts h.answer (heading_text h.version names bs) (body_text names (uses_with h.version names bs) c) h.rest)
+    ∙ (k.text ∙ three_parts k.answer (heading_text k.version names ds) (body_text names (uses_with k.version names ds) d) k.rest)) lengths in
     let s : Skeleton = record { names = x; uses = uses_with h.version names bs; shared = bs; answer = mine.given; certificate = c; allowed = mine.allowed; named = mine.named } in
     let t : Skeleton = record { names = x; uses = uses_with k.version names ds; shared = ds; answer = yours.given; certificate = d; allowed = yours.allowed; named = yours.named } in
     let marks = whole_same (alike_skeletons s t) (inr (closes_all s)) (inr (closes_all t)) (mine.text ∙ ap (λ (w : List ℕ). w ++ codes "end\n") cut.0 ∙ sym yours.text) in
     let tell = marks_tell h.version k.version names c d bs ds mine.given yours.given h.within k.within (stand h.version names c h.left h.are_left) (stand k.version names d k.left k.are_left)
-    (ap (λ (u : Uses). certificate_marks x u bs mine.given c) (sym (same_uses h.version names bs)) ∙ marks ∙ ap (λ (u : Uses). certificate_marks x u ds yours.given d) (same_uses k.version names ds)) in
+    (ap (λ (u : Uses). certificate_marks x u bs mine.given c) (sym (same_uses h.version names bs)) ∙ marks ∙ ap (λ (u : Uses). certificate_marks x u ds yours.given d)
+    (same_uses k.version names ds)) in
     let same = openings_same o p es fs tell.1 in
     record {
       version = tell.0;

@@ -24,14 +24,16 @@ place_more : (t : List ℕ) (old rest : List (List ℕ)) → is_among t old ≡ 
 place_more t [] rest e = absurd cc
 place_more t (u ∷ us) rest e = by (same_bytes t u) e (λ f. place_more t us rest f)
   where
-    by : (v : Bool) → cond v true (is_among t us) ≡ true → (is_among t us ≡ true → place_among t (us ++ rest) ≡ place_among t us) → cond v 1 (suc (place_among t (us ++ rest))) ≡ cond v 1 (suc (place_among t us))
+    by : (v : Bool) → cond v true (is_among t us) ≡ true → (is_among t us ≡ true → place_among t (us ++ rest) ≡ place_among t us)
+        → cond v 1 (suc (place_among t (us ++ rest))) ≡ cond v 1 (suc (place_among t us))
     by true e each = refl
     by false e each = ap suc (each e)
 
 number_more : (names : NameTable) (all left : List Automaton) (a : Automaton) → is_among (automaton_text names a) (texts_of names all) ≡ true → number_in names (all ++ left) a ≡ number_in names all a
 number_more names all left a e = ap (place_among (automaton_text names a)) (texts_both names all left) ∙ place_more (automaton_text names a) (texts_of names all) (texts_of names left) e
 
-numbers_more : (used : List Automaton) (names : NameTable) (all left : List Automaton) → AreAmong names used (texts_of names all) → map (number_in names (all ++ left)) used ≡ map (number_in names all) used
+numbers_more : (used : List Automaton) (names : NameTable) (all left : List Automaton) → AreAmong names used (texts_of names all)
+    → map (number_in names (all ++ left)) used ≡ map (number_in names all) used
 numbers_more [] names all left h = refl
 numbers_more (a ∷ used) names all left h =
     ap (λ (n : ℕ). n ∷ map (number_in names (all ++ left)) used) (number_more names all left a h.0) ∙ ap (λ (l : List ℕ). number_in names all a ∷ l) (numbers_more used names all left h.1)
@@ -46,7 +48,9 @@ order_more [] total more used le h = tt
 order_more (n ∷ ns) total more used le h = let few = h.1 in (h.0, omega (arith, few, le), h.2, order_more ns total more _ le h.3)
 
 -- what the body of a certificate asks where automata are left
-uses_with_left : (v : Version) (names : NameTable) (c : Certificate) (left : List Automaton) → AreLeft v names c left → PassUses (used_texts (uses_with v names (shared_by names c ++ left)) (texts_of names (shared_by names c ++ left))) 0 0 (numbers_of (uses_with v names (shared_by names c ++ left)) (automata_of c))
+uses_with_left : (v : Version) (names : NameTable) (c : Certificate) (left : List Automaton) → AreLeft v names c left
+    → PassUses (used_texts (uses_with v names (shared_by names c ++ left)) (texts_of names (shared_by names c ++ left))) 0 0
+    (numbers_of (uses_with v names (shared_by names c ++ left)) (automata_of c))
 uses_with_left first_version names c left h = tt
 uses_with_left second_version names c left h =
     let shared = shared_by names c in
@@ -63,7 +67,8 @@ uses_with_left second_version names c left h =
 
 -- ---- shared automata of the opening's marks
 
-lines_pass : (c : Certificate) (names : NameTable) (u : Uses) (bs : List Automaton) (given : Option Bool) (b : List ℕ) → HasHeading names u bs → AllNew [] (used_texts u (texts_of names bs)) → PassUses (used_texts u (texts_of names bs)) 0 0 (numbers_of u (automata_of c))
+lines_pass : (c : Certificate) (names : NameTable) (u : Uses) (bs : List Automaton) (given : Option Bool) (b : List ℕ) → HasHeading names u bs
+    → AllNew [] (used_texts u (texts_of names bs)) → PassUses (used_texts u (texts_of names bs)) 0 0 (numbers_of u (automata_of c))
     → PassShares (state [] b 0 0) (heading_marks (name_of names) u bs ++ body_marks (name_of names) u given c)
 lines_pass c names in_full bs given b k n h = (refl, (counts_body c (name_of names) in_full given).from [] (b ++ codes "concon 1\n") 0 0 h)
 lines_pass c names (by_number f) bs given b k n h =
@@ -80,7 +85,8 @@ lines_pass c names (by_number f) bs given b k n h =
     (subst (λ (s : Shared). PassShares s (body_marks x u given c)) (sym (after.1 ∙ ap (λ (l : List (List ℕ)). state l after.0 0 0) texts))
     ((counts_body c x u given).from (texts_of names bs) after.0 0 0 h))))
 
-front_pass : (c : Certificate) (names : NameTable) (u : Uses) (bs : List Automaton) (given : Option Bool) → HasHeading names u bs → AllNew [] (used_texts u (texts_of names bs)) → PassUses (used_texts u (texts_of names bs)) 0 0 (numbers_of u (automata_of c)) → PassShares nothing_shared (front_marks (name_of names) u bs given c)
+front_pass : (c : Certificate) (names : NameTable) (u : Uses) (bs : List Automaton) (given : Option Bool) → HasHeading names u bs → AllNew [] (used_texts u (texts_of names bs))
+    → PassUses (used_texts u (texts_of names bs)) 0 0 (numbers_of u (automata_of c)) → PassShares nothing_shared (front_marks (name_of names) u bs given c)
 front_pass c names u bs None k n h = lines_pass c names u bs None [] k n h
 front_pass c names u bs (Some true) k n h = (refl, lines_pass c names u bs (Some true) (codes "YES\n") k n h)
 front_pass c names u bs (Some false) k n h = (refl, lines_pass c names u bs (Some false) (codes "NO\n") k n h)
@@ -111,11 +117,13 @@ short_with second_version names c left h = λ a.
     let q : place_among (automaton_text names a) (texts_of names all) ≤ largest = omega (arith, most, texts_length names all, few) in
     q
 
-pub heading_with : (v : Version) (names : NameTable) (c : Certificate) (left : List Automaton) → AreLeft v names c left → HasHeading names (uses_with v names (shared_by names c ++ left)) (shared_by names c ++ left)
+pub heading_with : (v : Version) (names : NameTable) (c : Certificate) (left : List Automaton) → AreLeft v names c left
+    → HasHeading names (uses_with v names (shared_by names c ++ left)) (shared_by names c ++ left)
 heading_with first_version names c left h = tt
 heading_with second_version names c left h = (h.0, h.2)
 
-new_with : (v : Version) (names : NameTable) (c : Certificate) (left : List Automaton) → AreLeft v names c left → AllNew [] (used_texts (uses_with v names (shared_by names c ++ left)) (texts_of names (shared_by names c ++ left)))
+new_with : (v : Version) (names : NameTable) (c : Certificate) (left : List Automaton) → AreLeft v names c left
+    → AllNew [] (used_texts (uses_with v names (shared_by names c ++ left)) (texts_of names (shared_by names c ++ left)))
 new_with first_version names c left h = tt
 new_with second_version names c left h = h.1
 
@@ -125,7 +133,9 @@ told_is (quasi_opening m) es = refl
 told_is (simplified_opening ss o) es = told_is o es
 
 -- an answer line that fits, or none
-given_of : (a : List ℕ) → (a ≡ []) ⊎ (a ≡ codes "YES\n") → (g : Option Bool) × (a ≡ marks_text (answer_marks g)) × (is_answer true g ≡ true) × ((names : NameTable) (ms : List Mark) (t : List ℕ) → Spells names ms t → Spells names (answer_marks g ++ ms) (a ++ t))
+given_of : (a : List ℕ) → (a ≡ []) ⊎ (a ≡ codes "YES\n")
+    → (g : Option Bool) × (a ≡ marks_text (answer_marks g)) × (is_answer true g ≡ true) × ((names : NameTable) (ms : List Mark) (t : List ℕ) → Spells names ms t
+    → Spells names (answer_marks g ++ ms) (a ++ t))
 given_of a (inl e) = (None, e, refl, λ names ms t s. subst (λ (b : List ℕ). Spells names ms (b ++ t)) (sym e) s)
 given_of a (inr e) = (Some true, e, refl, λ names ms t s. subst (λ (b : List ℕ). Spells names (fixed (codes "YES\n") ∷ ms) (b ++ t)) (sym e) (put_fixed names (codes "YES\n") ms t s))
 
@@ -196,6 +206,7 @@ skeleton names bytes o end h = record {
   named = subst HaveNames (sym (whole_marks (name_of names) h.uses h.shared h.answer o)) (have_both (opening_marks (name_of names) h.uses h.shared h.answer o) closing h.spells.named tt);
 }
 
-pub with_end : (names : NameTable) (bytes : List ℕ) (o : Opening) (end : ℕ) → (h : Opened names bytes o end) → (s : Skeleton) × (marks_of s ≡ opening_marks (name_of names) h.uses h.shared h.answer o ++ closing)
+pub with_end : (names : NameTable) (bytes : List ℕ) (o : Opening) (end : ℕ) → (h : Opened names bytes o end)
+    → (s : Skeleton) × (marks_of s ≡ opening_marks (name_of names) h.uses h.shared h.answer o ++ closing)
 unfolding skeleton
 with_end names bytes o end h = (skeleton names bytes o end h, whole_marks (name_of names) h.uses h.shared h.answer o)

@@ -12,7 +12,8 @@ OpeningsPass = (names : NameTable) (bytes : List ℕ) (o : Opening) (end : ℕ) 
 
 -- a text whose opening ends somewhere but is none is refused before its end
 abbrev pub BadOpeningsAreRefused : Type 0
-BadOpeningsAreRefused = (names : NameTable) (bytes : List ℕ) (end : ℕ) (e : CertificateCause) (at : ℕ) → IsOpeningEnd bytes end → ((o : Opening) → IsOpened names bytes o end → ⊥) → IsCertificateRefused names bytes e at → at < end
+BadOpeningsAreRefused = (names : NameTable) (bytes : List ℕ) (end : ℕ) (e : CertificateCause) (at : ℕ) → IsOpeningEnd bytes end → ((o : Opening) → IsOpened names bytes o end → ⊥)
+    → IsCertificateRefused names bytes e at → at < end
 
 -- an opening ends at the first line that may begin an entry
 abbrev pub OpeningsEnd : Type 0
@@ -28,7 +29,8 @@ PeaksHaveNoEnd = (names : NameTable) (bytes : List ℕ) (c : Certificate) (end :
 
 -- what is read up to the last line, with no automaton left, is the text of a certificate
 abbrev pub WholeIsText : Type 0
-WholeIsText = (names : NameTable) (bytes : List ℕ) (o : Opening) (es : List PairEntry) (at : ℕ) → (h : IsRead names bytes o es at) → h.left ≡ [] → h.rest ≡ codes "end\n" → IsCertificateText names bytes (certificate_for o es)
+WholeIsText = (names : NameTable) (bytes : List ℕ) (o : Opening) (es : List PairEntry) (at : ℕ) → (h : IsRead names bytes o es at) → h.left ≡ [] → h.rest ≡ codes "end\n"
+    → IsCertificateText names bytes (certificate_for o es)
 
 -- read up to the last line, with no automaton left
 pub record IsWhole (names : NameTable) (bytes : List ℕ) (o : Opening) (es : List PairEntry) : Type 0 where
@@ -65,7 +67,8 @@ pub record AreOne (names : NameTable) (bytes : List ℕ) (o p : Opening) (es fs 
   pub rest : h.rest ≡ k.rest
 
 abbrev pub OneReading : Type 0
-OneReading = (names : NameTable) (bytes : List ℕ) (o p : Opening) (es fs : List PairEntry) (at : ℕ) → (h : IsRead names bytes o es at) → (k : IsRead names bytes p fs at) → AreOne names bytes o p es fs at h k
+OneReading = (names : NameTable) (bytes : List ℕ) (o p : Opening) (es fs : List PairEntry) (at : ℕ) → (h : IsRead names bytes o es at) → (k : IsRead names bytes p fs at)
+    → AreOne names bytes o p es fs at h k
 
 -- a number that is at most the next one: the automaton that stands at its place, which has this number, and what is left behind its use
 pub record IsTold (names : NameTable) (now left : List Automaton) (n : ℕ) : Type 0 where

@@ -13,7 +13,8 @@ automaton_anew u a b s = ap (λ (z : Shared). z.begun) (automaton_behind a u s.t
 
 pub automata_push : {A : Type 0} (f : A → Automaton) (u : Naming) (done : List A) (a : A) → automata_marks u (map f done) ++ sealed_marks u (f a) ≡ automata_marks u (map f (done ++ a ∷ []))
 automata_push f u [] a = sym (append-nil (sealed_marks u (f a)))
-automata_push f u (b ∷ done) a = append_assoc (sealed_marks u (f b)) (automata_marks u (map f done)) (sealed_marks u (f a)) ∙ ap (λ (ms : List Mark). sealed_marks u (f b) ++ ms) (automata_push f u done a)
+automata_push f u (b ∷ done) a = append_assoc (sealed_marks u (f b)) (automata_marks u (map f done)) (sealed_marks u (f a))
+    ∙ ap (λ (ms : List Mark). sealed_marks u (f b) ++ ms) (automata_push f u done a)
 
 pub automata_next : (given : Option Bool) (n k : ℕ) → k < n → ◌≡◌ {A = List Item} (behind_automata (n - k) given ∷ []) (automata_left (n - (k + 1)) given ∷ [])
 automata_next given n k h = let e : n - k ≡ suc (n - (k + 1)) = omega (arith, h) in ap (λ (m : ℕ). behind_automata m given ∷ []) e
@@ -21,7 +22,8 @@ automata_next given n k h = let e : n - k ≡ suc (n - (k + 1)) = omega (arith, 
 pub automata_end : (given : Option Bool) (n k : ℕ) → n ≤ k → ◌≡◌ {A = List Item} (behind_automata (n - k) given ∷ []) (simplified given ∷ [])
 automata_end given n k h = let e : n - k ≡ 0 = omega (arith, h) in ap (λ (m : ℕ). behind_automata m given ∷ []) e
 
-pub plain_automata : {A : Type 0} (f : A → Automaton) (done after : List A) (a : A) → after ≡ done ++ a ∷ [] → ArePlainAutomata (map f done) → AreWithoutStates (f a).transitions → ArePlainAutomata (map f after)
+pub plain_automata : {A : Type 0} (f : A → Automaton) (done after : List A) (a : A) → after ≡ done ++ a ∷ [] → ArePlainAutomata (map f done) → AreWithoutStates (f a).transitions
+    → ArePlainAutomata (map f after)
 plain_automata {A} f done after a e h k = subst (λ (xs : List A). ArePlainAutomata (map f xs)) (sym e) (by done h)
   where
     by : (xs : List A) → ArePlainAutomata (map f xs) → ArePlainAutomata (map f (xs ++ a ∷ []))

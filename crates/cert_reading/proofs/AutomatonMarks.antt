@@ -35,12 +35,14 @@ begun_closed b [] ms h = absurd (omega (arith, h))
 begun_closed b (q ∷ qs) ms h =
     ap (λ (ns : List Mark). fixed (codes "(") ∷ state b q ∷ ns) (sym (append_assoc (others b qs) (fixed (codes ")") ∷ []) ms) ∙ ap (λ (ns : List Mark). ns ++ ms) (closed b qs))
 
-one_more : {A : Type 0} (f : A → Transition) (u : Naming) (b : ℕ) (s : A) (ts : List A) (one whole : List Mark) → transitions_marks u b (map f ts) ++ one ≡ whole → transitions_marks u b (map f (s ∷ ts)) ++ one ≡ (head_marks u b (f s).symbol (f s).arguments ++ (fixed (codes " ") ∷ state b (f s).target ∷ fixed (codes "\n") ∷ [])) ++ whole
+one_more : {A : Type 0} (f : A → Transition) (u : Naming) (b : ℕ) (s : A) (ts : List A) (one whole : List Mark) → transitions_marks u b (map f ts) ++ one ≡ whole
+    → transitions_marks u b (map f (s ∷ ts)) ++ one ≡ (head_marks u b (f s).symbol (f s).arguments ++ (fixed (codes " ") ∷ state b (f s).target ∷ fixed (codes "\n") ∷ [])) ++ whole
 one_more f u b s ts one whole e =
     let first = head_marks u b (f s).symbol (f s).arguments ++ (fixed (codes " ") ∷ state b (f s).target ∷ fixed (codes "\n") ∷ []) in
     append_assoc first (transitions_marks u b (map f ts)) one ∙ ap (λ (ms : List Mark). first ++ ms) e
 
-pub transitions_push : {A : Type 0} (f : A → Transition) (u : Naming) (b : ℕ) (ts : List A) (t : A) → transitions_marks u b (map f ts) ++ transitions_marks u b (f t ∷ []) ≡ transitions_marks u b (map f (ts ++ t ∷ []))
+pub transitions_push : {A : Type 0} (f : A → Transition) (u : Naming) (b : ℕ) (ts : List A) (t : A)
+    → transitions_marks u b (map f ts) ++ transitions_marks u b (f t ∷ []) ≡ transitions_marks u b (map f (ts ++ t ∷ []))
 transitions_push f u b [] t = refl
 transitions_push f u b (s ∷ ts) t = one_more f u b s ts (transitions_marks u b (f t ∷ [])) (transitions_marks u b (map f (ts ++ t ∷ []))) (transitions_push f u b ts t)
 
@@ -54,7 +56,8 @@ transitions_end b n k h = let e : n - k ≡ 0 = omega (arith, h) in ap (transiti
 pub head_first : (s t : List Mark) (b p : Mark) → (s ++ (b ∷ p ∷ [])) ++ t ≡ ((s ++ (b ∷ [])) ++ (p ∷ t)) ++ []
 head_first s t b p = append_assoc s (b ∷ p ∷ []) t ∙ sym (append-nil ((s ++ (b ∷ [])) ++ (p ∷ t)) ∙ append_assoc s (b ∷ []) (p ∷ t))
 
-pub plain_push : {A : Type 0} (f : A → Transition) (done after : List A) (t : A) → after ≡ done ++ t ∷ [] → AreWithoutStates (map f done) → HasNoStates (f t).symbol (f t).arguments → AreWithoutStates (map f after)
+pub plain_push : {A : Type 0} (f : A → Transition) (done after : List A) (t : A) → after ≡ done ++ t ∷ [] → AreWithoutStates (map f done) → HasNoStates (f t).symbol (f t).arguments
+    → AreWithoutStates (map f after)
 plain_push {A} f done after t e h k = subst (λ xs. AreWithoutStates (map f xs)) (sym e) (by done h)
   where
     by : (xs : List A) → AreWithoutStates (map f xs) → AreWithoutStates (map f (xs ++ t ∷ []))

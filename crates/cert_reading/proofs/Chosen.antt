@@ -7,7 +7,8 @@ use Rattle.cert_words.specs.Choices.{Choice, Chosen}
 use Rattle.cert_words.specs.Walks.{Reads}
 use Rattle.cert_words.proofs.Walking.{already}
 
-pub past : (names : NameTable) (end : ℕ) (i : Item) (cs : List Choice) (r : ℕ) (s t : Reading) (to : List Item) (marks : Naming → List Mark) → length cs ≤ r → Chosen names end i cs r s t → Reads names end (i ∷ []) marks to s t
+pub past : (names : NameTable) (end : ℕ) (i : Item) (cs : List Choice) (r : ℕ) (s t : Reading) (to : List Item) (marks : Naming → List Mark) → length cs ≤ r
+    → Chosen names end i cs r s t → Reads names end (i ∷ []) marks to s t
 past names end i [] r s t to marks h x = already x.0 x.1 x.2
 past names end i (c ∷ cs) zero s t to marks h x = absurd (omega (arith, h))
 past names end i (c ∷ cs) (suc r) s t to marks h x = past names end i cs r s t to marks (omega (arith, h)) x

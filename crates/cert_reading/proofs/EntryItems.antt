@@ -35,7 +35,8 @@ leads_same v n fun aux (x ∷ b) (inl e) = subst (λ (y : ℕ). AreSame v (symbo
 leads_same v n fun aux (x ∷ b) (inr e) = subst (λ (y : ℕ). AreSame v (symbol_leads v n fun aux) (y ∷ b)) (sym e) (refl, zero_most (longest (pair_or_end v 1) (101 ∷ b)))
 
 pub symbol_same : (v : Version) (n : ℕ) (i low behind : Item) → SymbolAt v n i low behind → (b : List ℕ) → BeginsEntry b → IsSame v i b
-symbol_same v n i low behind s b h = subst (λ (ls : List Lead). AreSame v ls b) (sym s.are_leads) (leads_same v n (between space ∷ s.name ∷ low ∷ []) (between space ∷ any_number space ∷ s.condition ∷ low ∷ []) b h)
+symbol_same v n i low behind s b h = subst (λ (ls : List Lead). AreSame v ls b) (sym s.are_leads)
+    (leads_same v n (between space ∷ s.name ∷ low ∷ []) (between space ∷ any_number space ∷ s.condition ∷ low ∷ []) b h)
 
 module _ (names : NameTable) (end : ℕ) (v : Version) (symbol : Item) (b : List ℕ) (same : IsSame v symbol b) where
   step_same : (items : List Item) → step names (left_at end (symbol ∷ items) b) ≡ step names (left_at end (pairs_from v 1 ∷ items) b)
@@ -59,7 +60,8 @@ module _ (names : NameTable) (end : ℕ) (v : Version) (symbol : Item) (b : List
   shared_same : (items : List Item) (z : Shared) → shared_step names (left_at end (symbol ∷ items) b) z ≡ shared_step names (left_at end (pairs_from v 1 ∷ items) b) z
   shared_same items z =
       ap (λ (o : Option Lead). after_step (left_at end (symbol ∷ items) b) z o (step names (left_at end (symbol ∷ items) b))) same.0
-      ∙ ap (after_step (left_at end (symbol ∷ items) b) z (first_there (pair_or_end v 1) b)) (step_same items) ∙ after_same items z (first_there (pair_or_end v 1) b) (step names (left_at end (pairs_from v 1 ∷ items) b))
+      ∙ ap (after_step (left_at end (symbol ∷ items) b) z (first_there (pair_or_end v 1) b)) (step_same items) ∙ after_same items z (first_there (pair_or_end v 1) b)
+      (step names (left_at end (pairs_from v 1 ∷ items) b))
 
   first_item : (items : List Item) (i : Item) (others : List Item) → pairs_from v 1 ∷ items ≡ i ∷ others → i ≡ pairs_from v 1
   first_item items i others e = cc
@@ -71,30 +73,53 @@ module _ (names : NameTable) (end : ℕ) (v : Version) (symbol : Item) (b : List
       let first = same.0 ∙ ap (λ (i : Item). first_there (leads i) b) (sym (first_item items s.item s.others s.items)) ∙ s.first in
       (w.0, record { item = symbol; others = items; items = refl; lead = s.lead; first = first; mark = s.mark; goes = step_same items ∙ s.goes }, w.2)
 
-  stop_same : (P : Place) (ms : List Mark) (i : Item) (more : List Item) (rest : List ℕ) (sa : Shared) (e : CertificateCause × ℕ) → P (symbol ∷ []) b → Walks names ms (left_at end (pairs_from v 1 ∷ []) b) (left_at end (i ∷ more) rest)
-      → ((k : List ℕ) → PassShares (with_begun k sa) ms × RefusesAt names (left_at end (i ∷ more) rest) (behind_marks ms (with_begun k sa)) e) → P (i ∷ more) rest → StopsWhere P names end (symbol ∷ []) b sa e
-  stop_same P [] i more rest sa e p w r q = record { marks = []; item = symbol; more = []; rest = b; walks = refl; stops = λ k. (tt, shared_same [] (with_begun k sa) ∙ ap (λ (l : Left). shared_step names l (with_begun k sa)) w ∙ (r k).1); place = p }
+  stop_same : (P : Place) (ms : List Mark) (i : Item) (more : List Item) (rest : List ℕ) (sa : Shared) (e : CertificateCause × ℕ) → P (symbol ∷ []) b
+      → Walks names ms (left_at end (pairs_from v 1 ∷ []) b) (left_at end (i ∷ more) rest)
+      → ((k : List ℕ) → PassShares (with_begun k sa) ms × RefusesAt names (left_at end (i ∷ more) rest) (behind_marks ms (with_begun k sa)) e) → P (i ∷ more) rest
+      → StopsWhere P names end (symbol ∷ []) b sa e
+  stop_same P [] i more rest sa e p w r q = record {
+    marks = [];
+    item = symbol;
+    more = [];
+    rest = b;
+    walks = refl;
+    stops = λ k. (tt, shared_same [] (with_begun k sa) ∙ ap (λ (l : Left). shared_step names l (with_begun k sa)) w ∙ (r k).1);
+    place = p;
+  }
   stop_same P (m ∷ ms) i more rest sa e p w r q = record { marks = m ∷ ms; item = i; more = more; rest = rest; walks = walk_same (m ∷ ms) [] _ (λ x. cc) w; stops = r; place = q }
 
-  pub symbol_stopped : (P : Place) (sa : Shared) (t : Option (CertificateCause × ℕ)) → P (symbol ∷ []) b → IsStoppedWhere P names end (pairs_from v 1 ∷ []) b sa t → IsStoppedWhere P names end (symbol ∷ []) b sa t
+  pub symbol_stopped : (P : Place) (sa : Shared) (t : Option (CertificateCause × ℕ)) → P (symbol ∷ []) b → IsStoppedWhere P names end (pairs_from v 1 ∷ []) b sa t
+      → IsStoppedWhere P names end (symbol ∷ []) b sa t
   symbol_stopped P sa None p x = tt
   symbol_stopped P sa (Some e) p x = λ le. let there = x le in stop_same P there.marks there.item there.more there.rest sa e p there.walks there.stops there.place
 
-  pub symbol_run : (f : Naming → List Mark) (to : List Item) (r : List ℕ) (sa sb : Shared) → (f (name_of names) ≡ [] → ⊥) → Run names end (pairs_from v 1 ∷ []) f to b r sa sb → Run names end (symbol ∷ []) f to b r sa sb
+  pub symbol_run : (f : Naming → List Mark) (to : List Item) (r : List ℕ) (sa sb : Shared) → (f (name_of names) ≡ [] → ⊥) → Run names end (pairs_from v 1 ∷ []) f to b r sa sb
+      → Run names end (symbol ∷ []) f to b r sa sb
   symbol_run f to r sa sb some x = record { walks = λ le items. walk_same (f (name_of names)) items _ some (x.walks le items); found = x.found; shares = x.shares }
 
-symbol_on : (P : Place) (names : NameTable) (end : ℕ) (v : Version) (i : Item) (f : Naming → List Mark) (to : List Item) (b r : List ℕ) (sa sb : Shared) (s t : Option CertError) → (s ≡ None → IsSame v i b) → (f (name_of names) ≡ [] → ⊥) → P (i ∷ []) b → ReadsOnWhere P names end (pairs_from v 1 ∷ []) f to b r sa sb s t → ReadsOnWhere P names end (i ∷ []) f to b r sa sb s t
+symbol_on : (P : Place) (names : NameTable) (end : ℕ) (v : Version) (i : Item) (f : Naming → List Mark) (to : List Item) (b r : List ℕ) (sa sb : Shared) (s t : Option CertError)
+    → (s ≡ None → IsSame v i b) → (f (name_of names) ≡ [] → ⊥) → P (i ∷ []) b → ReadsOnWhere P names end (pairs_from v 1 ∷ []) f to b r sa sb s t
+    → ReadsOnWhere P names end (i ∷ []) f to b r sa sb s t
 symbol_on P names end v i f to b r sa sb None None h some p x = symbol_run names end v i b (h refl) f to r sa sb some x
 symbol_on P names end v i f to b r sa sb None (Some e) h some p x = symbol_stopped names end v i b (h refl) P sa (told e) p x
 symbol_on P names end v i f to b r sa sb (Some d) None h some p x = absurd x
 symbol_on P names end v i f to b r sa sb (Some d) (Some e) h some p x = x
 
 -- what is read from the first overlap on is read from a symbol's line on
-pub symbol_where : {P : Place} {names : NameTable} {end : ℕ} {f : Naming → List Mark} {to : List Item} {s t : Reading} (v : Version) (n : ℕ) (i low behind : Item) → SymbolAt v n i low behind → (s.refused ≡ None → BeginsEntry s.left.now) → (f (name_of names) ≡ [] → ⊥) → P (i ∷ []) s.left.now → ReadsWhere P names end (pairs_from v 1 ∷ []) f to s t → ReadsWhere P names end (i ∷ []) f to s t
-symbol_where {P} {names} {end} {f} {to} {s} {t} v n i low behind at h some p x = record { front = x.front; on = symbol_on P names end v i f to s.left.now t.left.now s.shares t.shares s.refused t.refused (λ none. symbol_same v n i low behind at s.left.now (h none)) some p x.on }
+pub symbol_where : {P : Place} {names : NameTable} {end : ℕ} {f : Naming → List Mark} {to : List Item} {s t : Reading} (v : Version) (n : ℕ) (i low behind : Item)
+    → SymbolAt v n i low behind → (s.refused ≡ None → BeginsEntry s.left.now) → (f (name_of names) ≡ [] → ⊥) → P (i ∷ []) s.left.now
+    → ReadsWhere P names end (pairs_from v 1 ∷ []) f to s t → ReadsWhere P names end (i ∷ []) f to s t
+symbol_where {P} {names} {end} {f} {to} {s} {t} v n i low behind at h some p x =
+    record {
+      front = x.front;
+      on = symbol_on P names end v i f to s.left.now t.left.now s.shares t.shares s.refused t.refused
+          (λ none. symbol_same v n i low behind at s.left.now (h none)) some p x.on;
+    }
 
 -- and behind a measure
-pub measure_where : {P : Place} {names : NameTable} {end : ℕ} {f : Naming → List Mark} {to : List Item} {s t : Reading} (v : Version) (m : MeasureCertificate) → HasMeasure v m → (s.refused ≡ None → BeginsEntry s.left.now) → (f (name_of names) ≡ [] → ⊥) → P (behind_measure v m ∷ []) s.left.now → ReadsWhere P names end (pairs_from v 1 ∷ []) f to s t → ReadsWhere P names end (behind_measure v m ∷ []) f to s t
+pub measure_where : {P : Place} {names : NameTable} {end : ℕ} {f : Naming → List Mark} {to : List Item} {s t : Reading} (v : Version) (m : MeasureCertificate) → HasMeasure v m
+    → (s.refused ≡ None → BeginsEntry s.left.now) → (f (name_of names) ≡ [] → ⊥) → P (behind_measure v m ∷ []) s.left.now → ReadsWhere P names end (pairs_from v 1 ∷ []) f to s t
+    → ReadsWhere P names end (behind_measure v m ∷ []) f to s t
 measure_where first_version m has h some p x = symbol_where first_version (entries_of m) _ _ _ (entry_at first_version (entries_of m)) h some p x
 measure_where second_version (linear_measure es) has h some p x = symbol_where second_version (suc (length es)) _ _ _ (entry_at second_version (suc (length es))) h some p x
 measure_where second_version (precedence_measure order) has h some p x = symbol_where second_version (suc (length order)) _ _ _ (head_at (suc (length order))) h some p x

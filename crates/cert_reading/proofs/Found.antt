@@ -23,7 +23,8 @@ named_lead _ bytes ms e h = h
 
 pub walks_named : (names : NameTable) (ms : List Mark) (l k : Left) → Walks names ms l k → HaveNames ms
 walks_named names [] l k w = tt
-walks_named names (m ∷ ms) l k w = subst (λ (n : Mark). HaveNames (n ∷ ms)) (sym w.1.mark) (named_lead w.1.lead l.bytes ms (first_sound (leads w.1.item) w.1.lead l.bytes w.1.first).1 (walks_named names ms w.0 k w.2))
+walks_named names (m ∷ ms) l k w = subst (λ (n : Mark). HaveNames (n ∷ ms)) (sym w.1.mark)
+    (named_lead w.1.lead l.bytes ms (first_sound (leads w.1.item) w.1.lead l.bytes w.1.first).1 (walks_named names ms w.0 k w.2))
 
 -- ---- taking what is found apart
 
@@ -45,11 +46,16 @@ pub record TermsWithin (names : NameTable) (level n : ℕ) (ts : Terms) : Type 0
   pub low : level + depth_all ts ≤ 401
 
 mutual
-  pub term_within : (t : Term) (names : NameTable) (level n : ℕ) → HaveNames (term_marks (name_of names) level n t) → Pass names (term_marks (name_of names) level n t) → AreFound names (term_marks tagged level n t) → TermWithin names level n t
+  pub term_within : (t : Term) (names : NameTable) (level n : ℕ) → HaveNames (term_marks (name_of names) level n t) → Pass names (term_marks (name_of names) level n t)
+      → AreFound names (term_marks tagged level n t) → TermWithin names level n t
   term_within (var x) names level n i h f =
       let r = range_met names 1 0 (suc largest) x (is_node level n) h.0 in
       let s = node_passed names level n r.2 in
-      record { spelt = (let q : x ≤ largest = omega (arith, s.1, s.0, r.1) in q); few = (let q : n + 1 ≤ 10001 = omega (arith, s.1, s.0, r.1) in q); low = (let q : level + 1 ≤ 401 = omega (arith, s.1, s.0, r.1) in q) }
+      record {
+        spelt = (let q : x ≤ largest = omega (arith, s.1, s.0, r.1) in q);
+        few = (let q : n + 1 ≤ 10001 = omega (arith, s.1, s.0, r.1) in q);
+        low = (let q : level + 1 ≤ 401 = omega (arith, s.1, s.0, r.1) in q);
+      }
   term_within (app g ts) names level n i h f =
       let name = name_of names g in
       let k = symbol_met names name (is_node level n) h.0 in
@@ -64,23 +70,42 @@ mutual
         low = (let q : level + suc (depth_all ts) ≤ 401 = omega (arith, others.low, others.few, s.1, s.0) in q);
       }
 
-  pub arguments_within : (ts : Terms) (names : NameTable) (level n : ℕ) → HaveNames (arguments_marks (name_of names) level n ts) → Pass names (arguments_marks (name_of names) level n ts) → AreFound names (arguments_marks tagged level n ts) → n ≤ 10001 → level ≤ 401 → TermsWithin names level n ts
+  pub arguments_within : (ts : Terms) (names : NameTable) (level n : ℕ) → HaveNames (arguments_marks (name_of names) level n ts)
+      → Pass names (arguments_marks (name_of names) level n ts) → AreFound names (arguments_marks tagged level n ts) → n ≤ 10001 → level ≤ 401 → TermsWithin names level n ts
   arguments_within nil names level n i h f p q = record { spelt = tt; few = omega arith; low = omega arith }
   arguments_within (cons t ts) names level n i h f p q =
-      let first = term_within t names level n (have_append (term_marks (name_of names) level n t) (further_marks (name_of names) level (n + size t) ts) i).0 (pass_append names (term_marks (name_of names) level n t) (further_marks (name_of names) level (n + size t) ts) h.1).0 (found_append names (term_marks tagged level n t) (further_marks tagged level (n + size t) ts) f).0 in
-      let others = further_within ts names level (n + size t) (have_append (term_marks (name_of names) level n t) (further_marks (name_of names) level (n + size t) ts) i).1 (pass_append names (term_marks (name_of names) level n t) (further_marks (name_of names) level (n + size t) ts) h.1).1 (found_append names (term_marks tagged level n t) (further_marks tagged level (n + size t) ts) f).1 (omega (arith, first.low, first.few)) q in
-      record { spelt = (first.spelt, others.spelt); few = (let r : n + (size t + size_all ts) ≤ 10001 = omega (arith, others.low, others.few, first.low, first.few) in r); low = (let r : level + max (depth t) (depth_all ts) ≤ 401 = omega (arith, others.low, others.few, first.low, first.few) in r) }
+      let first = term_within t names level n (have_append (term_marks (name_of names) level n t) (further_marks (name_of names) level (n + size t) ts) i).0
+      (pass_append names (term_marks (name_of names) level n t) (further_marks (name_of names) level (n + size t) ts) h.1).0
+      (found_append names (term_marks tagged level n t) (further_marks tagged level (n + size t) ts) f).0 in
+      let others = further_within ts names level (n + size t) (have_append (term_marks (name_of names) level n t) (further_marks (name_of names) level (n + size t) ts) i).1
+      (pass_append names (term_marks (name_of names) level n t) (further_marks (name_of names) level (n + size t) ts) h.1).1
+      (found_append names (term_marks tagged level n t) (further_marks tagged level (n + size t) ts) f).1 (omega (arith, first.low, first.few)) q in
+      record {
+        spelt = (first.spelt, others.spelt);
+        few = (let r : n + (size t + size_all ts) ≤ 10001 = omega (arith, others.low, others.few, first.low, first.few) in r);
+        low = (let r : level + max (depth t) (depth_all ts) ≤ 401 = omega (arith, others.low, others.few, first.low, first.few) in r);
+      }
 
-  pub further_within : (ts : Terms) (names : NameTable) (level n : ℕ) → HaveNames (further_marks (name_of names) level n ts) → Pass names (further_marks (name_of names) level n ts) → AreFound names (further_marks tagged level n ts) → n ≤ 10001 → level ≤ 401 → TermsWithin names level n ts
+  pub further_within : (ts : Terms) (names : NameTable) (level n : ℕ) → HaveNames (further_marks (name_of names) level n ts) → Pass names (further_marks (name_of names) level n ts)
+      → AreFound names (further_marks tagged level n ts) → n ≤ 10001 → level ≤ 401 → TermsWithin names level n ts
   further_within nil names level n i h f p q = record { spelt = tt; few = omega arith; low = omega arith }
   further_within (cons t ts) names level n i h f p q =
-      let first = term_within t names level n (have_append (term_marks (name_of names) level n t) (further_marks (name_of names) level (n + size t) ts) i).0 (pass_append names (term_marks (name_of names) level n t) (further_marks (name_of names) level (n + size t) ts) h.1).0 (found_append names (term_marks tagged level n t) (further_marks tagged level (n + size t) ts) f).0 in
-      let others = further_within ts names level (n + size t) (have_append (term_marks (name_of names) level n t) (further_marks (name_of names) level (n + size t) ts) i).1 (pass_append names (term_marks (name_of names) level n t) (further_marks (name_of names) level (n + size t) ts) h.1).1 (found_append names (term_marks tagged level n t) (further_marks tagged level (n + size t) ts) f).1 (omega (arith, first.low, first.few)) q in
-      record { spelt = (first.spelt, others.spelt); few = (let r : n + (size t + size_all ts) ≤ 10001 = omega (arith, others.low, others.few, first.low, first.few) in r); low = (let r : level + max (depth t) (depth_all ts) ≤ 401 = omega (arith, others.low, others.few, first.low, first.few) in r) }
+      let first = term_within t names level n (have_append (term_marks (name_of names) level n t) (further_marks (name_of names) level (n + size t) ts) i).0
+      (pass_append names (term_marks (name_of names) level n t) (further_marks (name_of names) level (n + size t) ts) h.1).0
+      (found_append names (term_marks tagged level n t) (further_marks tagged level (n + size t) ts) f).0 in
+      let others = further_within ts names level (n + size t) (have_append (term_marks (name_of names) level n t) (further_marks (name_of names) level (n + size t) ts) i).1
+      (pass_append names (term_marks (name_of names) level n t) (further_marks (name_of names) level (n + size t) ts) h.1).1
+      (found_append names (term_marks tagged level n t) (further_marks tagged level (n + size t) ts) f).1 (omega (arith, first.low, first.few)) q in
+      record {
+        spelt = (first.spelt, others.spelt);
+        few = (let r : n + (size t + size_all ts) ≤ 10001 = omega (arith, others.low, others.few, first.low, first.few) in r);
+        low = (let r : level + max (depth t) (depth_all ts) ≤ 401 = omega (arith, others.low, others.few, first.low, first.few) in r);
+      }
 
 -- ---- automata
 
-head_within : (g : Option ℕ) (names : NameTable) (bound : ℕ) (qs : List ℕ) → HasNoStates g qs → HaveNames (head_marks (name_of names) bound g qs) → Pass names (head_marks (name_of names) bound g qs) → AreFound names (head_marks tagged bound g qs) → IsHead names g qs × AreStates bound qs
+head_within : (g : Option ℕ) (names : NameTable) (bound : ℕ) (qs : List ℕ) → HasNoStates g qs → HaveNames (head_marks (name_of names) bound g qs)
+    → Pass names (head_marks (name_of names) bound g qs) → AreFound names (head_marks tagged bound g qs) → IsHead names g qs × AreStates bound qs
 head_within None names bound qs e i h f = (e, subst (AreStates bound) (sym e) tt)
 head_within (Some g) names bound qs e i h f =
     let name = name_of names g in
@@ -90,17 +115,20 @@ head_within (Some g) names bound qs e i h f =
 abbrev target_marks : ℕ → ℕ → List Mark
 target_marks bound q = fixed (codes " ") ∷ state bound q ∷ fixed (codes "\n") ∷ []
 
-transitions_within : (ts : List Transition) (names : NameTable) (bound : ℕ) → AreWithoutStates ts → HaveNames (transitions_marks (name_of names) bound ts) → Pass names (transitions_marks (name_of names) bound ts) → AreFound names (transitions_marks tagged bound ts) → AreTransitions names bound ts
+transitions_within : (ts : List Transition) (names : NameTable) (bound : ℕ) → AreWithoutStates ts → HaveNames (transitions_marks (name_of names) bound ts)
+    → Pass names (transitions_marks (name_of names) bound ts) → AreFound names (transitions_marks tagged bound ts) → AreTransitions names bound ts
 transitions_within [] names bound e i h f = tt
 transitions_within (t ∷ ts) names bound e i h f =
     let parts = pass_append names (head_marks (name_of names) bound t.symbol t.arguments ++ target_marks bound t.target) (transitions_marks (name_of names) bound ts) h in
     let names_in = have_append (head_marks (name_of names) bound t.symbol t.arguments ++ target_marks bound t.target) (transitions_marks (name_of names) bound ts) i in
     let known = found_append names (head_marks tagged bound t.symbol t.arguments ++ target_marks bound t.target) (transitions_marks tagged bound ts) f in
     let line = pass_append names (head_marks (name_of names) bound t.symbol t.arguments) (target_marks bound t.target) parts.0 in
-    let head = head_within t.symbol names bound t.arguments e.0 (have_append (head_marks (name_of names) bound t.symbol t.arguments) (target_marks bound t.target) names_in.0).0 line.0 (found_append names (head_marks tagged bound t.symbol t.arguments) (target_marks bound t.target) known.0).0 in
+    let head = head_within t.symbol names bound t.arguments e.0 (have_append (head_marks (name_of names) bound t.symbol t.arguments) (target_marks bound t.target) names_in.0).0
+    line.0 (found_append names (head_marks tagged bound t.symbol t.arguments) (target_marks bound t.target) known.0).0 in
     (head.0, head.1, (range_met names 0 0 bound t.target [] line.1.1.0).1, transitions_within ts names bound e.1 names_in.1 parts.1 known.1)
 
-pub automaton_within : (a : Automaton) (names : NameTable) → AreWithoutStates a.transitions → HaveNames (automaton_marks (name_of names) a) → Pass names (automaton_marks (name_of names) a) → AreFound names (automaton_marks tagged a) → IsAutomaton names a
+pub automaton_within : (a : Automaton) (names : NameTable) → AreWithoutStates a.transitions → HaveNames (automaton_marks (name_of names) a)
+    → Pass names (automaton_marks (name_of names) a) → AreFound names (automaton_marks tagged a) → IsAutomaton names a
 automaton_within a names e i h f =
     let bounds = range_met names 0 1 (suc largest) a.states (is_few Counted.states a.states ∷ []) h.1.1.0 in
     let back = λ (u : ℕ → List ℕ). fixed (codes "\ntransitions ") ∷ number_for Counted.transitions (length a.transitions) ∷ fixed (codes "\n") ∷ transitions_marks u a.states a.transitions in
@@ -111,6 +139,7 @@ automaton_within a names e i h f =
       some = bounds.0;
       few = (few_met names Counted.states a.states [] bounds.2).0;
       accepting = accepting_met a.accepting names a.states parts.0;
-      number = (few_met names Counted.transitions (length a.transitions) [] (range_met names 0 0 (suc largest) (length a.transitions) (is_few Counted.transitions (length a.transitions) ∷ []) parts.1.1.0).2).0;
+      number = (few_met names Counted.transitions (length a.transitions) []
+          (range_met names 0 0 (suc largest) (length a.transitions) (is_few Counted.transitions (length a.transitions) ∷ []) parts.1.1.0).2).0;
       transitions = transitions_within a.transitions names a.states e names_in.1 parts.1.1.1.1 known.1;
     }

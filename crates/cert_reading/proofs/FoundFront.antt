@@ -92,7 +92,8 @@ pub record FrontMet (x : Naming) (f : Automaton → ℕ) (bs : List Automaton) (
 abbrev lines : List Automaton → List Mark
 lines bs = fixed (codes "concon 2\n") ∷ fixed (codes "shared ") ∷ number_for marks.shared_automata (length bs) ∷ fixed (codes "\n") ∷ []
 
-front_met : (x : Naming) (f : Automaton → ℕ) (bs : List Automaton) (given : Option Bool) (c : Certificate) (b : List ℕ) (used : ℕ) → PassShares (state [] b 0 0) (heading_marks x (by_number f) bs ++ body_marks x (by_number f) given c)
+front_met : (x : Naming) (f : Automaton → ℕ) (bs : List Automaton) (given : Option Bool) (c : Certificate) (b : List ℕ) (used : ℕ)
+    → PassShares (state [] b 0 0) (heading_marks x (by_number f) bs ++ body_marks x (by_number f) given c)
     → (behind_marks (heading_marks x (by_number f) bs ++ body_marks x (by_number f) given c) (state [] b 0 0)).used ≡ used → FrontMet x f bs c used
 front_met x f bs given c b used h e =
     let body = body_marks x (by_number f) given c in
@@ -105,7 +106,8 @@ front_met x f bs given c b used h e =
     let k = counts_body c x (by_number f) given in
     let r = k.after (marked_texts x bs) after.0 0 0 in
     let ends : behind_marks (heading_marks x (by_number f) bs ++ body) (state [] b 0 0) ≡ state (marked_texts x bs) r.0 (greatest 0 (map f (automata_of c))) _ =
-    behind_both (lines bs) (automata_marks x bs ++ body) (state [] b 0 0) ∙ ap (behind_marks (automata_marks x bs ++ body)) begun ∙ behind_both (automata_marks x bs) body (state [] c0 0 0) ∙ ap (behind_marks body) after.1 ∙ r.1 in
+    behind_both (lines bs) (automata_marks x bs ++ body) (state [] b 0 0) ∙ ap (behind_marks (automata_marks x bs ++ body)) begun ∙ behind_both (automata_marks x bs) body
+    (state [] c0 0 0) ∙ ap (behind_marks body) after.1 ∙ r.1 in
     record {
       new = automata_new bs x [] c0 0 0 parts.0;
       uses = k.into (marked_texts x bs) after.0 0 0 (subst (λ (s : Shared). PassShares s body) after.1 parts.1);
@@ -119,12 +121,25 @@ pub record Front (v : Version) (names : NameTable) (all : List Automaton) (c : C
   pub short : AreShort (uses_with v names all)
   pub heading : HasHeading names (uses_with v names all) all
   pub are_left : AreLeft v names c left
-  pub texts : (heading_text v names all ≡ heading_text v names (shared_by names c ++ left)) × (body_text names (uses_with v names all) c ≡ body_text names (uses_with v names (shared_by names c ++ left)) c)
+  pub texts : (heading_text v names all ≡ heading_text v names (shared_by names c ++ left))
+      × (body_text names (uses_with v names all) c ≡ body_text names (uses_with v names (shared_by names c ++ left)) c)
 
 pub second_front : (c : Certificate) (names : NameTable) (all : List Automaton) (given : Option Bool) (used : ℕ) → IsPlainBy second_version all c → ArePlainAutomata all
-    → Along names (λ u. heading_marks u (by_number (number_in names all)) all) → Along names (λ u. body_marks u (by_number (number_in names all)) given c) → FrontMet (name_of names) (number_in names all) all c used → Front second_version names all c (drop used all)
+    → Along names (λ u. heading_marks u (by_number (number_in names all)) all) → Along names (λ u. body_marks u (by_number (number_in names all)) given c)
+    → FrontMet (name_of names) (number_in names all) all c used → Front second_version names all c (drop used all)
 second_front c names all given used plain plain_all along body met =
-    record { within = within; short = short; heading = (few, are); are_left = (subst (λ (l : List Automaton). length l ≤ 1000) (sym whole) few, subst (λ (l : List Automaton). AllNew [] (texts_of names l)) (sym whole) new, subst (AreAutomata names) (sym whole) are, light); texts = (ap (heading_text second_version names) (sym whole), ap (λ (l : List Automaton). body_text names (by_number (number_in names l)) c) (sym whole)) }
+    record {
+      within = within;
+      short = short;
+      heading = (few, are);
+      are_left = (
+        subst (λ (l : List Automaton). length l ≤ 1000) (sym whole) few,
+        subst (λ (l : List Automaton). AllNew [] (texts_of names l)) (sym whole) new,
+        subst (AreAutomata names) (sym whole) are,
+        light,
+      );
+      texts = (ap (heading_text second_version names) (sym whole), ap (λ (l : List Automaton). body_text names (by_number (number_in names l)) c) (sym whole));
+    }
   where
     number : Automaton → ℕ
     number = number_in names all
@@ -176,11 +191,14 @@ second_front c names all given used plain plain_all along body met =
         omega (arith, sum, most, ap (unfolded_length names) tells)
 
     short : AreShort (by_number (number_in names all))
-    short = λ a. let most = place_most (automaton_text names a) (texts_of names all) in let q : place_among (automaton_text names a) (texts_of names all) ≤ largest = omega (arith, most, size, few) in q
+    short = λ a. let most = place_most (automaton_text names a) (texts_of names all) in let q : place_among (automaton_text names a) (texts_of names all) ≤ largest =
+        omega (arith, most, size, few) in q
 
-first_front : (c : Certificate) (names : NameTable) (all : List Automaton) (given : Option Bool) (used : ℕ) → all ≡ [] → IsPlainBy first_version all c → Along names (λ u. heading_marks u in_full all ++ body_marks u in_full given c) → Front first_version names all c (drop used all)
+first_front : (c : Certificate) (names : NameTable) (all : List Automaton) (given : Option Bool) (used : ℕ) → all ≡ [] → IsPlainBy first_version all c
+    → Along names (λ u. heading_marks u in_full all ++ body_marks u in_full given c) → Front first_version names all c (drop used all)
 first_front c names all given used none plain along = record {
-  within = body_within first_version [] names tt c given (subst (λ (l : List Automaton). IsPlainBy first_version l c) none plain) (record { named = along.named; passed = along.passed.1; found = along.found });
+  within = body_within first_version [] names tt c given (subst (λ (l : List Automaton). IsPlainBy first_version l c) none plain)
+      (record { named = along.named; passed = along.passed.1; found = along.found });
   short = tt;
   heading = tt;
   are_left = ap (drop used) none ∙ nothing used;
@@ -198,21 +216,26 @@ record FrontText (names : NameTable) (u : Uses) (all : List Automaton) (given : 
   is_answer : (answer ≡ []) ⊎ (answer ≡ codes "YES\n")
   text : marks_text (front_marks (name_of names) u all given c) ≡ answer ++ (heading_text (version_of u) names all ++ body_text names u c)
 
-front_text : (names : NameTable) (u : Uses) (all : List Automaton) (given : Option Bool) (c : Certificate) → AreShort u → HasHeading names u all → answer_of c ≡ true → IsWithin names c → Pass names (body_marks (name_of names) u given c) → FrontText names u all given c
+front_text : (names : NameTable) (u : Uses) (all : List Automaton) (given : Option Bool) (c : Certificate) → AreShort u → HasHeading names u all → answer_of c ≡ true
+    → IsWithin names c → Pass names (body_marks (name_of names) u given c) → FrontText names u all given c
 front_text names u all given c s k sure w p = by given refl
   where
-    spelt : (g : Option Bool) → is_answer true g ≡ true → marks_text (heading_marks (name_of names) u all ++ body_marks (name_of names) u g c) ≡ heading_text (version_of u) names all ++ body_text names u c
-    spelt g e = (put_both names (heading_marks (name_of names) u all) (body_marks (name_of names) u g c) (heading_text (version_of u) names all) (body_text names u c) (spelt_heading u names all k) (spelt_body c names u g s (ap (λ (t : Bool). is_answer t g) sure ∙ e) w)).text
+    spelt : (g : Option Bool) → is_answer true g ≡ true
+        → marks_text (heading_marks (name_of names) u all ++ body_marks (name_of names) u g c) ≡ heading_text (version_of u) names all ++ body_text names u c
+    spelt g e = (put_both names (heading_marks (name_of names) u all) (body_marks (name_of names) u g c) (heading_text (version_of u) names all) (body_text names u c)
+        (spelt_heading u names all k) (spelt_body c names u g s (ap (λ (t : Bool). is_answer t g) sure ∙ e) w)).text
 
     by : (g : Option Bool) → given ≡ g → FrontText names u all given c
     by None e = subst (λ (g : Option Bool). FrontText names u all g c) (sym e) (record { answer = []; is_answer = inl refl; text = spelt None refl })
-    by (Some true) e = subst (λ (g : Option Bool). FrontText names u all g c) (sym e) (record { answer = codes "YES\n"; is_answer = inr refl; text = ap (λ (t : List ℕ). codes "YES\n" ++ t) (spelt (Some true) refl) })
+    by (Some true) e = subst (λ (g : Option Bool). FrontText names u all g c) (sym e)
+        (record { answer = codes "YES\n"; is_answer = inr refl; text = ap (λ (t : List ℕ). codes "YES\n" ++ t) (spelt (Some true) refl) })
     by (Some false) e = let not_yes : false ≡ true = answered c names u false (subst (λ (g : Option Bool). Pass names (body_marks (name_of names) u g c)) e p) ∙ sure in absurd cc
 
 -- ---- what is read
 
 -- behind the answer, which asks nothing of shared automata
-pub behind_answer : (given : Option Bool) (ms : List Mark) (used : ℕ) → PassShares nothing_shared (answer_marks given ++ ms) → (behind_marks (answer_marks given ++ ms) nothing_shared).used ≡ used → (b : List ℕ) × (PassShares (state [] b 0 0) ms × ((behind_marks ms (state [] b 0 0)).used ≡ used))
+pub behind_answer : (given : Option Bool) (ms : List Mark) (used : ℕ) → PassShares nothing_shared (answer_marks given ++ ms)
+    → (behind_marks (answer_marks given ++ ms) nothing_shared).used ≡ used → (b : List ℕ) × (PassShares (state [] b 0 0) ms × ((behind_marks ms (state [] b 0 0)).used ≡ used))
 behind_answer None ms used h e = ([], (h, e))
 behind_answer (Some true) ms used h e = (codes "YES\n", (h.1, e))
 behind_answer (Some false) ms used h e = (codes "NO\n", (h.1, e))
@@ -223,16 +246,20 @@ body_along {names} given f a = (split {names = names} (λ u. answer_marks given)
 front_of : (v : Version) (c : Certificate) (names : NameTable) (all : List Automaton) (given : Option Bool) (used : ℕ) → CanShare v all → IsPlainBy v all c → ArePlainAutomata all
     → Along names (λ u. heading_marks u (uses_with v names all) all ++ body_marks u (uses_with v names all) given c)
     → (b : List ℕ) → PassShares (state [] b 0 0) (heading_marks (name_of names) (uses_with v names all) all ++ body_marks (name_of names) (uses_with v names all) given c)
-    → (behind_marks (heading_marks (name_of names) (uses_with v names all) all ++ body_marks (name_of names) (uses_with v names all) given c) (state [] b 0 0)).used ≡ used → Front v names all c (drop used all)
+    → (behind_marks (heading_marks (name_of names) (uses_with v names all) all ++ body_marks (name_of names) (uses_with v names all) given c) (state [] b 0 0)).used ≡ used
+    → Front v names all c (drop used all)
 front_of first_version c names all given used none p q a b h e = first_front c names all given used none p a
 front_of second_version c names all given used share p q a b h e =
     let parts = split {names = names} (λ u. heading_marks u (uses_with second_version names all) all) (λ u. body_marks u (uses_with second_version names all) given c) a in
     second_front c names all given used p q parts.0 parts.1 (front_met (name_of names) (number_in names all) all given c b used h e)
 
-pub front_found : (v : Version) (all : List Automaton) (names : NameTable) (bytes left : List ℕ) (given : Option Bool) (o : Opening) (es : List PairEntry) (at used : ℕ) → CanShare v all → IsPlainBy v all (certificate_for o es) → ArePlainAutomata all
-    → Along names (λ u. front_marks u (uses_with v names all) all given (certificate_for o es)) → PassShares nothing_shared (front_marks (name_of names) (uses_with v names all) all given (certificate_for o es))
+pub front_found : (v : Version) (all : List Automaton) (names : NameTable) (bytes left : List ℕ) (given : Option Bool) (o : Opening) (es : List PairEntry) (at used : ℕ)
+    → CanShare v all → IsPlainBy v all (certificate_for o es) → ArePlainAutomata all
+    → Along names (λ u. front_marks u (uses_with v names all) all given (certificate_for o es))
+    → PassShares nothing_shared (front_marks (name_of names) (uses_with v names all) all given (certificate_for o es))
     → (behind_marks (front_marks (name_of names) (uses_with v names all) all given (certificate_for o es)) nothing_shared).used ≡ used
-    → bytes ≡ marks_text (front_marks (name_of names) (uses_with v names all) all given (certificate_for o es)) ++ left → at + length left ≡ length bytes → IsReadTo names bytes o es at v (drop used all) left
+    → bytes ≡ marks_text (front_marks (name_of names) (uses_with v names all) all given (certificate_for o es)) ++ left → at + length left ≡ length bytes
+    → IsReadTo names bytes o es at v (drop used all) left
 front_found v all names bytes left given o es at used share p q a h e text place =
     record {
       read = record {
@@ -270,9 +297,13 @@ front_found v all names bytes left given o es at used share p q a h e text place
         front_of v (certificate_for o es) names all given used share p q rest b.0 b.1.0 b.1.1
 
     t : FrontText names (uses_with v names all) all given (certificate_for o es)
-    t = front_text names (uses_with v names all) all given (certificate_for o es) k.short k.heading (told_is o es) k.within (pass_append names (heading_marks (name_of names) (uses_with v names all) all) (body_marks (name_of names) (uses_with v names all) given (certificate_for o es)) rest.passed).1
+    t = front_text names (uses_with v names all) all given (certificate_for o es) k.short k.heading (told_is o es) k.within
+        (pass_append names (heading_marks (name_of names) (uses_with v names all) all)
+        (body_marks (name_of names) (uses_with v names all) given (certificate_for o es)) rest.passed).1
 
-    same : marks_text (front_marks (name_of names) (uses_with v names all) all given (certificate_for o es)) ≡ t.answer ++ (heading_text v names (shared_by names (certificate_for o es) ++ drop used all) ++ body_text names (uses_with v names (shared_by names (certificate_for o es) ++ drop used all)) (certificate_for o es))
+    same : marks_text (front_marks (name_of names) (uses_with v names all) all given (certificate_for o es)) ≡ t.answer
+        ++ (heading_text v names (shared_by names (certificate_for o es) ++ drop used all) ++ body_text names
+        (uses_with v names (shared_by names (certificate_for o es) ++ drop used all)) (certificate_for o es))
     same =
         t.text ∙ ap (λ (w : Version). t.answer ++ (heading_text w names all ++ body_text names (uses_with v names all) (certificate_for o es))) (same_version v names all)
         ∙ ap (λ (w : List ℕ). t.answer ++ (w ++ body_text names (uses_with v names all) (certificate_for o es))) k.texts.0

@@ -47,16 +47,20 @@ drop_whole [] (suc n) e = refl
 all_used : (names : NameTable) (c : Certificate) (all : List Automaton) → shared_by names c ++ drop (length all) all ≡ shared_by names c
 all_used names c all = ap (λ (l : List Automaton). shared_by names c ++ l) (drop_whole all (length all) refl) ∙ append-nil (shared_by names c)
 
-second_text : (c : Certificate) (names : NameTable) (all : List Automaton) (given : Option Bool) (bytes : List ℕ) → Front second_version names all c (drop (length all) all) → Pass names (body_marks (name_of names) (by_number (number_in names all)) given c)
-    → bytes ≡ marks_text (certificate_marks (name_of names) (by_number (number_in names all)) all given c) → (bytes ≡ certificate_text second_version names c) ⊎ (bytes ≡ answer_line c ++ certificate_text second_version names c)
+second_text : (c : Certificate) (names : NameTable) (all : List Automaton) (given : Option Bool) (bytes : List ℕ) → Front second_version names all c (drop (length all) all)
+    → Pass names (body_marks (name_of names) (by_number (number_in names all)) given c)
+    → bytes ≡ marks_text (certificate_marks (name_of names) (by_number (number_in names all)) all given c) → (bytes ≡ certificate_text second_version names c)
+    ⊎ (bytes ≡ answer_line c ++ certificate_text second_version names c)
 second_text c names all given bytes front p e = by given p e
   where
     same : heading_text second_version names all ++ (body_text names (by_number (number_in names all)) c ++ codes "end\n") ≡ certificate_text second_version names c
     same =
         ap (λ (t : List ℕ). t ++ (body_text names (by_number (number_in names all)) c ++ codes "end\n")) (front.texts.0 ∙ ap (heading_text second_version names) (all_used names c all))
-        ∙ ap (λ (t : List ℕ). heading_text second_version names (shared_by names c) ++ (t ++ codes "end\n")) (front.texts.1 ∙ ap (λ (l : List Automaton). body_text names (by_number (number_in names l)) c) (all_used names c all))
+        ∙ ap (λ (t : List ℕ). heading_text second_version names (shared_by names c) ++ (t ++ codes "end\n"))
+        (front.texts.1 ∙ ap (λ (l : List Automaton). body_text names (by_number (number_in names l)) c) (all_used names c all))
 
-    by : (g : Option Bool) → Pass names (body_marks (name_of names) (by_number (number_in names all)) g c) → bytes ≡ marks_text (certificate_marks (name_of names) (by_number (number_in names all)) all g c)
+    by : (g : Option Bool) → Pass names (body_marks (name_of names) (by_number (number_in names all)) g c)
+        → bytes ≡ marks_text (certificate_marks (name_of names) (by_number (number_in names all)) all g c)
         → (bytes ≡ certificate_text second_version names c) ⊎ (bytes ≡ answer_line c ++ certificate_text second_version names c)
     by None p e = inl (e ∙ (spelt_alone c names (by_number (number_in names all)) all front.short front.heading front.within).text ∙ same)
     by (Some b) p e = inr (
@@ -65,8 +69,10 @@ second_text c names all given bytes front p e = by given p e
         )
 
 -- what passes along the marks of this certificate is its text
-second_found : (c : Certificate) (names : NameTable) (all : List Automaton) (given : Option Bool) (bytes : List ℕ) → IsPlainBy second_version all c → ArePlainAutomata all → Along names (λ u. certificate_marks u (by_number (number_in names all)) all given c)
-    → PassShares nothing_shared (certificate_marks (name_of names) (by_number (number_in names all)) all given c) → bytes ≡ marks_text (certificate_marks (name_of names) (by_number (number_in names all)) all given c) → IsVersionText second_version names bytes c
+second_found : (c : Certificate) (names : NameTable) (all : List Automaton) (given : Option Bool) (bytes : List ℕ) → IsPlainBy second_version all c → ArePlainAutomata all
+    → Along names (λ u. certificate_marks u (by_number (number_in names all)) all given c)
+    → PassShares nothing_shared (certificate_marks (name_of names) (by_number (number_in names all)) all given c)
+    → bytes ≡ marks_text (certificate_marks (name_of names) (by_number (number_in names all)) all given c) → IsVersionText second_version names bytes c
 second_found c names all given bytes p q h s e =
     let x = name_of names in
     let u = by_number (number_in names all) in
@@ -84,20 +90,28 @@ second_found c names all given bytes p q h s e =
 
 -- ---- of either version
 
-pub found_by : (v : Version) (c : Certificate) (names : NameTable) (all : List Automaton) (given : Option Bool) (bytes : List ℕ) (s t : Shared) → s ≡ nothing_shared → CanShare v all → IsPlainBy v all c → ArePlainAutomata all
+pub found_by : (v : Version) (c : Certificate) (names : NameTable) (all : List Automaton) (given : Option Bool) (bytes : List ℕ) (s t : Shared) → s ≡ nothing_shared
+    → CanShare v all → IsPlainBy v all c → ArePlainAutomata all
     → Run names (length bytes) (opening ∷ []) (λ u. certificate_marks u (uses_with v names all) all given c) [] bytes [] s t → IsCertificateText names bytes c
 found_by first_version c names all given bytes s t fresh none p q r =
     let ms = certificate_marks (name_of names) in_full all given c in
-    let w = r.walks (omega arith) [] in
-    (first_version, certificate_found c names given bytes (subst (λ (l : List Automaton). IsPlainBy first_version l c) none p) (walks_named names ms _ _ w) (walks_pass names ms _ _ w) r.found (walks_text names ms _ _ w ∙ append-nil (marks_text ms)))
+    let w = r.walks (omega arith) [] in (
+      first_version,
+      certificate_found c names given bytes (subst (λ (l : List Automaton). IsPlainBy first_version l c) none p) (walks_named names ms _ _ w)
+          (walks_pass names ms _ _ w) r.found (walks_text names ms _ _ w ∙ append-nil (marks_text ms)),
+    )
 found_by second_version c names all given bytes s t fresh share p q r =
     let ms = certificate_marks (name_of names) (by_number (number_in names all)) all given c in
     let w = r.walks (omega arith) [] in
-    let keeps = r.shares (omega arith) [] in
-    (second_version, second_found c names all given bytes p q (record { named = walks_named names ms _ _ w; passed = walks_pass names ms _ _ w; found = r.found }) (subst (λ (z : Shared). PassShares z ms) (ap (with_begun []) fresh) keeps.0) (walks_text names ms _ _ w ∙ append-nil (marks_text ms)))
+    let keeps = r.shares (omega arith) [] in (
+      second_version,
+      second_found c names all given bytes p q (record { named = walks_named names ms _ _ w; passed = walks_pass names ms _ _ w; found = r.found })
+          (subst (λ (z : Shared). PassShares z ms) (ap (with_begun []) fresh) keeps.0) (walks_text names ms _ _ w ∙ append-nil (marks_text ms)),
+    )
 
 -- a text that is read to its end is that of the certificate
-pub whole_read : (names : NameTable) (bytes : List ℕ) (c : Certificate) (s t : Reading) → s.left.now ≡ bytes → s.shares ≡ nothing_shared → s.refused ≡ None → t.refused ≡ None → t.left.now ≡ [] → ReadsCertificate names (length bytes) c s t → IsCertificateText names bytes c
+pub whole_read : (names : NameTable) (bytes : List ℕ) (c : Certificate) (s t : Reading) → s.left.now ≡ bytes → s.shares ≡ nothing_shared → s.refused ≡ None → t.refused ≡ None
+    → t.left.now ≡ [] → ReadsCertificate names (length bytes) c s t → IsCertificateText names bytes c
 whole_read names bytes c s t begins fresh none still ends h =
     let r = ran none still h.read in
     let k = h.plain still in

@@ -100,7 +100,8 @@ is_some a b e = cc
 pub at_place : (all : List Automaton) (a : Automaton) (n : ℕ) → 1 ≤ n → n ≤ length all → slice_get all (n - 1) ≡ Some a → pick all n ≡ a
 at_place all a n low high e = is_some (pick all n) a (sym (pick_stands all n low high) ∙ e)
 
-used_within : (v : Version) (all : List Automaton) (names : NameTable) → AreAutomata names all → (a : Automaton) → IsUsed v all a → Along names (λ u. use_marks u (uses_with v names all) a) → IsAutomaton names a
+used_within : (v : Version) (all : List Automaton) (names : NameTable) → AreAutomata names all → (a : Automaton) → IsUsed v all a
+    → Along names (λ u. use_marks u (uses_with v names all) a) → IsAutomaton names a
 used_within first_version all names are a p h = automaton_within a names p h.named h.passed.1 h.found
 used_within second_version all names are a p h = subst (IsAutomaton names) (at_place all a p.0 p.1 p.2 p.3) (pick_is names all p.0 are p.1 p.2)
 
@@ -168,7 +169,11 @@ module _ (v : Version) (all : List Automaton) (names : NameTable) (are : AreAuto
   steps_within (dropped r e ∷ ss) p h =
       let parts = split {names = names} (λ u. fixed (codes "drop ") ∷ number r ∷ fixed (codes " ") ∷ infeasibility_marks u uses e) (λ u. simplifications_marks u uses ss) h in
       (number_met names r [] parts.0.passed.1.0, infeasibility_within e p.0 (record { named = parts.0.named; passed = parts.0.passed.1.1.1; found = parts.0.found }), steps_within ss p.1 parts.1)
-  steps_within (inlined r k ∷ ss) p h = (number_met names r [] h.passed.1.0, number_met names k [] h.passed.1.1.1.0, steps_within ss p (record { named = h.named; passed = h.passed.1.1.1.1.1; found = h.found }))
+  steps_within (inlined r k ∷ ss) p h = (
+    number_met names r [] h.passed.1.0,
+    number_met names k [] h.passed.1.1.1.0,
+    steps_within ss p (record { named = h.named; passed = h.passed.1.1.1.1.1; found = h.found }),
+  )
 
   pub body_within : (c : Certificate) (given : Option Bool) → IsPlainBy v all c → Along names (λ u. body_marks u uses given c) → IsWithin names c
   body_within (ortho_certificate ps) given p h =
@@ -179,11 +184,19 @@ module _ (v : Version) (all : List Automaton) (names : NameTable) (are : AreAuto
       let k = pairs_within ps 1 (omega arith) p.1 parts.1 in
       (measure_within m names parts.0, (let q : length ps ≤ 20000 = omega (arith, k.few) in q), k.are)
   body_within (peak_certificate x) given p h =
-      let a = split {names = names} (λ u. term_marks u 1 1 x.start) (λ u. fixed (codes "\n") ∷ (derivation_marks x.first ++ (derivation_marks x.second ++ apart_marks u uses x.apart))) (record { named = h.named; passed = h.passed.1.1.1; found = h.found }) in
-      let b = split {names = names} (λ u. derivation_marks x.first) (λ u. derivation_marks x.second ++ apart_marks u uses x.apart) (record { named = a.1.named; passed = a.1.passed.1; found = a.1.found }) in
+      let a = split {names = names} (λ u. term_marks u 1 1 x.start)
+      (λ u. fixed (codes "\n") ∷ (derivation_marks x.first ++ (derivation_marks x.second ++ apart_marks u uses x.apart)))
+      (record { named = h.named; passed = h.passed.1.1.1; found = h.found }) in
+      let b = split {names = names} (λ u. derivation_marks x.first) (λ u. derivation_marks x.second ++ apart_marks u uses x.apart)
+      (record { named = a.1.named; passed = a.1.passed.1; found = a.1.found }) in
       let d = split {names = names} (λ u. derivation_marks x.second) (λ u. apart_marks u uses x.apart) b.1 in
-      let t = term_within x.start names 1 1 a.0.named a.0.passed a.0.found in
-      (t.spelt, record { nodes = omega (arith, t.few, t.low); levels = omega (arith, t.few, t.low) }, derivation_met x.first names b.0.passed, derivation_met x.second names d.0.passed, apart_within x.apart p d.1)
+      let t = term_within x.start names 1 1 a.0.named a.0.passed a.0.found in (
+        t.spelt,
+        record { nodes = omega (arith, t.few, t.low); levels = omega (arith, t.few, t.low) },
+        derivation_met x.first names b.0.passed,
+        derivation_met x.second names d.0.passed,
+        apart_within x.apart p d.1,
+      )
   body_within (simplified_certificate ss c) given p h =
       let n = length ss in
       let bounds = range_met names 0 1 (suc largest) n (is_few marks.simplifications n ∷ []) h.passed.1.0 in
@@ -203,12 +216,14 @@ pub answered : (c : Certificate) (names : NameTable) (w : Uses) (given : Bool) �
 answered (ortho_certificate ps) names w given h = sym (told_is true given (first_met names (fits_answer true (Some given)) [] h.0).0)
 answered (quasi_certificate m ps) names w given h = sym (told_is true given (first_met names (fits_answer true (Some given)) [] h.0).0)
 answered (peak_certificate x) names w given h = sym (told_is false given (first_met names (fits_answer false (Some given)) [] h.0).0)
-answered (simplified_certificate ss c) names w given h = answered c names w given (pass_append names (simplifications_marks (name_of names) w ss) (body_marks (name_of names) w (Some given) c) h.1.1.1).1
+answered (simplified_certificate ss c) names w given h = answered c names w given
+    (pass_append names (simplifications_marks (name_of names) w ss) (body_marks (name_of names) w (Some given) c) h.1.1.1).1
 
 -- ---- in the first version
 
 -- what passes along the marks of this certificate is its text
-pub certificate_found : (c : Certificate) (names : NameTable) (given : Option Bool) (bytes : List ℕ) → IsPlain c → HaveNames (certificate_marks (name_of names) in_full [] given c) → Pass names (certificate_marks (name_of names) in_full [] given c) → AreFound names (certificate_marks tagged in_full [] given c)
+pub certificate_found : (c : Certificate) (names : NameTable) (given : Option Bool) (bytes : List ℕ) → IsPlain c → HaveNames (certificate_marks (name_of names) in_full [] given c)
+    → Pass names (certificate_marks (name_of names) in_full [] given c) → AreFound names (certificate_marks tagged in_full [] given c)
     → bytes ≡ marks_text (certificate_marks (name_of names) in_full [] given c) → IsVersionText first_version names bytes c
 certificate_found c names given bytes p n h f e =
     let whole : Along names (λ u. answer_marks given ++ (heading_marks u in_full [] ++ (body_marks u in_full given c ++ closing))) = record { named = n; passed = h; found = f } in
@@ -217,6 +232,8 @@ certificate_found c names given bytes p n h f e =
     let within = body_within first_version [] names tt c given p body in
     record { spelt = (plain_version first_version [] c p, within, tt); text = by given within body.passed e }
   where
-    by : (g : Option Bool) → IsWithin names c → Pass names (body_marks (name_of names) in_full g c) → bytes ≡ marks_text (certificate_marks (name_of names) in_full [] g c) → (bytes ≡ certificate_text first_version names c) ⊎ (bytes ≡ answer_line c ++ certificate_text first_version names c)
+    by : (g : Option Bool) → IsWithin names c → Pass names (body_marks (name_of names) in_full g c) → bytes ≡ marks_text (certificate_marks (name_of names) in_full [] g c)
+        → (bytes ≡ certificate_text first_version names c) ⊎ (bytes ≡ answer_line c ++ certificate_text first_version names c)
     by None k w e = inl (e ∙ (spelt_alone c names in_full [] tt tt k).text)
-    by (Some b) k w e = inr (e ∙ ap (λ (b : Bool). marks_text (certificate_marks (name_of names) in_full [] (Some b) c)) (answered c names in_full b w) ∙ (spelt_answered c names in_full [] tt tt k).text)
+    by (Some b) k w e = inr (e ∙ ap (λ (b : Bool). marks_text (certificate_marks (name_of names) in_full [] (Some b) c)) (answered c names in_full b w)
+        ∙ (spelt_answered c names in_full [] tt tt k).text)

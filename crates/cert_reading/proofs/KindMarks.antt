@@ -7,7 +7,8 @@ use Rattle.cert_reading.specs.declared.headings.Kind.{Kind}
 use Rattle.cert_reading.specs.declared.headings.Kind.TheVariants.{Ortho, Quasi, Peak}
 use Rattle.cert_reading.specs.Headings.{first_marks, kind_mark, behind_kind, IsOfKind}
 
-pub kind_marks : (u : Naming) (w : Uses) (given : Option Bool) (kind : Kind) (c : Certificate) → IsOfKind kind c → kind_mark given kind ∷ fixed (codes "\n") ∷ behind_kind u w c ≡ body_marks u w given c
+pub kind_marks : (u : Naming) (w : Uses) (given : Option Bool) (kind : Kind) (c : Certificate) → IsOfKind kind c
+    → kind_mark given kind ∷ fixed (codes "\n") ∷ behind_kind u w c ≡ body_marks u w given c
 kind_marks u w given kind (simplified_certificate ss c) e = absurd e
 kind_marks u w given kind c e = ap (λ (k : Kind). kind_mark given k ∷ fixed (codes "\n") ∷ behind_kind u w c) e
 

@@ -13,7 +13,8 @@ coefficient_marks n k = fixed (codes " ") ∷ word (numeral k) (in_range 0 0 (su
 
 pub coefficients_push : (n m : ℕ) (ks : List ℕ) (k : ℕ) → m ≡ n + length ks → coefficients_marks n ks ++ coefficient_marks m k ≡ coefficients_marks n (ks ++ k ∷ [])
 coefficients_push n m [] k e = let q : m ≡ n = omega (arith, e) in ap (λ (j : ℕ). coefficient_marks j k) q
-coefficients_push n m (j ∷ ks) k e = ap (λ (ms : List Mark). fixed (codes " ") ∷ word (numeral j) (in_range 0 0 (suc largest) j ∷ is_few numbers n ∷ []) ∷ ms) (coefficients_push (suc n) m ks k (omega (arith, e)))
+coefficients_push n m (j ∷ ks) k e = ap (λ (ms : List Mark). fixed (codes " ") ∷ word (numeral j) (in_range 0 0 (suc largest) j ∷ is_few numbers n ∷ []) ∷ ms)
+    (coefficients_push (suc n) m ks k (omega (arith, e)))
 
 -- one item more, with its number
 push : {A B : Type 0} (f : A → B) (marks : ℕ → List B → List Mark) → ((n : ℕ) → marks n [] ≡ []) → ((n : ℕ) (b : B) (bs : List B) → marks n (b ∷ bs) ≡ marks n (b ∷ []) ++ marks (suc n) bs)
@@ -25,10 +26,12 @@ push f marks none more n m (b ∷ done) a e =
 
 -- the line of an overlap, and that of a redex
 abbrev pub pair_line_by : Naming → Uses → ℕ → PairEntry → List Mark
-pair_line_by u w n p = word (codes "pair") (is_few pairs n ∷ []) ∷ fixed (codes " ") ∷ number p.inner ∷ fixed (codes " ") ∷ position p.position ∷ fixed (codes " ") ∷ number p.outer ∷ fixed (codes " ") ∷ evidence_marks u w p.evidence
+pair_line_by u w n p = word (codes "pair") (is_few pairs n ∷ []) ∷ fixed (codes " ") ∷ number p.inner ∷ fixed (codes " ") ∷ position p.position ∷ fixed (codes " ") ∷ number p.outer
+    ∷ fixed (codes " ") ∷ evidence_marks u w p.evidence
 
 abbrev pub redex_line_by : Naming → Uses → ℕ → Redex → List Mark
-redex_line_by u w n r = word (codes "redex") (is_few redexes n ∷ []) ∷ fixed (codes " ") ∷ number r.which ∷ fixed (codes " ") ∷ position r.position ∷ fixed (codes " ") ∷ number r.rule ∷ fixed (codes " ") ∷ infeasibility_marks u w r.evidence
+redex_line_by u w n r = word (codes "redex") (is_few redexes n ∷ []) ∷ fixed (codes " ") ∷ number r.which ∷ fixed (codes " ") ∷ position r.position ∷ fixed (codes " ")
+    ∷ number r.rule ∷ fixed (codes " ") ∷ infeasibility_marks u w r.evidence
 
 entries_first : (u : Naming) (n : ℕ) (e : LinearEntry) (es : List LinearEntry) → entries_marks u n (e ∷ es) ≡ entries_marks u n (e ∷ []) ++ entries_marks u (suc n) es
 entries_first u n e es = ap (λ (ms : List Mark). ms ++ entries_marks u (suc n) es) (sym (append-nil _))
@@ -42,26 +45,32 @@ pairs_first u w n p ps = ap (λ (ms : List Mark). ms ++ pairs_marks u w (suc n) 
 redexes_first : (u : Naming) (w : Uses) (n : ℕ) (r : Redex) (rs : List Redex) → redexes_marks u w n (r ∷ rs) ≡ redexes_marks u w n (r ∷ []) ++ redexes_marks u w (suc n) rs
 redexes_first u w n r rs = ap (λ (ms : List Mark). ms ++ redexes_marks u w (suc n) rs) (sym (append-nil (redex_line_by u w n r)))
 
-pub entries_push : {A : Type 0} (f : A → LinearEntry) (u : Naming) (n m : ℕ) (done : List A) (a : A) → m ≡ n + length done → entries_marks u n (map f done) ++ entries_marks u m (f a ∷ []) ≡ entries_marks u n (map f (done ++ a ∷ []))
+pub entries_push : {A : Type 0} (f : A → LinearEntry) (u : Naming) (n m : ℕ) (done : List A) (a : A) → m ≡ n + length done
+    → entries_marks u n (map f done) ++ entries_marks u m (f a ∷ []) ≡ entries_marks u n (map f (done ++ a ∷ []))
 entries_push f u n m done a e = push f (entries_marks u) (λ k. refl) (entries_first u) n m done a e
 
-pub heads_push : {A : Type 0} (f : A → Head) (u : Naming) (n m : ℕ) (done : List A) (a : A) → m ≡ n + length done → heads_marks u n (map f done) ++ heads_marks u m (f a ∷ []) ≡ heads_marks u n (map f (done ++ a ∷ []))
+pub heads_push : {A : Type 0} (f : A → Head) (u : Naming) (n m : ℕ) (done : List A) (a : A) → m ≡ n + length done
+    → heads_marks u n (map f done) ++ heads_marks u m (f a ∷ []) ≡ heads_marks u n (map f (done ++ a ∷ []))
 heads_push f u n m done a e = push f (heads_marks u) (λ k. refl) (heads_first u) n m done a e
 
-pub pairs_push : {A : Type 0} (f : A → PairEntry) (u : Naming) (w : Uses) (n m : ℕ) (done : List A) (a : A) → m ≡ n + length done → pairs_marks u w n (map f done) ++ pairs_marks u w m (f a ∷ []) ≡ pairs_marks u w n (map f (done ++ a ∷ []))
+pub pairs_push : {A : Type 0} (f : A → PairEntry) (u : Naming) (w : Uses) (n m : ℕ) (done : List A) (a : A) → m ≡ n + length done
+    → pairs_marks u w n (map f done) ++ pairs_marks u w m (f a ∷ []) ≡ pairs_marks u w n (map f (done ++ a ∷ []))
 pairs_push f u w n m done a e = push f (pairs_marks u w) (λ k. refl) (pairs_first u w) n m done a e
 
-pub redexes_push : {A : Type 0} (f : A → Redex) (u : Naming) (w : Uses) (n m : ℕ) (done : List A) (a : A) → m ≡ n + length done → redexes_marks u w n (map f done) ++ redexes_marks u w m (f a ∷ []) ≡ redexes_marks u w n (map f (done ++ a ∷ []))
+pub redexes_push : {A : Type 0} (f : A → Redex) (u : Naming) (w : Uses) (n m : ℕ) (done : List A) (a : A) → m ≡ n + length done
+    → redexes_marks u w n (map f done) ++ redexes_marks u w m (f a ∷ []) ≡ redexes_marks u w n (map f (done ++ a ∷ []))
 redexes_push f u w n m done a e = push f (redexes_marks u w) (λ k. refl) (redexes_first u w) n m done a e
 
-pub plain_pairs : {A : Type 0} (v : Version) (all : List Automaton) (f : A → PairEntry) (done after : List A) (a : A) → after ≡ done ++ a ∷ [] → PairsUse v all (map f done) → EvidenceUses v all (f a).evidence → PairsUse v all (map f after)
+pub plain_pairs : {A : Type 0} (v : Version) (all : List Automaton) (f : A → PairEntry) (done after : List A) (a : A) → after ≡ done ++ a ∷ [] → PairsUse v all (map f done)
+    → EvidenceUses v all (f a).evidence → PairsUse v all (map f after)
 plain_pairs {A} v all f done after a e h k = subst (λ (xs : List A). PairsUse v all (map f xs)) (sym e) (by done h)
   where
     by : (xs : List A) → PairsUse v all (map f xs) → PairsUse v all (map f (xs ++ a ∷ []))
     by [] p = (k, tt)
     by (x ∷ xs) p = (p.0, by xs p.1)
 
-pub plain_redexes : {A : Type 0} (v : Version) (all : List Automaton) (f : A → Redex) (done after : List A) (a : A) → after ≡ done ++ a ∷ [] → RedexesUse v all (map f done) → HasUsed v all (f a).evidence → RedexesUse v all (map f after)
+pub plain_redexes : {A : Type 0} (v : Version) (all : List Automaton) (f : A → Redex) (done after : List A) (a : A) → after ≡ done ++ a ∷ [] → RedexesUse v all (map f done)
+    → HasUsed v all (f a).evidence → RedexesUse v all (map f after)
 plain_redexes {A} v all f done after a e h k = subst (λ (xs : List A). RedexesUse v all (map f xs)) (sym e) (by done h)
   where
     by : (xs : List A) → RedexesUse v all (map f xs) → RedexesUse v all (map f (xs ++ a ∷ []))
@@ -70,10 +79,12 @@ plain_redexes {A} v all f done after a e h k = subst (λ (xs : List A). RedexesU
 
 -- steps that simplify the system
 steps_first : (u : Naming) (w : Uses) (s : Simplification) (ss : List Simplification) → simplifications_marks u w (s ∷ ss) ≡ simplifications_marks u w (s ∷ []) ++ simplifications_marks u w ss
-steps_first u w (dropped rule e) ss = ap (λ (ms : List Mark). ms ++ simplifications_marks u w ss) (sym (append-nil (fixed (codes "drop ") ∷ number rule ∷ fixed (codes " ") ∷ infeasibility_marks u w e)))
+steps_first u w (dropped rule e) ss = ap (λ (ms : List Mark). ms ++ simplifications_marks u w ss)
+    (sym (append-nil (fixed (codes "drop ") ∷ number rule ∷ fixed (codes " ") ∷ infeasibility_marks u w e)))
 steps_first u w (inlined rule condition) ss = refl
 
-pub steps_push : {A : Type 0} (f : A → Simplification) (u : Naming) (w : Uses) (done : List A) (a : A) → simplifications_marks u w (map f done) ++ simplifications_marks u w (f a ∷ []) ≡ simplifications_marks u w (map f (done ++ a ∷ []))
+pub steps_push : {A : Type 0} (f : A → Simplification) (u : Naming) (w : Uses) (done : List A) (a : A)
+    → simplifications_marks u w (map f done) ++ simplifications_marks u w (f a ∷ []) ≡ simplifications_marks u w (map f (done ++ a ∷ []))
 steps_push f u w [] a = refl
 steps_push f u w (b ∷ done) a =
     ap (λ (ms : List Mark). ms ++ simplifications_marks u w (f a ∷ [])) (steps_first u w (f b) (map f done))
@@ -88,7 +99,8 @@ plain_one : (v : Version) (all : List Automaton) (s : Simplification) (ss : List
 plain_one v all (dropped rule e) ss h = ((h.0, tt), h.1)
 plain_one v all (inlined rule condition) ss h = (tt, h)
 
-pub plain_steps : {A : Type 0} (v : Version) (all : List Automaton) (f : A → Simplification) (done after : List A) (a : A) → after ≡ done ++ a ∷ [] → StepsUse v all (map f done) → StepsUse v all (f a ∷ []) → StepsUse v all (map f after)
+pub plain_steps : {A : Type 0} (v : Version) (all : List Automaton) (f : A → Simplification) (done after : List A) (a : A) → after ≡ done ++ a ∷ [] → StepsUse v all (map f done)
+    → StepsUse v all (f a ∷ []) → StepsUse v all (map f after)
 plain_steps {A} v all f done after a e h k = subst (λ (xs : List A). StepsUse v all (map f xs)) (sym e) (by done h)
   where
     by : (xs : List A) → StepsUse v all (map f xs) → StepsUse v all (map f (xs ++ a ∷ []))

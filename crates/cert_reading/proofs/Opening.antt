@@ -36,7 +36,8 @@ alone_early : (v : Version) (i : Item) → (i ≡ between line → ⊥) → (IsB
 alone_early v i end pairs (inl h) = pairs h
 alone_early v i end pairs (inr s) = end (same_item i (between line) s)
 
-pub other_item : (v : Version) (i : Item) (q : List ℕ) → (i ≡ between line → ⊥) → ((m : ℕ) → i ≡ pairs_from v m → ⊥) → ((m : ℕ) → i ≡ entries_from v m → ⊥) → ((m : ℕ) → i ≡ heads_from m → ⊥) → WithinOpening v (i ∷ []) q
+pub other_item : (v : Version) (i : Item) (q : List ℕ) → (i ≡ between line → ⊥) → ((m : ℕ) → i ≡ pairs_from v m → ⊥) → ((m : ℕ) → i ≡ entries_from v m → ⊥)
+    → ((m : ℕ) → i ≡ heads_from m → ⊥) → WithinOpening v (i ∷ []) q
 other_item v i q end pairs entries heads = record { early = alone_early v i end (λ h. pairs h.0 h.1); closed = λ j e h b. no_list v i j (same_item i j e) pairs entries heads h }
 
 -- a list, where no overlap and no last line may begin
@@ -81,7 +82,8 @@ head_at n = record {
 -- ---- the words
 
 abbrev pub first_lines : List Choice
-first_lines = record { bytes = codes "YES\n"; items = heading (Some true) ∷ [] } ∷ record { bytes = codes "NO\n"; items = heading (Some false) ∷ [] } ∷ record { bytes = codes "concon 1\n"; items = body first_version None ∷ [] } ∷ record { bytes = codes "concon 2\n"; items = shared_line None ∷ [] } ∷ []
+first_lines = record { bytes = codes "YES\n"; items = heading (Some true) ∷ [] } ∷ record { bytes = codes "NO\n"; items = heading (Some false) ∷ [] }
+    ∷ record { bytes = codes "concon 1\n"; items = body first_version None ∷ [] } ∷ record { bytes = codes "concon 2\n"; items = shared_line None ∷ [] } ∷ []
 
 abbrev pub versions : Option Bool → List Choice
 versions given = record { bytes = codes "concon 1\n"; items = body first_version given ∷ [] } ∷ record { bytes = codes "concon 2\n"; items = shared_line given ∷ [] } ∷ []
@@ -100,8 +102,12 @@ pub none_refused : (s : Reading) (P : CertError → Type 0) → s.refused ≡ No
 none_refused s P e = subst (λ (o : Option CertError). IfSome o P) (sym e) tt
 
 -- the word of a kind, behind an answer
-pub kind_read : (P : Place) (names : NameTable) (end : ℕ) (i : Item) (given : Option Bool) (kind : Bool) (w v rest : List ℕ) (new : List Item) (s t : Reading) (met : Bool) → P (i ∷ []) s.left.now → s.refused ≡ None → first_there (leads i) s.left.now ≡ Some (keyword w (fits_answer kind given ∷ []) new) → IsLeadRead (keyword w [] []) s.left.now v rest
-    → met ≡ is_answer kind given → (met ≡ true → (t.left.now ≡ rest) × (t.refused ≡ s.refused) × (t.shares ≡ s.shares)) → (met ≡ false → (t.left.now ≡ s.left.now) × (t.refused ≡ Some (CertSyntax 0)) × (t.shares ≡ s.shares)) → ReadsWhere P names end (i ∷ []) (λ u. word w (fits_answer kind given ∷ []) ∷ []) new s t
+pub kind_read : (P : Place) (names : NameTable) (end : ℕ) (i : Item) (given : Option Bool) (kind : Bool) (w v rest : List ℕ) (new : List Item) (s t : Reading) (met : Bool)
+    → P (i ∷ []) s.left.now → s.refused ≡ None → first_there (leads i) s.left.now ≡ Some (keyword w (fits_answer kind given ∷ []) new)
+    → IsLeadRead (keyword w [] []) s.left.now v rest
+    → met ≡ is_answer kind given → (met ≡ true → (t.left.now ≡ rest) × (t.refused ≡ s.refused) × (t.shares ≡ s.shares))
+    → (met ≡ false → (t.left.now ≡ s.left.now) × (t.refused ≡ Some (CertSyntax 0)) × (t.shares ≡ s.shares))
+    → ReadsWhere P names end (i ∷ []) (λ u. word w (fits_answer kind given ∷ []) ∷ []) new s t
 kind_read P names end i given kind w v rest new s t met place none first h m goes refused = by met refl
   where
     out : met ≡ false → IsStuckAt names end i s.left.now s.shares (Some (syntax, 0))
@@ -111,10 +117,13 @@ kind_read P names end i given kind w v rest new s t met place none first h m goe
     by true q =
         let run = keyword_run names end s.left.now s.shares i w v rest (fits_answer kind given ∷ []) new first h (λ at. rw (sym m ∙ q) refl) tt in
         word_where (λ x. place) (λ n. none_refused t (λ e. IsStuckAt names end i s.left.now s.shares (told e)) ((goes q).1 ∙ none))
-        (went none ((goes q).1 ∙ none) (front_same s.shares.texts t.shares.texts (ap (λ (z : Shared). z.texts) (goes q).2)) (subst (Run names end (i ∷ []) (λ u. word w (fits_answer kind given ∷ []) ∷ []) new s.left.now t.left.now s.shares) (sym (goes q).2) (subst (λ (r : List ℕ). Run names end (i ∷ []) (λ u. word w (fits_answer kind given ∷ []) ∷ []) new s.left.now r s.shares s.shares) (sym (goes q).0) run)))
+        (went none ((goes q).1 ∙ none) (front_same s.shares.texts t.shares.texts (ap (λ (z : Shared). z.texts) (goes q).2))
+        (subst (Run names end (i ∷ []) (λ u. word w (fits_answer kind given ∷ []) ∷ []) new s.left.now t.left.now s.shares) (sym (goes q).2)
+        (subst (λ (r : List ℕ). Run names end (i ∷ []) (λ u. word w (fits_answer kind given ∷ []) ∷ []) new s.left.now r s.shares s.shares) (sym (goes q).0) run)))
     by false q =
         word_where (λ x. place) (λ n. subst (λ (o : Option CertError). IfSome o (λ e. IsStuckAt names end i s.left.now s.shares (told e))) (sym (refused q).1) (out q))
-        (stopped (CertSyntax 0) none (refused q).1 (front_same s.shares.texts t.shares.texts (ap (λ (z : Shared). z.texts) (refused q).2)) (stuck_stops names end i s.left.now s.shares (Some (syntax, 0)) (out q)))
+        (stopped (CertSyntax 0) none (refused q).1 (front_same s.shares.texts t.shares.texts (ap (λ (z : Shared). z.texts) (refused q).2))
+        (stuck_stops names end i s.left.now s.shares (Some (syntax, 0)) (out q)))
 
 -- ---- where no overlap and no last line may begin
 
@@ -127,5 +136,6 @@ none_begins v n (b ∷ bytes) other = by (112 == b) refl (101 == b) refl
     by false p true q = absurd (other (inr (sym (eqb-true 101 b q))))
     by false p false q = rw (p, q) refl
 
-pub none_of_entries : (v : Version) (n : ℕ) (bytes : List ℕ) (fun aux : Lead) → is_there fun bytes ≡ false → is_there aux bytes ≡ false → (BeginsEntry bytes → ⊥) → first_there (fun ∷ aux ∷ pair_or_end v n) bytes ≡ None
+pub none_of_entries : (v : Version) (n : ℕ) (bytes : List ℕ) (fun aux : Lead) → is_there fun bytes ≡ false → is_there aux bytes ≡ false → (BeginsEntry bytes → ⊥)
+    → first_there (fun ∷ aux ∷ pair_or_end v n) bytes ≡ None
 none_of_entries v n bytes fun aux f a other = rw f (rw a (none_begins v n bytes other))

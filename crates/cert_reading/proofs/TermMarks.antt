@@ -13,7 +13,8 @@ commas u d n (t ∷ ts) = (term_marks u d n t ++ (fixed (codes ",") ∷ [])) ++ 
 same_term : (u : Naming) (d m n : ℕ) (t : Term) (e : Mark) → m ≡ n → term_marks u d m t ++ (e ∷ []) ≡ term_marks u d n t ++ (e ∷ [])
 same_term u d m n t e q = ap (λ (k : ℕ). term_marks u d k t ++ (e ∷ [])) q
 
-pub commas_push : (u : Naming) (d n m : ℕ) (ts : List Term) (t : Term) → m ≡ n + size_all (terms_of ts) → commas u d n ts ++ (term_marks u d m t ++ (fixed (codes ",") ∷ [])) ≡ commas u d n (ts ++ t ∷ [])
+pub commas_push : (u : Naming) (d n m : ℕ) (ts : List Term) (t : Term) → m ≡ n + size_all (terms_of ts)
+    → commas u d n ts ++ (term_marks u d m t ++ (fixed (codes ",") ∷ [])) ≡ commas u d n (ts ++ t ∷ [])
 commas_push u d n m [] t e = same_term u d m n t (fixed (codes ",")) (omega (arith, e)) ∙ sym (append-nil (term_marks u d n t ++ (fixed (codes ",") ∷ [])))
 commas_push u d n m (s ∷ ts) t e =
     append_assoc (term_marks u d n s ++ (fixed (codes ",") ∷ [])) (commas u d (n + size s) ts) (term_marks u d m t ++ (fixed (codes ",") ∷ []))
@@ -23,7 +24,8 @@ further_inner : (u : Naming) (d n : ℕ) (ts : List Term) (t : Term) → further
 further_inner u d n [] t = refl
 further_inner u d n (s ∷ ts) t = refl
 
-pub inner_push : (u : Naming) (d n m : ℕ) (ts : List Term) (t : Term) → m ≡ n + size_all (terms_of ts) → commas u d n ts ++ (term_marks u d m t ++ (fixed (codes ")") ∷ [])) ≡ inner_marks u d n (terms_of (ts ++ t ∷ []))
+pub inner_push : (u : Naming) (d n m : ℕ) (ts : List Term) (t : Term) → m ≡ n + size_all (terms_of ts)
+    → commas u d n ts ++ (term_marks u d m t ++ (fixed (codes ")") ∷ [])) ≡ inner_marks u d n (terms_of (ts ++ t ∷ []))
 inner_push u d n m [] t e = same_term u d m n t (fixed (codes ")")) (omega (arith, e))
 inner_push u d n m (s ∷ ts) t e =
     append_assoc (term_marks u d n s ++ (fixed (codes ",") ∷ [])) (commas u d (n + size s) ts) (term_marks u d m t ++ (fixed (codes ")") ∷ []))
@@ -45,7 +47,9 @@ arguments_inner u d n [] h = absurd (omega (arith, h))
 arguments_inner u d n (t ∷ ts) h = refl
 
 -- a symbol with its arguments, and a mark behind it
-pub symbol_closed : (u : Naming) (d n f k : ℕ) (ts : List Term) (m : Mark) → 0 < length ts → k ≡ length ts → symbol (u f) (is_node d n) ∷ fixed (codes "(") ∷ (inner_marks u (suc d) (suc n) (terms_of ts) ++ (behind (has_arity (u f) k) ∷ m ∷ [])) ≡ term_marks u d n (app f (terms_of ts)) ++ (m ∷ [])
+pub symbol_closed : (u : Naming) (d n f k : ℕ) (ts : List Term) (m : Mark) → 0 < length ts → k ≡ length ts
+    → symbol (u f) (is_node d n) ∷ fixed (codes "(") ∷ (inner_marks u (suc d) (suc n) (terms_of ts) ++ (behind (has_arity (u f) k) ∷ m ∷ [])) ≡ term_marks u d n
+    (app f (terms_of ts)) ++ (m ∷ [])
 symbol_closed u d n f k ts m h e =
     ap (λ (ms : List Mark). symbol (u f) (is_node d n) ∷ fixed (codes "(") ∷ ms)
     (ap (λ (j : ℕ). inner_marks u (suc d) (suc n) (terms_of ts) ++ (behind (has_arity (u f) j) ∷ m ∷ [])) (e ∙ sym (count_terms ts))

@@ -16,7 +16,8 @@ use Rattle.cert_reading.specs.Stops.{Place, ReadsOnWhere, ReadsWhere}
 use Rattle.cert_reading.proofs.Stopping.{open_before_where}
 
 -- marks behind which the same automata are known
-run_texts : (names : NameTable) (end : ℕ) (from to : List Item) (f : Naming → List Mark) (b r : List ℕ) (s t : Shared) (ns : List ℕ) → Counts (f (name_of names)) ns → length b ≤ end → Run names end from f to b r s t → t.texts ≡ s.texts
+run_texts : (names : NameTable) (end : ℕ) (from to : List Item) (f : Naming → List Mark) (b r : List ℕ) (s t : Shared) (ns : List ℕ) → Counts (f (name_of names)) ns
+    → length b ≤ end → Run names end from f to b r s t → t.texts ≡ s.texts
 run_texts names end from to f b r s t ns c le x = sym (ap (λ (z : Shared). z.texts) (x.shares le []).1) ∙ ap (λ (z : Shared). z.texts) (c.after s.texts [] s.used s.unfolds_to).1
 
 pub run_shorter : (names : NameTable) (end : ℕ) (from to : List Item) (f : Naming → List Mark) (b r : List ℕ) (s t : Shared) → length b ≤ end → Run names end from f to b r s t → length r ≤ end
@@ -24,23 +25,29 @@ run_shorter names end from to f b r s t le x =
     let less = walks_shorter names (f (name_of names)) (left_at end (from ++ []) b) (left_at end (to ++ []) r) (x.walks le []) in
     omega (arith, le, less)
 
-known_on : (names : NameTable) (end : ℕ) (from to : List Item) (f : Naming → List Mark) (b r : List ℕ) (s t : Shared) (all : List Automaton) (ns : List ℕ) → Counts (f (name_of names)) ns → (length b ≤ end) × IsKnown names all s → Run names end from f to b r s t → (length r ≤ end) × IsKnown names all t
+known_on : (names : NameTable) (end : ℕ) (from to : List Item) (f : Naming → List Mark) (b r : List ℕ) (s t : Shared) (all : List Automaton) (ns : List ℕ)
+    → Counts (f (name_of names)) ns → (length b ≤ end) × IsKnown names all s → Run names end from f to b r s t → (length r ≤ end) × IsKnown names all t
 known_on names end from to f b r s t all ns c h x = (run_shorter names end from to f b r s t h.0 x, (h.1.0, run_texts names end from to f b r s t ns c h.0 x ∙ h.1.1))
 
 -- what is known is known behind marks that end no automaton
-pub known_behind : {names : NameTable} {end : ℕ} {from to : List Item} {f : Naming → List Mark} {s t : Reading} (v : Version) (all : List Automaton) → Reads names end from f to s t → (ns : List ℕ) → Counts (f (name_of names)) ns → AreShared v names all end s → AreShared v names all end t
+pub known_behind : {names : NameTable} {end : ℕ} {from to : List Item} {f : Naming → List Mark} {s t : Reading} (v : Version) (all : List Automaton) → Reads names end from f to s t
+    → (ns : List ℕ) → Counts (f (name_of names)) ns → AreShared v names all end s → AreShared v names all end t
 known_behind first_version all x ns c h = tt
-known_behind {names} {end} {from} {to} {f} {s} {t} second_version all x ns c h = λ none. known_on names end from to f s.left.now t.left.now s.shares t.shares all ns c (h (open_before x none)) (read_run none x)
+known_behind {names} {end} {from} {to} {f} {s} {t} second_version all x ns c h = λ none. known_on names end from to f s.left.now t.left.now s.shares t.shares all ns c
+    (h (open_before x none)) (read_run none x)
 
-where_run : (P : Place) (names : NameTable) (end : ℕ) (from to : List Item) (f : Naming → List Mark) (b r : List ℕ) (x y : Shared) (s t : Option CertError) → t ≡ None → ReadsOnWhere P names end from f to b r x y s t → Run names end from f to b r x y
+where_run : (P : Place) (names : NameTable) (end : ℕ) (from to : List Item) (f : Naming → List Mark) (b r : List ℕ) (x y : Shared) (s t : Option CertError) → t ≡ None
+    → ReadsOnWhere P names end from f to b r x y s t → Run names end from f to b r x y
 where_run P names end from to f b r x y None None e h = h
 where_run P names end from to f b r x y (Some d) None e h = absurd h
 where_run P names end from to f b r x y s (Some d) e h = absurd cc
 
-pub known_where : {P : Place} {names : NameTable} {end : ℕ} {from to : List Item} {f : Naming → List Mark} {s t : Reading} (v : Version) (all : List Automaton) → ReadsWhere P names end from f to s t → (ns : List ℕ) → Counts (f (name_of names)) ns → AreShared v names all end s → AreShared v names all end t
+pub known_where : {P : Place} {names : NameTable} {end : ℕ} {from to : List Item} {f : Naming → List Mark} {s t : Reading} (v : Version) (all : List Automaton)
+    → ReadsWhere P names end from f to s t → (ns : List ℕ) → Counts (f (name_of names)) ns → AreShared v names all end s → AreShared v names all end t
 known_where first_version all x ns c h = tt
 known_where {P} {names} {end} {from} {to} {f} {s} {t} second_version all x ns c h = λ none.
-    known_on names end from to f s.left.now t.left.now s.shares t.shares all ns c (h (open_before_where x none)) (where_run P names end from to f s.left.now t.left.now s.shares t.shares s.refused t.refused none x.on)
+    known_on names end from to f s.left.now t.left.now s.shares t.shares all ns c (h (open_before_where x none))
+    (where_run P names end from to f s.left.now t.left.now s.shares t.shares s.refused t.refused none x.on)
 
 -- ---- the line's end of a use
 
@@ -48,14 +55,16 @@ abbrev pub use_line : ℕ → List Mark
 use_line n = fixed (codes " ") ∷ use_mark n ∷ fixed (codes "\n") ∷ []
 
 line_counts : (n : ℕ) → Counts (use_line n) (n ∷ [])
-line_counts n = counts_put (fixed (codes " ")) (use_mark n ∷ fixed (codes "\n") ∷ []) (n ∷ []) tt (counts_both (use_mark n ∷ []) (fixed (codes "\n") ∷ []) (n ∷ []) [] (counts_use n) (counts_still (fixed (codes "\n") ∷ []) (tt, tt)))
+line_counts n = counts_put (fixed (codes " ")) (use_mark n ∷ fixed (codes "\n") ∷ []) (n ∷ []) tt
+    (counts_both (use_mark n ∷ []) (fixed (codes "\n") ∷ []) (n ∷ []) [] (counts_use n) (counts_still (fixed (codes "\n") ∷ []) (tt, tt)))
 
 pub record UseFacts (names : NameTable) (all : List Automaton) (n : ℕ) : Type 0 where
   pub new : AllNew [] (texts_of names all)
   pub low : 1 ≤ n
   pub high : n ≤ length all
 
-pub use_facts : {names : NameTable} {end : ℕ} {from to : List Item} {s t : Reading} (all : List Automaton) (n : ℕ) → AreShared second_version names all end s → t.refused ≡ None → Reads names end from (λ u. use_line n) to s t → UseFacts names all n
+pub use_facts : {names : NameTable} {end : ℕ} {from to : List Item} {s t : Reading} (all : List Automaton) (n : ℕ) → AreShared second_version names all end s → t.refused ≡ None
+    → Reads names end from (λ u. use_line n) to s t → UseFacts names all n
 use_facts {names} {end} {from} {to} {s} {t} all n h none x =
     let known = h (open_before x none) in
     let r = read_run none x in

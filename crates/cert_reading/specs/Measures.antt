@@ -8,7 +8,8 @@ use Rattle.cert_reading.specs.Stops.{IsBehind, WithinOpening}
 pub record SymbolAt (v : Version) (n : ℕ) (i low behind : Item) : Type 0 where
   pub name : Item
   pub condition : Item
-  pub are_leads : leads i ≡ keyword (codes "fun") (is_few entries n ∷ []) (between space ∷ name ∷ low ∷ []) ∷ keyword (codes "aux") (is_few entries n ∷ []) (between space ∷ any_number space ∷ condition ∷ low ∷ []) ∷ pair_or_end v 1
+  pub are_leads : leads i ≡ keyword (codes "fun") (is_few entries n ∷ []) (between space ∷ name ∷ low ∷ []) ∷ keyword (codes "aux") (is_few entries n ∷ [])
+      (between space ∷ any_number space ∷ condition ∷ low ∷ []) ∷ pair_or_end v 1
   pub name_leads : leads name ≡ name_lead [] (λ k. behind ∷ []) ∷ []
   pub condition_leads : leads condition ≡ numeral_lead (λ k. is_short k ∷ []) (λ k. behind ∷ []) ∷ []
   pub place : (q : List ℕ) → (BeginsEntry q → ⊥) → WithinOpening v (i ∷ []) q

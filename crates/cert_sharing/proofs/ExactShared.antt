@@ -35,11 +35,14 @@ pass_more [] m s h v = (v, tt)
 pass_more (n ∷ ms) m s h v = (h.0, pass_more ms m (behind_mark n s) h.1 v)
 
 -- one mark more
-moved : (names : NameTable) (bytes : List ℕ) (at : ℕ) (i : Item) (items : List Item) (left : List ℕ) (a : Lead) → (r : Reached names bytes (record { at = at; items = i ∷ items; bytes = left })) → In a (leads i) → is_there a left ≡ true
+moved : (names : NameTable) (bytes : List ℕ) (at : ℕ) (i : Item) (items : List Item) (left : List ℕ) (a : Lead)
+    → (r : Reached names bytes (record { at = at; items = i ∷ items; bytes = left })) → In a (leads i) → is_there a left ≡ true
     → Moves (r.front ++ mark_of a (read_of a left) ∷ []) (opening ∷ []) bytes (items_of a (read_of a left) ++ items) (drop (taken a left) left)
-moved names bytes at i items left a r n e = moves_more r.front (opening ∷ []) items i bytes left (drop (taken a left) left) (mark_of a (read_of a left)) (items_of a (read_of a left)) r.moves (lead_move i a left n e)
+moved names bytes at i items left a r n e = moves_more r.front (opening ∷ []) items i bytes left (drop (taken a left) left) (mark_of a (read_of a left))
+    (items_of a (read_of a left)) r.moves (lead_move i a left n e)
 
-on : (names : NameTable) (bytes : List ℕ) (at : ℕ) (i : Item) (items : List Item) (left : List ℕ) (a : Lead) (s : Shared) → (p : At names bytes (record { at = at; items = i ∷ items; bytes = left }) s) → In a (leads i) → is_there a left ≡ true
+on : (names : NameTable) (bytes : List ℕ) (at : ℕ) (i : Item) (items : List Item) (left : List ℕ) (a : Lead) (s : Shared)
+    → (p : At names bytes (record { at = at; items = i ∷ items; bytes = left }) s) → In a (leads i) → is_there a left ≡ true
     → verdict names 0 (demands_of (mark_of a (read_of a left))) ≡ None → share_verdict s 0 (demands_of (mark_of a (read_of a left))) ≡ None
     → At names bytes (behind_lead (record { at = at; items = i ∷ items; bytes = left }) a items) (behind_mark (mark_of a (read_of a left)) s)
 on names bytes at i items left a s p n e v w =
@@ -52,13 +55,19 @@ on names bytes at i items left a s p n e v w =
     let size = taken_text a left in
     let whole = ap length more in
     record {
-      reached = record { front = r.front ++ m ∷ []; moves = moved names bytes at i items left a r n e; place = omega (arith, place, sizes, one, size, whole); passed = pass_both names r.front (m ∷ []) r.passed (v, tt) };
+      reached = record {
+        front = r.front ++ m ∷ [];
+        moves = moved names bytes at i items left a r n e;
+        place = omega (arith, place, sizes, one, size, whole);
+        passed = pass_both names r.front (m ∷ []) r.passed (v, tt);
+      };
       passed = pass_more r.front m nothing_shared p.passed (subst (λ (x : Shared). share_verdict x 0 (demands_of m) ≡ None) p.is w);
       is = ap (behind_mark m) p.is ∙ sym (behind_more r.front m nothing_shared);
     }
 
 -- a demand on shared automata that is not met
-is_shared : (names : NameTable) (bytes : List ℕ) (at : ℕ) (i : Item) (items : List Item) (left : List ℕ) (a : Lead) (s : Shared) (x : CertificateCause × ℕ) → (p : At names bytes (record { at = at; items = i ∷ items; bytes = left }) s) → In a (leads i) → is_there a left ≡ true
+is_shared : (names : NameTable) (bytes : List ℕ) (at : ℕ) (i : Item) (items : List Item) (left : List ℕ) (a : Lead) (s : Shared) (x : CertificateCause × ℕ)
+    → (p : At names bytes (record { at = at; items = i ∷ items; bytes = left }) s) → In a (leads i) → is_there a left ≡ true
     → verdict names 0 (demands_of (mark_of a (read_of a left))) ≡ None → share_verdict s at (demands_of (mark_of a (read_of a left))) ≡ Some x → IsRefusedShared names bytes x.0 x.1
 is_shared names bytes at i items left a s x p n e v w =
     let r = p.reached in
@@ -66,7 +75,8 @@ is_shared names bytes at i items left a s x p n e v w =
     let moves = moved names bytes at i items left a r n e in
     let rest = items_of a (read_of a left) ++ items in
     let back = completes rest in
-    let t = skeleton_of ((r.front ++ m ∷ []) ++ back.0) (path-append (r.front ++ m ∷ []) back.0 (opening ∷ []) rest [] (moves_path (r.front ++ m ∷ []) (opening ∷ []) rest bytes (drop (taken a left) left) moves) back.1) in (
+    let t = skeleton_of ((r.front ++ m ∷ []) ++ back.0)
+    (path-append (r.front ++ m ∷ []) back.0 (opening ∷ []) rest [] (moves_path (r.front ++ m ∷ []) (opening ∷ []) rest bytes (drop (taken a left) left) moves) back.1) in (
       t.0,
       record {
         front = r.front;
@@ -83,31 +93,42 @@ IsSharedStepOf names bytes l (ends r) = IsAnswer names bytes r
 IsSharedStepOf names bytes l (further m s) = At names bytes m s × (weight m < weight l)
 
 -- a plain refusal
-plain : (names : NameTable) (bytes : List ℕ) (l : Left) (s : Shared) (e : CertificateCause) (at : ℕ) → At names bytes l s → step names l ≡ refuses e at → IsPlainlyRefused names bytes e at → IsCertificateRefused names bytes e at
+plain : (names : NameTable) (bytes : List ℕ) (l : Left) (s : Shared) (e : CertificateCause) (at : ℕ) → At names bytes l s → step names l ≡ refuses e at
+    → IsPlainlyRefused names bytes e at → IsCertificateRefused names bytes e at
 plain names bytes l s e at p q h = inr (h, none_shared names bytes (refused e at) (record { left = l; reached = p.reached; ends = q }) p.passed)
 
-lead_step : (names : NameTable) (bytes : List ℕ) (at : ℕ) (i : Item) (items : List Item) (left : List ℕ) (a : Lead) (s : Shared) → At names bytes (record { at = at; items = i ∷ items; bytes = left }) s → In a (leads i) → is_there a left ≡ true → first_there (leads i) left ≡ Some a
-    → IsSharedStepOf names bytes (record { at = at; items = i ∷ items; bytes = left }) (after_step (record { at = at; items = i ∷ items; bytes = left }) s (Some a) (step_lead names (record { at = at; items = i ∷ items; bytes = left }) (Some a) i items))
+lead_step : (names : NameTable) (bytes : List ℕ) (at : ℕ) (i : Item) (items : List Item) (left : List ℕ) (a : Lead) (s : Shared)
+    → At names bytes (record { at = at; items = i ∷ items; bytes = left }) s → In a (leads i) → is_there a left ≡ true → first_there (leads i) left ≡ Some a
+    → IsSharedStepOf names bytes (record { at = at; items = i ∷ items; bytes = left })
+    (after_step (record { at = at; items = i ∷ items; bytes = left }) s (Some a) (step_lead names (record { at = at; items = i ∷ items; bytes = left }) (Some a) i items))
 lead_step names bytes at i items left a s p n e f = by (verdict names at (demands_of (mark_of a (read_of a left)))) refl
   where
     shared : (o : Option (CertificateCause × ℕ)) → share_verdict s at (demands_of (mark_of a (read_of a left))) ≡ o → verdict names 0 (demands_of (mark_of a (read_of a left))) ≡ None
-        → IsSharedStepOf names bytes (record { at = at; items = i ∷ items; bytes = left }) (shared_judged o (behind_lead (record { at = at; items = i ∷ items; bytes = left }) a items) (behind_mark (mark_of a (read_of a left)) s))
+        → IsSharedStepOf names bytes (record { at = at; items = i ∷ items; bytes = left })
+        (shared_judged o (behind_lead (record { at = at; items = i ∷ items; bytes = left }) a items) (behind_mark (mark_of a (read_of a left)) s))
     shared None w v = (on names bytes at i items left a s p n e v (shares_anywhere s at 0 (demands_of (mark_of a (read_of a left))) w), lighter at i items left a n e)
     shared (Some x) w v = inl (is_shared names bytes at i items left a s x p n e v w)
 
     by : (o : Option (CertificateCause × ℕ)) → verdict names at (demands_of (mark_of a (read_of a left))) ≡ o
-        → IsSharedStepOf names bytes (record { at = at; items = i ∷ items; bytes = left }) (after_step (record { at = at; items = i ∷ items; bytes = left }) s (Some a) (judged o (behind_lead (record { at = at; items = i ∷ items; bytes = left }) a items)))
+        → IsSharedStepOf names bytes (record { at = at; items = i ∷ items; bytes = left })
+        (after_step (record { at = at; items = i ∷ items; bytes = left }) s (Some a) (judged o (behind_lead (record { at = at; items = i ∷ items; bytes = left }) a items)))
     by None v = shared (share_verdict s at (demands_of (mark_of a (read_of a left)))) refl (passed_anywhere names at 0 (demands_of (mark_of a (read_of a left))) v)
     by (Some x) v =
-        let stops : step names (record { at = at; items = i ∷ items; bytes = left }) ≡ refuses x.0 x.1 = ap (λ (o : Option Lead). step_lead names (record { at = at; items = i ∷ items; bytes = left }) o i items) f ∙ ap (λ (o : Option (CertificateCause × ℕ)). judged o (behind_lead (record { at = at; items = i ∷ items; bytes = left }) a items)) v in
+        let stops : step names (record { at = at; items = i ∷ items; bytes = left }) ≡ refuses x.0 x.1 = ap
+        (λ (o : Option Lead). step_lead names (record { at = at; items = i ∷ items; bytes = left }) o i items) f
+        ∙ ap (λ (o : Option (CertificateCause × ℕ)). judged o (behind_lead (record { at = at; items = i ∷ items; bytes = left }) a items)) v in
         plain names bytes (record { at = at; items = i ∷ items; bytes = left }) s x.0 x.1 p stops (inl (is_judged names bytes at i items left a x p.reached n e v))
 
-pub shared_step_is : (names : NameTable) (bytes : List ℕ) (at : ℕ) (items : List Item) (left : List ℕ) (s : Shared) → At names bytes (record { at = at; items = items; bytes = left }) s → IsSharedStepOf names bytes (record { at = at; items = items; bytes = left }) (shared_step names (record { at = at; items = items; bytes = left }) s)
+pub shared_step_is : (names : NameTable) (bytes : List ℕ) (at : ℕ) (items : List Item) (left : List ℕ) (s : Shared)
+    → At names bytes (record { at = at; items = items; bytes = left }) s
+    → IsSharedStepOf names bytes (record { at = at; items = items; bytes = left }) (shared_step names (record { at = at; items = items; bytes = left }) s)
 shared_step_is names bytes at [] [] s p = met names bytes (record { left = record { at = at; items = []; bytes = [] }; reached = p.reached; ends = refl }) p.passed
 shared_step_is names bytes at [] (b ∷ left) s p = plain names bytes (record { at = at; items = []; bytes = b ∷ left }) s syntax at p refl (refused_behind_end names bytes at b left p.reached)
 shared_step_is names bytes at (i ∷ items) left s p = by (first_there (leads i) left) refl
   where
-    by : (o : Option Lead) → first_there (leads i) left ≡ o → IsSharedStepOf names bytes (record { at = at; items = i ∷ items; bytes = left }) (after_step (record { at = at; items = i ∷ items; bytes = left }) s o (step_lead names (record { at = at; items = i ∷ items; bytes = left }) o i items))
+    by : (o : Option Lead) → first_there (leads i) left ≡ o
+        → IsSharedStepOf names bytes (record { at = at; items = i ∷ items; bytes = left })
+        (after_step (record { at = at; items = i ∷ items; bytes = left }) s o (step_lead names (record { at = at; items = i ∷ items; bytes = left }) o i items))
     by None f =
         plain names bytes (record { at = at; items = i ∷ items; bytes = left }) s syntax (at + longest (leads i) left) p
         (ap (λ (o : Option Lead). step_lead names (record { at = at; items = i ∷ items; bytes = left }) o i items) f) (refused_where_stuck names bytes at i items left p.reached f)
@@ -117,7 +138,8 @@ read_is : (k : ℕ) (names : NameTable) (bytes : List ℕ) (l : Left) (s : Share
 read_is zero names bytes l s h p = absurd (omega (arith, h))
 read_is (suc k) names bytes l s h p = by (shared_step names l s) (shared_step_is names bytes l.at l.items l.bytes s p) (λ m t g q. read_is k names bytes m t g q)
   where
-    by : (x : SharedStep) → IsSharedStepOf names bytes l x → ((m : Left) (t : Shared) → weight m < k → At names bytes m t → IsAnswer names bytes (read_shared k names m t)) → IsAnswer names bytes (shared_reading (read_shared k names) x)
+    by : (x : SharedStep) → IsSharedStepOf names bytes l x → ((m : Left) (t : Shared) → weight m < k → At names bytes m t → IsAnswer names bytes (read_shared k names m t))
+        → IsAnswer names bytes (shared_reading (read_shared k names) x)
     by (ends r) g each = g
     by (further m t) g each = let less = g.1 in each m t (omega (arith, h, less)) g.0
 

@@ -35,10 +35,12 @@ shorter m ms (inr (d ∷ front, t, c)) = inr (front, t, cc)
 
 pub whole_same : {ms ns : List Mark} → Alike ms ns → (ms ≡ []) ⊎ Closes ms → (ns ≡ []) ⊎ Closes ns → marks_text ms ≡ marks_text ns → ms ≡ ns
 whole_same ended c d e = refl
-whole_same (same {m = m} {ms = ms} {ns = ns} k) c d e = ap (λ (l : List Mark). m ∷ l) (whole_same k (shorter m ms c) (shorter m ns d) (append_cancel_left (mark_text m) (marks_text ms) (marks_text ns) e))
+whole_same (same {m = m} {ms = ms} {ns = ns} k) c d e = ap (λ (l : List Mark). m ∷ l)
+    (whole_same k (shorter m ms c) (shorter m ns d) (append_cancel_left (mark_text m) (marks_text ms) (marks_text ns) e))
 whole_same (parted {m = m} {n = n} {ms = ms} {ns = ns} f) (inl c) d e = let q : m ∷ ms ≡ [] = c in absurd cc
 whole_same (parted {m = m} {n = n} {ms = ms} {ns = ns} f) (inr c) (inl d) e = let q : n ∷ ns ≡ [] = d in absurd cc
-whole_same (parted {m = m} {n = n} {ms = ms} {ns = ns} f) (inr c) (inr d) e = absurd (f (marks_text (m ∷ ms)) (whole_goes (m ∷ ms) (marks_text (m ∷ ms)) c refl) (whole_goes (n ∷ ns) (marks_text (m ∷ ms)) d e))
+whole_same (parted {m = m} {n = n} {ms = ms} {ns = ns} f) (inr c) (inr d) e = absurd
+    (f (marks_text (m ∷ ms)) (whole_goes (m ∷ ms) (marks_text (m ∷ ms)) c refl) (whole_goes (n ∷ ns) (marks_text (m ∷ ms)) d e))
 
 -- ---- parts that use automata
 
@@ -46,7 +48,8 @@ whole_same (parted {m = m} {n = n} {ms = ms} {ns = ns} f) (inr c) (inr d) e = ab
 abbrev SameUses : NameTable → Uses → Uses → (Automaton → Type 0) → (Automaton → Type 0) → Type 0
 SameUses names u w P Q = (a b : Automaton) (k l : List Mark) → P a → Q b → use_marks (name_of names) u a ++ k ≡ use_marks (name_of names) w b ++ l → (a ≡ b) × (k ≡ l)
 
-same_infeasibility : (e f : InfeasibilityEvidence) (names : NameTable) (u w : Uses) (P Q : Automaton → Type 0) (k l : List Mark) → SameUses names u w P Q → AllOf P (used_by e) → AllOf Q (used_by f) → infeasibility_marks (name_of names) u e ++ k ≡ infeasibility_marks (name_of names) w f ++ l → (e ≡ f) × (k ≡ l)
+same_infeasibility : (e f : InfeasibilityEvidence) (names : NameTable) (u w : Uses) (P Q : Automaton → Type 0) (k l : List Mark) → SameUses names u w P Q → AllOf P (used_by e)
+    → AllOf Q (used_by f) → infeasibility_marks (name_of names) u e ++ k ≡ infeasibility_marks (name_of names) w f ++ l → (e ≡ f) × (k ≡ l)
 same_infeasibility by_caps by_caps names u w P Q k l s h i e = (refl, tail_same _ _ _ _ e)
 same_infeasibility by_caps (by_automaton m b) names u w P Q k l s h i e = absurd (clash _ _ _ _ refl e)
 same_infeasibility (by_automaton j a) by_caps names u w P Q k l s h i e = absurd (clash _ _ _ _ refl e)
@@ -62,7 +65,8 @@ two_derivations a b c d k l e =
     let second = same_derivation b d k l first.1 in
     (first.0, second.0, second.1)
 
-same_evidence : (e f : PairEvidence) (names : NameTable) (u w : Uses) (P Q : Automaton → Type 0) (k l : List Mark) → SameUses names u w P Q → AllOf P (used_by_evidence e) → AllOf Q (used_by_evidence f) → evidence_marks (name_of names) u e ++ k ≡ evidence_marks (name_of names) w f ++ l → (e ≡ f) × (k ≡ l)
+same_evidence : (e f : PairEvidence) (names : NameTable) (u w : Uses) (P Q : Automaton → Type 0) (k l : List Mark) → SameUses names u w P Q → AllOf P (used_by_evidence e)
+    → AllOf Q (used_by_evidence f) → evidence_marks (name_of names) u e ++ k ≡ evidence_marks (name_of names) w f ++ l → (e ≡ f) × (k ≡ l)
 same_evidence trivial_pair trivial_pair names u w P Q k l s h i e = (refl, tail_same _ _ _ _ e)
 same_evidence (infeasible_pair a) (infeasible_pair b) names u w P Q k l s h i e = let r = same_infeasibility a b names u w P Q k l s h i e in (ap infeasible_pair r.0, r.1)
 same_evidence (conflicting_pair a b) (conflicting_pair c d) names u w P Q k l s h i e =
@@ -97,7 +101,8 @@ same_redex p q a b c d =
     ∙ ap (λ (z : ℕ). record { which = q.which; position = q.position; rule = z; evidence = p.evidence }) c
     ∙ ap (λ (z : InfeasibilityEvidence). record { which = q.which; position = q.position; rule = q.rule; evidence = z }) d
 
-same_pairs : (ps qs : List PairEntry) (names : NameTable) (u w : Uses) (P Q : Automaton → Type 0) (n : ℕ) → SameUses names u w P Q → AllOf P (used_by_pairs ps) → AllOf Q (used_by_pairs qs) → pairs_marks (name_of names) u n ps ++ closing ≡ pairs_marks (name_of names) w n qs ++ closing → ps ≡ qs
+same_pairs : (ps qs : List PairEntry) (names : NameTable) (u w : Uses) (P Q : Automaton → Type 0) (n : ℕ) → SameUses names u w P Q → AllOf P (used_by_pairs ps)
+    → AllOf Q (used_by_pairs qs) → pairs_marks (name_of names) u n ps ++ closing ≡ pairs_marks (name_of names) w n qs ++ closing → ps ≡ qs
 same_pairs [] [] names u w P Q n s h i e = refl
 same_pairs [] (q ∷ qs) names u w P Q n s h i e = absurd (clash _ _ _ _ refl e)
 same_pairs (p ∷ ps) [] names u w P Q n s h i e = absurd (clash _ _ _ _ refl e)
@@ -112,11 +117,13 @@ same_pairs (p ∷ ps) (q ∷ qs) names u w P Q n s h i e =
     let d = tail_same _ _ _ _ (tail_same _ _ _ _ c) in
     let mine = all_of P (used_by_evidence p.evidence) (used_by_pairs ps) h in
     let yours = all_of Q (used_by_evidence q.evidence) (used_by_pairs qs) i in
-    let shown = same_evidence p.evidence q.evidence names u w P Q _ _ s mine.0 yours.0 (regroup (evidence_marks x u p.evidence) (pairs_marks x u (suc n) ps) closing (evidence_marks x w q.evidence) (pairs_marks x w (suc n) qs) closing d) in
+    let shown = same_evidence p.evidence q.evidence names u w P Q _ _ s mine.0 yours.0
+    (regroup (evidence_marks x u p.evidence) (pairs_marks x u (suc n) ps) closing (evidence_marks x w q.evidence) (pairs_marks x w (suc n) qs) closing d) in
     let others = same_pairs ps qs names u w P Q (suc n) s mine.1 yours.1 shown.1 in
     ap (λ (z : PairEntry). z ∷ ps) (same_pair p q inner place outer shown.0) ∙ ap (λ (z : List PairEntry). q ∷ z) others
 
-same_redexes : (ps qs : List Redex) (names : NameTable) (u w : Uses) (P Q : Automaton → Type 0) (n : ℕ) → SameUses names u w P Q → AllOf P (used_by_redexes ps) → AllOf Q (used_by_redexes qs) → redexes_marks (name_of names) u n ps ++ closing ≡ redexes_marks (name_of names) w n qs ++ closing → ps ≡ qs
+same_redexes : (ps qs : List Redex) (names : NameTable) (u w : Uses) (P Q : Automaton → Type 0) (n : ℕ) → SameUses names u w P Q → AllOf P (used_by_redexes ps)
+    → AllOf Q (used_by_redexes qs) → redexes_marks (name_of names) u n ps ++ closing ≡ redexes_marks (name_of names) w n qs ++ closing → ps ≡ qs
 same_redexes [] [] names u w P Q n s h i e = refl
 same_redexes [] (q ∷ qs) names u w P Q n s h i e = absurd (clash _ _ _ _ refl e)
 same_redexes (p ∷ ps) [] names u w P Q n s h i e = absurd (clash _ _ _ _ refl e)
@@ -131,7 +138,8 @@ same_redexes (p ∷ ps) (q ∷ qs) names u w P Q n s h i e =
     let d = tail_same _ _ _ _ (tail_same _ _ _ _ c) in
     let mine = all_of P (used_by p.evidence) (used_by_redexes ps) h in
     let yours = all_of Q (used_by q.evidence) (used_by_redexes qs) i in
-    let shown = same_infeasibility p.evidence q.evidence names u w P Q _ _ s mine.0 yours.0 (regroup (infeasibility_marks x u p.evidence) (redexes_marks x u (suc n) ps) closing (infeasibility_marks x w q.evidence) (redexes_marks x w (suc n) qs) closing d) in
+    let shown = same_infeasibility p.evidence q.evidence names u w P Q _ _ s mine.0 yours.0 (regroup (infeasibility_marks x u p.evidence) (redexes_marks x u (suc n) ps) closing
+    (infeasibility_marks x w q.evidence) (redexes_marks x w (suc n) qs) closing d) in
     let others = same_redexes ps qs names u w P Q (suc n) s mine.1 yours.1 shown.1 in
     ap (λ (z : Redex). z ∷ ps) (same_redex p q which place rule shown.0) ∙ ap (λ (z : List Redex). q ∷ z) others
 
@@ -148,7 +156,8 @@ same_coefficients (i ∷ js) (j ∷ ks) n k l e =
     let others = same_coefficients js ks (suc n) k l (tail_same _ _ _ _ a) in
     (ap (λ (z : ℕ). z ∷ js) first ∙ ap (λ (z : List ℕ). j ∷ z) others.0, others.1)
 
-same_measured : (a b : Head) (names : NameTable) (n : ℕ) (k l : List Mark) → IsMeasured names a → IsMeasured names b → measured_marks (name_of names) n a ++ k ≡ measured_marks (name_of names) n b ++ l → (a ≡ b) × (k ≡ l)
+same_measured : (a b : Head) (names : NameTable) (n : ℕ) (k l : List Mark) → IsMeasured names a → IsMeasured names b
+    → measured_marks (name_of names) n a ++ k ≡ measured_marks (name_of names) n b ++ l → (a ≡ b) × (k ≡ l)
 same_measured (file f) (file g) names n k l h i e =
     let c = tail_same _ _ _ _ (tail_same _ _ _ _ e) in
     let q = head_same _ _ _ _ c in
@@ -173,25 +182,36 @@ no_line (auxiliary r c) x w n (q ∷ qs) k e = clash _ _ _ _ refl e
 abbrev line_end : List Mark
 line_end = fixed (codes "\n") ∷ []
 
-same_entries : (ds es : List LinearEntry) (names : NameTable) (u w : Uses) (n : ℕ) (ps qs : List PairEntry) → AreEntries names ds → AreEntries names es → entries_marks (name_of names) n ds ++ (pairs_marks (name_of names) u 1 ps ++ closing) ≡ entries_marks (name_of names) n es ++ (pairs_marks (name_of names) w 1 qs ++ closing)
+same_entries : (ds es : List LinearEntry) (names : NameTable) (u w : Uses) (n : ℕ) (ps qs : List PairEntry) → AreEntries names ds → AreEntries names es
+    → entries_marks (name_of names) n ds ++ (pairs_marks (name_of names) u 1 ps ++ closing) ≡ entries_marks (name_of names) n es ++ (pairs_marks (name_of names) w 1 qs ++ closing)
     → (ds ≡ es) × (pairs_marks (name_of names) u 1 ps ++ closing ≡ pairs_marks (name_of names) w 1 qs ++ closing)
 same_entries [] [] names u w n ps qs h i e = (refl, e)
-same_entries [] (d ∷ es) names u w n ps qs h i e = let x = name_of names in absurd (no_line d.head x u n ps _ (sym (flat (measured_marks x n d.head) (coefficients_marks 1 d.coefficients) (entries_marks x (suc n) es) (pairs_marks x w 1 qs ++ closing)) ∙ sym e))
-same_entries (d ∷ ds) [] names u w n ps qs h i e = let x = name_of names in absurd (no_line d.head x w n qs _ (sym (flat (measured_marks x n d.head) (coefficients_marks 1 d.coefficients) (entries_marks x (suc n) ds) (pairs_marks x u 1 ps ++ closing)) ∙ e))
+same_entries [] (d ∷ es) names u w n ps qs h i e = let x = name_of names in
+    absurd (no_line d.head x u n ps _ (sym (flat (measured_marks x n d.head) (coefficients_marks 1 d.coefficients) (entries_marks x (suc n) es) (pairs_marks x w 1 qs ++ closing))
+    ∙ sym e))
+same_entries (d ∷ ds) [] names u w n ps qs h i e = let x = name_of names in
+    absurd (no_line d.head x w n qs _ (sym (flat (measured_marks x n d.head) (coefficients_marks 1 d.coefficients) (entries_marks x (suc n) ds) (pairs_marks x u 1 ps ++ closing))
+    ∙ e))
 same_entries (d ∷ ds) (c ∷ es) names u w n ps qs h i e =
     let x = name_of names in
     let mine = flat (measured_marks x n d.head) (coefficients_marks 1 d.coefficients) (entries_marks x (suc n) ds) (pairs_marks x u 1 ps ++ closing) in
     let yours = flat (measured_marks x n c.head) (coefficients_marks 1 c.coefficients) (entries_marks x (suc n) es) (pairs_marks x w 1 qs ++ closing) in
     let first = same_measured d.head c.head names n _ _ h.0 i.0 (sym mine ∙ e ∙ yours) in
     let numbers = same_coefficients d.coefficients c.coefficients 1 _ _ first.1 in
-    let others = same_entries ds es names u w (suc n) ps qs h.3 i.3 numbers.1 in
-    (ap (λ (z : Head). record { head = z; coefficients = d.coefficients } ∷ ds) first.0 ∙ ap (λ (z : List ℕ). record { head = c.head; coefficients = z } ∷ ds) numbers.0 ∙ ap (λ (z : List LinearEntry). c ∷ z) others.0, others.1)
+    let others = same_entries ds es names u w (suc n) ps qs h.3 i.3 numbers.1 in (
+      ap (λ (z : Head). record { head = z; coefficients = d.coefficients } ∷ ds) first.0 ∙ ap (λ (z : List ℕ). record { head = c.head; coefficients = z } ∷ ds) numbers.0
+          ∙ ap (λ (z : List LinearEntry). c ∷ z) others.0,
+      others.1,
+    )
 
-same_heads : (ds es : List Head) (names : NameTable) (u w : Uses) (n : ℕ) (ps qs : List PairEntry) → AreHeads names ds → AreHeads names es → heads_marks (name_of names) n ds ++ (pairs_marks (name_of names) u 1 ps ++ closing) ≡ heads_marks (name_of names) n es ++ (pairs_marks (name_of names) w 1 qs ++ closing)
+same_heads : (ds es : List Head) (names : NameTable) (u w : Uses) (n : ℕ) (ps qs : List PairEntry) → AreHeads names ds → AreHeads names es
+    → heads_marks (name_of names) n ds ++ (pairs_marks (name_of names) u 1 ps ++ closing) ≡ heads_marks (name_of names) n es ++ (pairs_marks (name_of names) w 1 qs ++ closing)
     → (ds ≡ es) × (pairs_marks (name_of names) u 1 ps ++ closing ≡ pairs_marks (name_of names) w 1 qs ++ closing)
 same_heads [] [] names u w n ps qs h i e = (refl, e)
-same_heads [] (d ∷ es) names u w n ps qs h i e = let x = name_of names in absurd (no_line d x u n ps _ (sym (flat_line (measured_marks x n d) (heads_marks x (suc n) es) (pairs_marks x w 1 qs ++ closing)) ∙ sym e))
-same_heads (d ∷ ds) [] names u w n ps qs h i e = let x = name_of names in absurd (no_line d x w n qs _ (sym (flat_line (measured_marks x n d) (heads_marks x (suc n) ds) (pairs_marks x u 1 ps ++ closing)) ∙ e))
+same_heads [] (d ∷ es) names u w n ps qs h i e = let x = name_of names in
+    absurd (no_line d x u n ps _ (sym (flat_line (measured_marks x n d) (heads_marks x (suc n) es) (pairs_marks x w 1 qs ++ closing)) ∙ sym e))
+same_heads (d ∷ ds) [] names u w n ps qs h i e = let x = name_of names in
+    absurd (no_line d x w n qs _ (sym (flat_line (measured_marks x n d) (heads_marks x (suc n) ds) (pairs_marks x u 1 ps ++ closing)) ∙ e))
 same_heads (d ∷ ds) (c ∷ es) names u w n ps qs h i e =
     let x = name_of names in
     let mine = flat_line (measured_marks x n d) (heads_marks x (suc n) ds) (pairs_marks x u 1 ps ++ closing) in
@@ -200,7 +220,8 @@ same_heads (d ∷ ds) (c ∷ es) names u w n ps qs h i e =
     let others = same_heads ds es names u w (suc n) ps qs h.1 i.1 (tail_same _ _ _ _ first.1) in
     (ap (λ (z : Head). z ∷ ds) first.0 ∙ ap (λ (z : List Head). c ∷ z) others.0, others.1)
 
-same_measure : (m r : MeasureCertificate) (names : NameTable) (u w : Uses) (ps qs : List PairEntry) → IsMeasure names m → IsMeasure names r → measure_marks (name_of names) m ++ (pairs_marks (name_of names) u 1 ps ++ closing) ≡ measure_marks (name_of names) r ++ (pairs_marks (name_of names) w 1 qs ++ closing)
+same_measure : (m r : MeasureCertificate) (names : NameTable) (u w : Uses) (ps qs : List PairEntry) → IsMeasure names m → IsMeasure names r
+    → measure_marks (name_of names) m ++ (pairs_marks (name_of names) u 1 ps ++ closing) ≡ measure_marks (name_of names) r ++ (pairs_marks (name_of names) w 1 qs ++ closing)
     → (m ≡ r) × (pairs_marks (name_of names) u 1 ps ++ closing ≡ pairs_marks (name_of names) w 1 qs ++ closing)
 same_measure (linear_measure ds) (linear_measure es) names u w ps qs h i e = let r = same_entries ds es names u w 1 ps qs h.1 i.1 (tail_same _ _ _ _ e) in (ap linear_measure r.0, r.1)
 same_measure (precedence_measure ds) (precedence_measure es) names u w ps qs h i e = let r = same_heads ds es names u w 1 ps qs h.1 i.1 (tail_same _ _ _ _ e) in (ap precedence_measure r.0, r.1)
@@ -209,13 +230,16 @@ same_measure (precedence_measure ds) (linear_measure es) names u w ps qs h i e =
 
 -- ---- bodies
 
-same_apart : (a b : Apartness) (names : NameTable) (u w : Uses) (P Q : Automaton → Type 0) → SameUses names u w P Q → AllOf P (used_by_apart a) → AllOf Q (used_by_apart b) → apart_marks (name_of names) u a ++ closing ≡ apart_marks (name_of names) w b ++ closing → a ≡ b
+same_apart : (a b : Apartness) (names : NameTable) (u w : Uses) (P Q : Automaton → Type 0) → SameUses names u w P Q → AllOf P (used_by_apart a) → AllOf Q (used_by_apart b)
+    → apart_marks (name_of names) u a ++ closing ≡ apart_marks (name_of names) w b ++ closing → a ≡ b
 same_apart (by_normal_forms rs) (by_normal_forms ss) names u w P Q s h i e = ap by_normal_forms (same_redexes rs ss names u w P Q 1 s h i (tail_same _ _ _ _ e))
 same_apart (by_normal_forms rs) by_rigid_caps names u w P Q s h i e = absurd (clash _ _ _ _ refl e)
 same_apart by_rigid_caps (by_normal_forms ss) names u w P Q s h i e = absurd (clash _ _ _ _ refl e)
 same_apart by_rigid_caps by_rigid_caps names u w P Q s h i e = refl
 
-same_steps : (ss ts : List Simplification) (names : NameTable) (u w : Uses) (P Q : Automaton → Type 0) (k l : List Mark) → SameUses names u w P Q → length ss ≡ length ts → AllOf P (used_by_steps ss) → AllOf Q (used_by_steps ts) → simplifications_marks (name_of names) u ss ++ k ≡ simplifications_marks (name_of names) w ts ++ l → (ss ≡ ts) × (k ≡ l)
+same_steps : (ss ts : List Simplification) (names : NameTable) (u w : Uses) (P Q : Automaton → Type 0) (k l : List Mark) → SameUses names u w P Q → length ss ≡ length ts
+    → AllOf P (used_by_steps ss) → AllOf Q (used_by_steps ts)
+    → simplifications_marks (name_of names) u ss ++ k ≡ simplifications_marks (name_of names) w ts ++ l → (ss ≡ ts) × (k ≡ l)
 same_steps [] [] names u w P Q k l s n h i e = (refl, e)
 same_steps [] (t ∷ ts) names u w P Q k l s n h i e = absurd (let q : 0 ≡ suc (length ts) = n in omega arith)
 same_steps (t ∷ ss) [] names u w P Q k l s n h i e = absurd (let q : suc (length ss) ≡ 0 = n in omega arith)
@@ -226,7 +250,8 @@ same_steps (dropped r a ∷ ss) (dropped q b ∷ ts) names u w P Q k l s n h i e
     let d = tail_same _ _ _ _ (tail_same _ _ _ _ c) in
     let mine = all_of P (used_by a) (used_by_steps ss) h in
     let yours = all_of Q (used_by b) (used_by_steps ts) i in
-    let shown = same_infeasibility a b names u w P Q _ _ s mine.0 yours.0 (regroup (infeasibility_marks x u a) (simplifications_marks x u ss) k (infeasibility_marks x w b) (simplifications_marks x w ts) l d) in
+    let shown = same_infeasibility a b names u w P Q _ _ s mine.0 yours.0 (regroup (infeasibility_marks x u a) (simplifications_marks x u ss) k (infeasibility_marks x w b)
+    (simplifications_marks x w ts) l d) in
     let others = same_steps ss ts names u w P Q k l s (let q : suc (length ss) ≡ suc (length ts) = n in omega arith) mine.1 yours.1 shown.1 in
     (ap (λ (z : ℕ). dropped z a ∷ ss) rule ∙ ap (λ (z : InfeasibilityEvidence). dropped q z ∷ ss) shown.0 ∙ ap (λ (z : List Simplification). dropped q b ∷ z) others.0, others.1)
 same_steps (inlined r j ∷ ss) (inlined q m ∷ ts) names u w P Q k l s n h i e =
@@ -246,18 +271,22 @@ same_peak p q a b c d =
     ∙ ap (λ (z : Derivation). record { start = q.start; first = q.first; second = z; apart = p.apart }) c
     ∙ ap (λ (z : Apartness). record { start = q.start; first = q.first; second = q.second; apart = z }) d
 
-same_bodies : (c d : Certificate) (names : NameTable) (u w : Uses) (P Q : Automaton → Type 0) (given : Option Bool) → SameUses names u w P Q → IsWithin names c → IsWithin names d → AllOf P (automata_of c) → AllOf Q (automata_of d) → body_marks (name_of names) u given c ++ closing ≡ body_marks (name_of names) w given d ++ closing → c ≡ d
+same_bodies : (c d : Certificate) (names : NameTable) (u w : Uses) (P Q : Automaton → Type 0) (given : Option Bool) → SameUses names u w P Q → IsWithin names c → IsWithin names d
+    → AllOf P (automata_of c) → AllOf Q (automata_of d) → body_marks (name_of names) u given c ++ closing ≡ body_marks (name_of names) w given d ++ closing → c ≡ d
 same_bodies (ortho_certificate ps) (ortho_certificate qs) names u w P Q given s a b h i e = ap ortho_certificate (same_pairs ps qs names u w P Q 1 s h i (tail_same _ _ _ _ (tail_same _ _ _ _ e)))
 same_bodies (quasi_certificate m ps) (quasi_certificate r qs) names u w P Q given s a b h i e =
     let x = name_of names in
-    let both = same_measure m r names u w ps qs a.0 b.0 (regroup (measure_marks x m) (pairs_marks x u 1 ps) closing (measure_marks x r) (pairs_marks x w 1 qs) closing (tail_same _ _ _ _ (tail_same _ _ _ _ e))) in
+    let both = same_measure m r names u w ps qs a.0 b.0 (regroup (measure_marks x m) (pairs_marks x u 1 ps) closing (measure_marks x r) (pairs_marks x w 1 qs) closing
+    (tail_same _ _ _ _ (tail_same _ _ _ _ e))) in
     ap (λ (z : MeasureCertificate). quasi_certificate z ps) both.0 ∙ ap (quasi_certificate r) (same_pairs ps qs names u w P Q 1 s h i both.1)
 same_bodies (peak_certificate p) (peak_certificate q) names u w P Q given s a b h i e =
     let x = name_of names in
     let lines = tail_same _ _ _ _ (tail_same _ _ _ _ (tail_same _ _ _ _ e)) in
     let start = same_terms p.start q.start names 1 1 _ _ a.0 b.0
-    (regroup (term_marks x 1 1 p.start) (fixed (codes "\n") ∷ (derivation_marks p.first ++ (derivation_marks p.second ++ apart_marks x u p.apart))) closing (term_marks x 1 1 q.start) (fixed (codes "\n") ∷ (derivation_marks q.first ++ (derivation_marks q.second ++ apart_marks x w q.apart))) closing lines) in
-    let first = same_derivation p.first q.first _ _ (regroup (derivation_marks p.first) (derivation_marks p.second ++ apart_marks x u p.apart) closing (derivation_marks q.first) (derivation_marks q.second ++ apart_marks x w q.apart) closing (tail_same _ _ _ _ start.1)) in
+    (regroup (term_marks x 1 1 p.start) (fixed (codes "\n") ∷ (derivation_marks p.first ++ (derivation_marks p.second ++ apart_marks x u p.apart))) closing
+    (term_marks x 1 1 q.start) (fixed (codes "\n") ∷ (derivation_marks q.first ++ (derivation_marks q.second ++ apart_marks x w q.apart))) closing lines) in
+    let first = same_derivation p.first q.first _ _ (regroup (derivation_marks p.first) (derivation_marks p.second ++ apart_marks x u p.apart) closing (derivation_marks q.first)
+    (derivation_marks q.second ++ apart_marks x w q.apart) closing (tail_same _ _ _ _ start.1)) in
     let second = same_derivation p.second q.second _ _ (regroup (derivation_marks p.second) (apart_marks x u p.apart) closing (derivation_marks q.second) (apart_marks x w q.apart) closing first.1) in
     ap peak_certificate (same_peak p q start.0 first.0 second.0 (same_apart p.apart q.apart names u w P Q s h i second.1))
 same_bodies (simplified_certificate ss c) (simplified_certificate ts d) names u w P Q given s a b h i e =
@@ -268,13 +297,15 @@ same_bodies (simplified_certificate ss c) (simplified_certificate ts d) names u 
     let lines = tail_same _ _ _ _ (tail_same _ _ _ _ count_of) in
     let mine = all_of P (used_by_steps ss) (automata_of c) h in
     let yours = all_of Q (used_by_steps ts) (automata_of d) i in
-    let steps = same_steps ss ts names u w P Q _ _ s size mine.0 yours.0 (regroup (simplifications_marks x u ss) (body_marks x u given c) closing (simplifications_marks x w ts) (body_marks x w given d) closing lines) in
+    let steps = same_steps ss ts names u w P Q _ _ s size mine.0 yours.0 (regroup (simplifications_marks x u ss) (body_marks x u given c) closing (simplifications_marks x w ts)
+    (body_marks x w given d) closing lines) in
     ap (λ (z : List Simplification). simplified_certificate z c) steps.0 ∙ ap (simplified_certificate ts) (same_bodies c d names u w P Q given s a.3 b.3 mine.1 yours.1 steps.1)
 same_bodies _ _ names u w P Q given s a b h i e = absurd (clash _ _ _ _ refl e)
 
 -- ---- answers and headings
 
-same_answers : (f g : Option Bool) (a b : List ℕ) (k l : List Mark) → differ (codes "YES\n") a ≡ true → differ (codes "NO\n") a ≡ true → differ (codes "YES\n") b ≡ true → differ (codes "NO\n") b ≡ true → answer_marks f ++ (fixed a ∷ k) ≡ answer_marks g ++ (fixed b ∷ l) → (f ≡ g) × (fixed a ∷ k ≡ fixed b ∷ l)
+same_answers : (f g : Option Bool) (a b : List ℕ) (k l : List Mark) → differ (codes "YES\n") a ≡ true → differ (codes "NO\n") a ≡ true → differ (codes "YES\n") b ≡ true
+    → differ (codes "NO\n") b ≡ true → answer_marks f ++ (fixed a ∷ k) ≡ answer_marks g ++ (fixed b ∷ l) → (f ≡ g) × (fixed a ∷ k ≡ fixed b ∷ l)
 same_answers None None a b k l p q r s e = (refl, e)
 same_answers (Some true) (Some true) a b k l p q r s e = (refl, tail_same _ _ _ _ e)
 same_answers (Some false) (Some false) a b k l p q r s e = (refl, tail_same _ _ _ _ e)
@@ -288,7 +319,8 @@ same_answers (Some false) (Some true) a b k l p q r s e = absurd (clash _ _ _ _ 
 abbrev seal : List Mark
 seal = closed (shares automaton_ends) ∷ []
 
-same_shared : (bs ds : List Automaton) (names : NameTable) (k l : List Mark) → AreAutomata names bs → AreAutomata names ds → length bs ≡ length ds → automata_marks (name_of names) bs ++ k ≡ automata_marks (name_of names) ds ++ l → (bs ≡ ds) × (k ≡ l)
+same_shared : (bs ds : List Automaton) (names : NameTable) (k l : List Mark) → AreAutomata names bs → AreAutomata names ds → length bs ≡ length ds
+    → automata_marks (name_of names) bs ++ k ≡ automata_marks (name_of names) ds ++ l → (bs ≡ ds) × (k ≡ l)
 same_shared [] [] names k l h i n e = (refl, e)
 same_shared [] (d ∷ ds) names k l h i n e = absurd (let q : 0 ≡ suc (length ds) = n in omega arith)
 same_shared (b ∷ bs) [] names k l h i n e = absurd (let q : suc (length bs) ≡ 0 = n in omega arith)
@@ -307,7 +339,8 @@ text_tells a b names h i e =
     let yours = spelt_automaton b names i in
     let texts : marks_text (automaton_marks x a ++ line_end) ≡ marks_text (automaton_marks x b ++ line_end) =
     text_both (automaton_marks x a) line_end ∙ ap (λ (t : List ℕ). t ++ marks_text line_end) (mine.text ∙ e ∙ sym yours.text) ∙ sym (text_both (automaton_marks x b) line_end) in
-    let marks = whole_same (alike_automata a b x x line_end line_end mine.named yours.named (same ended)) (inr (automaton_marks x a, codes "\n", refl)) (inr (automaton_marks x b, codes "\n", refl)) texts in
+    let marks = whole_same (alike_automata a b x x line_end line_end mine.named yours.named (same ended)) (inr (automaton_marks x a, codes "\n", refl))
+    (inr (automaton_marks x b, codes "\n", refl)) texts in
     (same_automata a b names line_end line_end h i marks).0
 
 -- ---- certificates
@@ -352,12 +385,18 @@ AreSame first_version bs ds = Unit {0}
 AreSame second_version bs ds = bs ≡ ds
 
 -- marks tell the version, the certificate and the automata before it
-pub marks_tell : (v w : Version) (names : NameTable) (c d : Certificate) (bs ds : List Automaton) (f g : Option Bool) → IsWithin names c → IsWithin names d → StandBefore v names c bs → StandBefore w names d ds
+pub marks_tell : (v w : Version) (names : NameTable) (c d : Certificate) (bs ds : List Automaton) (f g : Option Bool) → IsWithin names c → IsWithin names d
+    → StandBefore v names c bs → StandBefore w names d ds
     → certificate_marks (name_of names) (numbered_in v names bs) bs f c ≡ certificate_marks (name_of names) (numbered_in w names ds) ds g d → (v ≡ w) × (c ≡ d) × AreSame v bs ds
 marks_tell first_version first_version names c d bs ds f g a b m n e =
     let r = same_answers f g (codes "concon 1\n") (codes "concon 1\n") _ _ refl refl refl refl e in
-    let lines : body_marks (name_of names) in_full f c ++ closing ≡ body_marks (name_of names) in_full f d ++ closing = tail_same _ _ _ _ r.1 ∙ ap (λ (o : Option Bool). body_marks (name_of names) in_full o d ++ closing) (sym r.0) in
-    (refl, same_bodies c d names in_full in_full (IsAutomaton names) (IsAutomaton names) f (in_full_same names) a b (all_automata (automata_of c) names (of_certificate c names a)) (all_automata (automata_of d) names (of_certificate d names b)) lines, tt)
+    let lines : body_marks (name_of names) in_full f c ++ closing ≡ body_marks (name_of names) in_full f d ++ closing = tail_same _ _ _ _ r.1
+    ∙ ap (λ (o : Option Bool). body_marks (name_of names) in_full o d ++ closing) (sym r.0) in (
+      refl,
+      same_bodies c d names in_full in_full (IsAutomaton names) (IsAutomaton names) f (in_full_same names) a b (all_automata (automata_of c) names (of_certificate c names a))
+          (all_automata (automata_of d) names (of_certificate d names b)) lines,
+      tt,
+    )
 marks_tell first_version second_version names c d bs ds f g a b m n e = let r = same_answers f g (codes "concon 1\n") (codes "concon 2\n") _ _ refl refl refl refl e in absurd (clash _ _ _ _ refl r.1)
 marks_tell second_version first_version names c d bs ds f g a b m n e = let r = same_answers f g (codes "concon 2\n") (codes "concon 1\n") _ _ refl refl refl refl e in absurd (clash _ _ _ _ refl r.1)
 marks_tell second_version second_version names c d bs ds f g a b m n e =
@@ -394,4 +433,5 @@ one_certificate names bytes c d (v, h) (w, k) =
     let t : Skeleton = record { names = x; uses = uses_of w names d; shared = shared_by names d; answer = yours.0; certificate = d; allowed = yours.3; named = yours.2 } in
     let marks = whole_same (alike_skeletons s t) (inr (closes_all s)) (inr (closes_all t)) (mine.1 ∙ sym yours.1) in
     (marks_tell v w names c d (shared_by names c) (shared_by names d) mine.0 yours.0 h.spelt.1 k.spelt.1 (own_stand v names c h.spelt.1) (own_stand w names d k.spelt.1)
-    (ap (λ (u : Uses). certificate_marks x u (shared_by names c) mine.0 c) (sym (same_uses v names c)) ∙ marks ∙ ap (λ (u : Uses). certificate_marks x u (shared_by names d) yours.0 d) (same_uses w names d))).1
+    (ap (λ (u : Uses). certificate_marks x u (shared_by names c) mine.0 c) (sym (same_uses v names c)) ∙ marks
+    ∙ ap (λ (u : Uses). certificate_marks x u (shared_by names d) yours.0 d) (same_uses w names d))).1

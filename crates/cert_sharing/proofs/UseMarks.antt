@@ -1,5 +1,6 @@
 -- What the marks of a certificate ask of its shared automata: the numbers of its uses, in order.
-use Rattle.std.proofs.Common.{◌≡◌, ℕ, suc, ◌+◌, ◌-◌, ◌≤◌, max, nat_le, Bool, true, false, cond, not, ◌&&◌, List, [], ◌∷◌, ◌++◌, length, map, codes, Option, Some, None, refl, sym, ap, ◌∙◌, subst, append_assoc, append-nil, leb-true, le-leb}
+use Rattle.std.proofs.Common.{◌≡◌, ℕ, suc, ◌+◌, ◌-◌, ◌≤◌, max, nat_le, Bool, true, false, cond, not, ◌&&◌, List, [], ◌∷◌, ◌++◌, length, map, codes, Option, Some, None, refl, sym}
+use Rattle.std.proofs.Common.{ap, ◌∙◌, subst, append_assoc, append-nil, leb-true, le-leb}
 use Rattle.std.proofs.lemmas.Bool.{not-true, and_from, and_parts}
 use Rattle.rewriting.specs.Prelude.{Term, var, app, Terms, nil, cons, size, Position, Head, file, auxiliary}
 use Rattle.certificates.specs.Prelude.{Derivation, no_steps, first_step, Step, by_rule, by_hypothesis, Derivations, no_derivations, first_derivation, Transition, Automaton}
@@ -122,15 +123,20 @@ marked_texts x (a ∷ others) = marks_text (automaton_marks x a) ∷ marked_text
 abbrev seal : List Mark
 seal = closed (shares automaton_ends) ∷ []
 
-sealed_behind : (a : Automaton) (x : Naming) (ts : List (List ℕ)) (b : List ℕ) (u w : ℕ) → behind_marks (automaton_marks x a ++ seal) (state ts b u w) ≡ state (ts ++ marks_text (automaton_marks x a) ∷ []) (marks_text (automaton_marks x a) ++ []) u w
+sealed_behind : (a : Automaton) (x : Naming) (ts : List (List ℕ)) (b : List ℕ) (u w : ℕ)
+    → behind_marks (automaton_marks x a ++ seal) (state ts b u w) ≡ state (ts ++ marks_text (automaton_marks x a) ∷ []) (marks_text (automaton_marks x a) ++ []) u w
 sealed_behind a x ts b u w = behind_both (automaton_marks x a) seal (state ts b u w) ∙ ap (behind_marks seal) (automaton_behind a x ts b u w)
 
-pub automata_behind : (bs : List Automaton) (x : Naming) (ts : List (List ℕ)) (b : List ℕ) (u w : ℕ) → (c : List ℕ) × (behind_marks (automata_marks x bs) (state ts b u w) ≡ state (ts ++ marked_texts x bs) c u w)
+pub automata_behind : (bs : List Automaton) (x : Naming) (ts : List (List ℕ)) (b : List ℕ) (u w : ℕ)
+    → (c : List ℕ) × (behind_marks (automata_marks x bs) (state ts b u w) ≡ state (ts ++ marked_texts x bs) c u w)
 automata_behind [] x ts b u w = (b, ap (λ (t : List (List ℕ)). state t b u w) (sym (append-nil ts)))
 automata_behind (a ∷ bs) x ts b u w =
     let t = marks_text (automaton_marks x a) in
-    let r = automata_behind bs x (ts ++ t ∷ []) (t ++ []) u w in
-    (r.0, behind_both (automaton_marks x a ++ seal) (automata_marks x bs) (state ts b u w) ∙ ap (behind_marks (automata_marks x bs)) (sealed_behind a x ts b u w) ∙ r.1 ∙ ap (λ (l : List (List ℕ)). state l r.0 u w) (append_assoc ts (t ∷ []) (marked_texts x bs)))
+    let r = automata_behind bs x (ts ++ t ∷ []) (t ++ []) u w in (
+      r.0,
+      behind_both (automaton_marks x a ++ seal) (automata_marks x bs) (state ts b u w) ∙ ap (behind_marks (automata_marks x bs)) (sealed_behind a x ts b u w) ∙ r.1
+          ∙ ap (λ (l : List (List ℕ)). state l r.0 u w) (append_assoc ts (t ∷ []) (marked_texts x bs)),
+    )
 
 -- a demand alone
 pub alone : (v : Bool) (x : CertificateCause × ℕ) → first_of (cond {A = Option (CertificateCause × ℕ)} v None (Some x)) None ≡ None → v ≡ true
@@ -154,7 +160,8 @@ new_automata [] x ts b u w h = tt
 new_automata (a ∷ bs) x ts b u w h =
     let t = marks_text (automaton_marks x a) in
     pass_join (automaton_marks x a ++ seal) (automata_marks x bs) (state ts b u w)
-    (pass_join (automaton_marks x a) seal (state ts b u w) (automaton_pass a x (state ts b u w)) (subst (λ (s : Shared). PassShares s seal) (sym (automaton_behind a x ts b u w)) (alone_met (not (is_among t ts)) (bad_share, 0 - length t) (ap not h.0), tt)))
+    (pass_join (automaton_marks x a) seal (state ts b u w) (automaton_pass a x (state ts b u w)) (subst (λ (s : Shared). PassShares s seal) (sym (automaton_behind a x ts b u w))
+    (alone_met (not (is_among t ts)) (bad_share, 0 - length t) (ap not h.0), tt)))
     (subst (λ (s : Shared). PassShares s (automata_marks x bs)) (sym (sealed_behind a x ts b u w)) (new_automata bs x (ts ++ t ∷ []) (t ++ []) u w h.1))
 
 -- ---- uses
@@ -198,8 +205,11 @@ pub counts_both : (a b : List Mark) (ms ns : List ℕ) → Counts a ms → Count
 counts_both a b ms ns h k = record {
   after = λ ts c u w.
       let first = h.after ts c u w in
-      let rest = k.after ts first.0 (greatest u ms) (unfolds ts w ms) in
-      (rest.0, behind_both a b (state ts c u w) ∙ ap (behind_marks b) first.1 ∙ rest.1 ∙ ap (λ (n : ℕ). state ts rest.0 n (unfolds ts (unfolds ts w ms) ns)) (sym (greatest_both ms ns u)) ∙ ap (λ (n : ℕ). state ts rest.0 (greatest u (ms ++ ns)) n) (sym (unfolds_both ms ns ts w)));
+      let rest = k.after ts first.0 (greatest u ms) (unfolds ts w ms) in (
+        rest.0,
+        behind_both a b (state ts c u w) ∙ ap (behind_marks b) first.1 ∙ rest.1 ∙ ap (λ (n : ℕ). state ts rest.0 n (unfolds ts (unfolds ts w ms) ns))
+            (sym (greatest_both ms ns u)) ∙ ap (λ (n : ℕ). state ts rest.0 (greatest u (ms ++ ns)) n) (sym (unfolds_both ms ns ts w)),
+      );
   into = λ ts c u w p.
       let parts = pass_split a b (state ts c u w) p in
       let first = h.after ts c u w in
@@ -214,17 +224,21 @@ pub counts_put : (m : Mark) (ms : List Mark) (ns : List ℕ) → IsStill (demand
 counts_put m ms ns h k = counts_both (m ∷ []) ms [] ns (counts_still (m ∷ []) (h, tt)) k
 
 -- both demands of a use
-two : (v w : Bool) (x y : CertificateCause × ℕ) → first_of (cond {A = Option (CertificateCause × ℕ)} v None (Some x)) (first_of (cond {A = Option (CertificateCause × ℕ)} w None (Some y)) None) ≡ None → (v ≡ true) × (w ≡ true)
+two : (v w : Bool) (x y : CertificateCause × ℕ)
+    → first_of (cond {A = Option (CertificateCause × ℕ)} v None (Some x)) (first_of (cond {A = Option (CertificateCause × ℕ)} w None (Some y)) None) ≡ None
+    → (v ≡ true) × (w ≡ true)
 two true true x y e = (refl, refl)
 two true false x y e = absurd cc
 two false w x y e = absurd cc
 
-pub two_met : (v w : Bool) (x y : CertificateCause × ℕ) → v ≡ true → w ≡ true → first_of (cond {A = Option (CertificateCause × ℕ)} v None (Some x)) (first_of (cond {A = Option (CertificateCause × ℕ)} w None (Some y)) None) ≡ None
+pub two_met : (v w : Bool) (x y : CertificateCause × ℕ) → v ≡ true → w ≡ true
+    → first_of (cond {A = Option (CertificateCause × ℕ)} v None (Some x)) (first_of (cond {A = Option (CertificateCause × ℕ)} w None (Some y)) None) ≡ None
 two_met true true x y e f = refl
 two_met true false x y e f = absurd cc
 two_met false w x y e f = absurd cc
 
-use_met : (n : ℕ) (ts : List (List ℕ)) (b : List ℕ) (u w : ℕ) → share_verdict (state ts b u w) 0 (demands_of (use_mark n)) ≡ None → (1 ≤ n) × (n ≤ length ts) × (n ≤ suc u) × (w + length (text_at n ts) ≤ limit unfolded)
+use_met : (n : ℕ) (ts : List (List ℕ)) (b : List ℕ) (u w : ℕ) → share_verdict (state ts b u w) 0 (demands_of (use_mark n)) ≡ None
+    → (1 ≤ n) × (n ≤ length ts) × (n ≤ suc u) × (w + length (text_at n ts) ≤ limit unfolded)
 use_met n ts b u w e =
     let r = two (holds (state ts b u w) (is_use n)) (holds (state ts b u w) (is_light n)) (bad_share, 0) (too_many unfolded, 0) e in
     let rest = (and_parts (nat_le 1 n) (nat_le n (length ts) && nat_le n (suc u)) r.0).1 in (
@@ -234,7 +248,8 @@ use_met n ts b u w e =
       leb-true (w + length (text_at n ts)) (limit unfolded) r.1,
     )
 
-met_use : (n : ℕ) (ts : List (List ℕ)) (b : List ℕ) (u w : ℕ) → 1 ≤ n → n ≤ length ts → n ≤ suc u → w + length (text_at n ts) ≤ limit unfolded → share_verdict (state ts b u w) 0 (demands_of (use_mark n)) ≡ None
+met_use : (n : ℕ) (ts : List (List ℕ)) (b : List ℕ) (u w : ℕ) → 1 ≤ n → n ≤ length ts → n ≤ suc u → w + length (text_at n ts) ≤ limit unfolded
+    → share_verdict (state ts b u w) 0 (demands_of (use_mark n)) ≡ None
 met_use n ts b u w low high next light =
     two_met (holds (state ts b u w) (is_use n)) (holds (state ts b u w) (is_light n)) (bad_share, 0) (too_many unfolded, 0)
     (and_from (nat_le 1 n) (nat_le n (length ts) && nat_le n (suc u)) (le-leb 1 n low) (and_from (nat_le n (length ts)) (nat_le n (suc u)) (le-leb n (length ts) high) (le-leb n (suc u) next)))
@@ -296,14 +311,17 @@ counts_front front ms ns h k = counts_both front ms [] ns (counts_still front h)
 pub counts_pairs : (ps : List PairEntry) (x : Naming) (u : Uses) (n : ℕ) → Counts (pairs_marks x u n ps) (numbers_of u (used_by_pairs ps))
 counts_pairs [] x u n = no_numbers u [] tt
 counts_pairs (p ∷ ps) x u n =
-    counts_front (word (codes "pair") (is_few Counted.pairs n ∷ []) ∷ fixed (codes " ") ∷ number p.inner ∷ fixed (codes " ") ∷ position p.position ∷ fixed (codes " ") ∷ number p.outer ∷ fixed (codes " ") ∷ []) _ _ (tt, (tt, (tt, (tt, (places_still p.position 0, (tt, (tt, (tt, tt))))))))
+    counts_front (word (codes "pair") (is_few Counted.pairs n ∷ []) ∷ fixed (codes " ") ∷ number p.inner ∷ fixed (codes " ") ∷ position p.position ∷ fixed (codes " ")
+    ∷ number p.outer ∷ fixed (codes " ") ∷ []) _ _ (tt, (tt, (tt, (tt, (places_still p.position 0, (tt, (tt, (tt, tt))))))))
     (counts_mapped u (used_by_evidence p.evidence) (used_by_pairs ps) (evidence_marks x u p.evidence) (pairs_marks x u (suc n) ps) (counts_evidence p.evidence x u) (counts_pairs ps x u (suc n)))
 
 pub counts_redexes : (rs : List Redex) (x : Naming) (u : Uses) (n : ℕ) → Counts (redexes_marks x u n rs) (numbers_of u (used_by_redexes rs))
 counts_redexes [] x u n = no_numbers u [] tt
 counts_redexes (r ∷ rs) x u n =
-    counts_front (word (codes "redex") (is_few Counted.redexes n ∷ []) ∷ fixed (codes " ") ∷ number r.which ∷ fixed (codes " ") ∷ position r.position ∷ fixed (codes " ") ∷ number r.rule ∷ fixed (codes " ") ∷ []) _ _ (tt, (tt, (tt, (tt, (places_still r.position 0, (tt, (tt, (tt, tt))))))))
-    (counts_mapped u (used_by r.evidence) (used_by_redexes rs) (infeasibility_marks x u r.evidence) (redexes_marks x u (suc n) rs) (counts_infeasibility r.evidence x u) (counts_redexes rs x u (suc n)))
+    counts_front (word (codes "redex") (is_few Counted.redexes n ∷ []) ∷ fixed (codes " ") ∷ number r.which ∷ fixed (codes " ") ∷ position r.position ∷ fixed (codes " ")
+    ∷ number r.rule ∷ fixed (codes " ") ∷ []) _ _ (tt, (tt, (tt, (tt, (places_still r.position 0, (tt, (tt, (tt, tt))))))))
+    (counts_mapped u (used_by r.evidence) (used_by_redexes rs) (infeasibility_marks x u r.evidence) (redexes_marks x u (suc n) rs) (counts_infeasibility r.evidence x u)
+    (counts_redexes rs x u (suc n)))
 
 counts_apart : (a : Apartness) (x : Naming) (u : Uses) → Counts (apart_marks x u a) (numbers_of u (used_by_apart a))
 counts_apart (by_normal_forms rs) x u = counts_put _ _ _ tt (counts_redexes rs x u 1)
@@ -314,7 +332,8 @@ counts_steps [] x u = no_numbers u [] tt
 counts_steps (dropped r e ∷ ss) x u =
     counts_front (fixed (codes "drop ") ∷ number r ∷ fixed (codes " ") ∷ []) _ _ (tt, (tt, (tt, tt)))
     (counts_mapped u (used_by e) (used_by_steps ss) (infeasibility_marks x u e) (simplifications_marks x u ss) (counts_infeasibility e x u) (counts_steps ss x u))
-counts_steps (inlined r k ∷ ss) x u = counts_front (fixed (codes "inline ") ∷ number r ∷ fixed (codes " ") ∷ number k ∷ fixed (codes "\n") ∷ []) _ _ (tt, (tt, (tt, (tt, (tt, tt))))) (counts_steps ss x u)
+counts_steps (inlined r k ∷ ss) x u = counts_front (fixed (codes "inline ") ∷ number r ∷ fixed (codes " ") ∷ number k ∷ fixed (codes "\n") ∷ []) _ _
+    (tt, (tt, (tt, (tt, (tt, tt))))) (counts_steps ss x u)
 
 pub counts_body : (c : Certificate) (x : Naming) (u : Uses) (given : Option Bool) → Counts (body_marks x u given c) (numbers_of u (automata_of c))
 counts_body (ortho_certificate ps) x u given = counts_front (word (codes "ortho") (fits_answer true given ∷ []) ∷ fixed (codes "\n") ∷ []) _ _ (tt, (tt, tt)) (counts_pairs ps x u 1)
@@ -325,5 +344,6 @@ counts_body (peak_certificate p) x u given =
     (counts_front (term_marks x 1 1 p.start) _ _ (term_still p.start x 1 1) (counts_put _ _ _ tt
     (counts_front (derivation_marks p.first) _ _ (derivation_still p.first) (counts_front (derivation_marks p.second) _ _ (derivation_still p.second) (counts_apart p.apart x u)))))
 counts_body (simplified_certificate ss c) x u given =
-    counts_front (fixed (codes "simplify ") ∷ word (numeral (length ss)) (in_range 0 1 (suc largest) (length ss) ∷ is_few Counted.simplifications (length ss) ∷ []) ∷ fixed (codes "\n") ∷ []) _ _ (tt, (tt, (tt, tt)))
+    counts_front (fixed (codes "simplify ") ∷ word (numeral (length ss)) (in_range 0 1 (suc largest) (length ss) ∷ is_few Counted.simplifications (length ss) ∷ []) ∷ fixed
+    (codes "\n") ∷ []) _ _ (tt, (tt, (tt, tt)))
     (counts_mapped u (used_by_steps ss) (automata_of c) (simplifications_marks x u ss) (body_marks x u given c) (counts_steps ss x u) (counts_body c x u given))

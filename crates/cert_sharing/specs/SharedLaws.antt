@@ -14,7 +14,8 @@ abbrev pub MetAreCertificates : Type 0
 MetAreCertificates = (names : NameTable) (bytes : List ℕ) → IsMetText names bytes → (c : Certificate) × IsCertificateText names bytes c
 
 abbrev pub CertificatesAreMet : Type 0
-CertificatesAreMet = (names : NameTable) (bytes : List ℕ) (c : Certificate) → IsCertificateText names bytes c → (s : Skeleton) × (s.certificate ≡ c) × (skeleton_text s ≡ bytes) × Pass names (marks_of s) × PassShares nothing_shared (marks_of s)
+CertificatesAreMet = (names : NameTable) (bytes : List ℕ) (c : Certificate) → IsCertificateText names bytes c → (s : Skeleton) × (s.certificate ≡ c) × (skeleton_text s ≡ bytes)
+    × Pass names (marks_of s) × PassShares nothing_shared (marks_of s)
 
 -- all bytes are the text of a certificate or are refused
 abbrev pub TextOrRefused : Type 0

@@ -71,17 +71,22 @@ measure_early v item x (inr s) = no_line v item x s
 measure_place : (v : Version) (item : Item) (b q : List ℕ) → EndsMeasure v item → WithinEntry v 1 b (item ∷ []) q
 measure_place v item b q x = record { early = λ h. absurd (measure_early v item x h); going = λ e. no_overlap v item 2 x (same_item item (pairs_from v 2) e) }
 
-next_stop : (names : NameTable) (end : ℕ) (v : Version) (n : ℕ) (item : Item) (b : List ℕ) (sa : Shared) (t : Option (CertificateCause × ℕ)) → IsNext v item n b → IsStoppedWhere (WithinEntry v n b) names end (pairs_from v n ∷ []) b sa t → IsStoppedWhere (WithinEntry v n b) names end (item ∷ []) b sa t
+next_stop : (names : NameTable) (end : ℕ) (v : Version) (n : ℕ) (item : Item) (b : List ℕ) (sa : Shared) (t : Option (CertificateCause × ℕ)) → IsNext v item n b
+    → IsStoppedWhere (WithinEntry v n b) names end (pairs_from v n ∷ []) b sa t → IsStoppedWhere (WithinEntry v n b) names end (item ∷ []) b sa t
 next_stop names end v n item b sa t (inl e) h = subst (λ (i : Item). IsStoppedWhere (WithinEntry v n b) names end (i ∷ []) b sa t) (sym e) h
 next_stop names end v n item b sa t (inr x) h =
     subst (λ (k : ℕ). IsStoppedWhere (WithinEntry v k b) names end (item ∷ []) b sa t) (sym x.1)
-    (symbol_stopped names end v item b (same_at v item x.0 b x.2) (WithinEntry v 1 b) sa t (measure_place v item b b x.0) (subst (λ (k : ℕ). IsStoppedWhere (WithinEntry v k b) names end (pairs_from v k ∷ []) b sa t) x.1 h))
+    (symbol_stopped names end v item b (same_at v item x.0 b x.2) (WithinEntry v 1 b) sa t (measure_place v item b b x.0)
+    (subst (λ (k : ℕ). IsStoppedWhere (WithinEntry v k b) names end (pairs_from v k ∷ []) b sa t) x.1 h))
 
-next_run : (names : NameTable) (end : ℕ) (v : Version) (n : ℕ) (item : Item) (f : Naming → List Mark) (to : List Item) (b r : List ℕ) (sa sb : Shared) → IsNext v item n b → (f (name_of names) ≡ [] → ⊥) → Run names end (pairs_from v n ∷ []) f to b r sa sb → Run names end (item ∷ []) f to b r sa sb
+next_run : (names : NameTable) (end : ℕ) (v : Version) (n : ℕ) (item : Item) (f : Naming → List Mark) (to : List Item) (b r : List ℕ) (sa sb : Shared) → IsNext v item n b
+    → (f (name_of names) ≡ [] → ⊥) → Run names end (pairs_from v n ∷ []) f to b r sa sb → Run names end (item ∷ []) f to b r sa sb
 next_run names end v n item f to b r sa sb (inl e) some h = subst (λ (i : Item). Run names end (i ∷ []) f to b r sa sb) (sym e) h
-next_run names end v n item f to b r sa sb (inr x) some h = symbol_run names end v item b (same_at v item x.0 b x.2) f to r sa sb some (subst (λ (k : ℕ). Run names end (pairs_from v k ∷ []) f to b r sa sb) x.1 h)
+next_run names end v n item f to b r sa sb (inr x) some h = symbol_run names end v item b (same_at v item x.0 b x.2) f to r sa sb some
+    (subst (λ (k : ℕ). Run names end (pairs_from v k ∷ []) f to b r sa sb) x.1 h)
 
-pub run_as : (names : NameTable) (end : ℕ) (from to : List Item) (f g : Naming → List Mark) (b r : List ℕ) (sa sb : Shared) → ((u : Naming) → f u ≡ g u) → Run names end from f to b r sa sb → Run names end from g to b r sa sb
+pub run_as : (names : NameTable) (end : ℕ) (from to : List Item) (f g : Naming → List Mark) (b r : List ℕ) (sa sb : Shared) → ((u : Naming) → f u ≡ g u)
+    → Run names end from f to b r sa sb → Run names end from g to b r sa sb
 run_as names end from to f g b r sa sb e x = record {
   walks = λ le items. subst (λ (ms : List Mark). Walks names ms (left_at end (from ++ items) b) (left_at end (to ++ items) r)) (e (name_of names)) (x.walks le items);
   found = subst (AreFound names) (e tagged) x.found;
@@ -91,30 +96,39 @@ run_as names end from to f g b r sa sb e x = record {
 -- ---- from what the code says
 
 abbrev pub Pair : NameTable → Version → List Automaton → ℕ → ℕ → code.Reading → code.Reading → PairEntry → Type 0
-Pair names v shared end n s t p = ReadsWhere (WithinEntry v n s.left.now) names end (pairs_from v n ∷ []) (λ u. pairs_marks u (uses_with v names shared) n (pair_entry_view p ∷ [])) (pairs_from v (suc n) ∷ []) s t
+Pair names v shared end n s t p = ReadsWhere (WithinEntry v n s.left.now) names end (pairs_from v n ∷ []) (λ u. pairs_marks u (uses_with v names shared) n (pair_entry_view p ∷ []))
+    (pairs_from v (suc n) ∷ []) s t
 
 abbrev pub Last : NameTable → Version → ℕ → ℕ → code.Reading → code.Reading → Type 0
 Last names v end n s t = ReadsWhere (WithinEntry v n s.left.now) names end (pairs_from v n ∷ []) (λ u. closing) [] s t
 
-pub next_refused : (names : NameTable) (v : Version) (shared : List Automaton) (end n : ℕ) (s t : code.Reading) (found : Option PairEntry) (e : CertError) → s.refused ≡ None → t.refused ≡ Some e → IfSome found (Pair names v shared end n s t) → IfNone found (Last names v end n s t) → IsStoppedWhere (WithinEntry v n s.left.now) names end (pairs_from v n ∷ []) s.left.now s.shares (told e)
+pub next_refused : (names : NameTable) (v : Version) (shared : List Automaton) (end n : ℕ) (s t : code.Reading) (found : Option PairEntry) (e : CertError) → s.refused ≡ None
+    → t.refused ≡ Some e → IfSome found (Pair names v shared end n s t) → IfNone found (Last names v end n s t)
+    → IsStoppedWhere (WithinEntry v n s.left.now) names end (pairs_from v n ∷ []) s.left.now s.shares (told e)
 next_refused names v shared end n s t None e none q h k = stopped_where e none q k
 next_refused names v shared end n s t (Some p) e none q h k = stopped_where e none q h
 
-pub front_kept : (names : NameTable) (v : Version) (shared : List Automaton) (end n : ℕ) (s t : code.Reading) (found : Option PairEntry) → IfSome found (Pair names v shared end n s t) → IfNone found (Last names v end n s t) → IsFront s.shares.texts t.shares.texts
+pub front_kept : (names : NameTable) (v : Version) (shared : List Automaton) (end n : ℕ) (s t : code.Reading) (found : Option PairEntry)
+    → IfSome found (Pair names v shared end n s t) → IfNone found (Last names v end n s t) → IsFront s.shares.texts t.shares.texts
 front_kept names v shared end n s t None h k = k.front
 front_kept names v shared end n s t (Some p) h k = h.front
 
 -- as the code holds the version and the shared automata
-pub by_uses : (w : uses_code.Uses) (v : Version) (shared : List Automaton) (names : NameTable) (bytes left : List ℕ) (count : ℕ) (now : Shared) → version_by w ≡ v → automata_by w ≡ shared → IsUpTo v shared names bytes left count now → IsUpTo (version_by w) (automata_by w) names bytes left count now
-by_uses w v shared names bytes left count now e f u = subst (λ (x : Version). IsUpTo x (automata_by w) names bytes left count now) (sym e) (subst (λ (l : List Automaton). IsUpTo v l names bytes left count now) (sym f) u)
+pub by_uses : (w : uses_code.Uses) (v : Version) (shared : List Automaton) (names : NameTable) (bytes left : List ℕ) (count : ℕ) (now : Shared) → version_by w ≡ v
+    → automata_by w ≡ shared → IsUpTo v shared names bytes left count now → IsUpTo (version_by w) (automata_by w) names bytes left count now
+by_uses w v shared names bytes left count now e f u = subst (λ (x : Version). IsUpTo x (automata_by w) names bytes left count now) (sym e)
+    (subst (λ (l : List Automaton). IsUpTo v l names bytes left count now) (sym f) u)
 
-pub from_uses : (w : uses_code.Uses) (v : Version) (shared : List Automaton) (names : NameTable) (bytes left : List ℕ) (count : ℕ) (now : Shared) → version_by w ≡ v → automata_by w ≡ shared → IsUpTo (version_by w) (automata_by w) names bytes left count now → IsUpTo v shared names bytes left count now
-from_uses w v shared names bytes left count now e f u = subst (λ (x : Version). IsUpTo x shared names bytes left count now) e (subst (λ (l : List Automaton). IsUpTo (version_by w) l names bytes left count now) f u)
+pub from_uses : (w : uses_code.Uses) (v : Version) (shared : List Automaton) (names : NameTable) (bytes left : List ℕ) (count : ℕ) (now : Shared) → version_by w ≡ v
+    → automata_by w ≡ shared → IsUpTo (version_by w) (automata_by w) names bytes left count now → IsUpTo v shared names bytes left count now
+from_uses w v shared names bytes left count now e f u = subst (λ (x : Version). IsUpTo x shared names bytes left count now) e
+    (subst (λ (l : List Automaton). IsUpTo (version_by w) l names bytes left count now) f u)
 
 -- ---- shares
 
 -- whatever was begun of an automaton
-held_begun : (v : Version) (shared : List Automaton) (names : NameTable) (bytes left : List ℕ) (count : ℕ) (now then : Shared) → then.texts ≡ now.texts → then.used ≡ now.used → then.unfolds_to ≡ now.unfolds_to → IsUpTo v shared names bytes left count now → IsUpTo v shared names bytes left count then
+held_begun : (v : Version) (shared : List Automaton) (names : NameTable) (bytes left : List ℕ) (count : ℕ) (now then : Shared) → then.texts ≡ now.texts → then.used ≡ now.used
+    → then.unfolds_to ≡ now.unfolds_to → IsUpTo v shared names bytes left count now → IsUpTo v shared names bytes left count then
 held_begun v shared names bytes left count now then texts used weight u = record {
   opening = u.opening;
   entries = u.entries;
@@ -134,11 +148,14 @@ held_begun v shared names bytes left count now then texts used weight u = record
     same = let a = texts in let b = used in let c = weight in cc
 
 -- what came behind is let go of
-pub held_back : (v : Version) (shared : List Automaton) (names : NameTable) (bytes left : List ℕ) (count : ℕ) (now after back : Shared) (known : SoFar) → IsFront now.texts after.texts → known ≡ record { texts = length now.texts; used = now.used; unfolds_to = now.unfolds_to }
-    → back ≡ record { texts = take known.texts after.texts; begun = after.begun; used = known.used; unfolds_to = known.unfolds_to } → IsUpTo v shared names bytes left count now → IsUpTo v shared names bytes left count back
+pub held_back : (v : Version) (shared : List Automaton) (names : NameTable) (bytes left : List ℕ) (count : ℕ) (now after back : Shared) (known : SoFar)
+    → IsFront now.texts after.texts → known ≡ record { texts = length now.texts; used = now.used; unfolds_to = now.unfolds_to }
+    → back ≡ record { texts = take known.texts after.texts; begun = after.begun; used = known.used; unfolds_to = known.unfolds_to } → IsUpTo v shared names bytes left count now
+    → IsUpTo v shared names bytes left count back
 held_back v shared names bytes left count now after back known front is kept u =
     let size = ap (λ (k : SoFar). k.texts) is in
-    held_begun v shared names bytes left count now back (ap (λ (z : Shared). z.texts) kept ∙ ap (λ (n : ℕ). take n after.texts) size ∙ ap (take (length now.texts)) front.1 ∙ take-append_seam now.texts front.0)
+    held_begun v shared names bytes left count now back (ap (λ (z : Shared). z.texts) kept ∙ ap (λ (n : ℕ). take n after.texts) size ∙ ap (take (length now.texts)) front.1
+    ∙ take-append_seam now.texts front.0)
     (ap (λ (z : Shared). z.used) kept ∙ ap (λ (k : SoFar). k.used) is) (ap (λ (z : Shared). z.unfolds_to) kept ∙ ap (λ (k : SoFar). k.unfolds_to) is) u
 
 -- ---- one entry more
@@ -153,7 +170,8 @@ can_simplify second_version ortho_opening es fs h = tt
 can_simplify second_version (quasi_opening m) es fs h = tt
 can_simplify second_version (simplified_opening ss o) es fs h = absurd h
 
-plain_more : (v : Version) (all : List Automaton) (o : Opening) (es : List math.PairEntry) (p : math.PairEntry) → IsPlainBy v all (certificate_for o es) → EvidenceUses v all p.evidence → IsPlainBy v all (certificate_for o (es ++ p ∷ []))
+plain_more : (v : Version) (all : List Automaton) (o : Opening) (es : List math.PairEntry) (p : math.PairEntry) → IsPlainBy v all (certificate_for o es)
+    → EvidenceUses v all p.evidence → IsPlainBy v all (certificate_for o (es ++ p ∷ []))
 plain_more v all ortho_opening es p h k = pairs_use v all es p h k
 plain_more v all (quasi_opening m) es p h k = (h.0, pairs_use v all es p h.1 k)
 plain_more v all (simplified_opening ss o) es p h k = (can_simplify v o es (es ++ p ∷ []) h.0, h.1, plain_more v all o es p h.2 k)
@@ -176,24 +194,31 @@ module _ (v : Version) (shared : List Automaton) (names : NameTable) (bytes left
   left_there o es r = let same = one_reading names bytes o u.opening es u.entries (place_of bytes left) r u.read.read in (same.opening, same.entries, same.rest ∙ u.read.is_rest)
 
   -- an entry is read
-  longer : (p : math.PairEntry) (rest : List ℕ) (sb : Shared) → Run names (length bytes) (pairs_from v n ∷ []) (λ x. pairs_marks x (uses_with v names shared) n (p ∷ [])) (pairs_from v (suc n) ∷ []) left rest now sb
-      → Run names (length bytes) (Items.opening ∷ []) (λ x. read_marks x (uses_with v names shared) shared u.given u.opening (u.entries ++ p ∷ [])) (pairs_from v (suc n) ∷ []) bytes rest nothing_shared sb
+  longer : (p : math.PairEntry) (rest : List ℕ) (sb : Shared)
+      → Run names (length bytes) (pairs_from v n ∷ []) (λ x. pairs_marks x (uses_with v names shared) n (p ∷ [])) (pairs_from v (suc n) ∷ []) left rest now sb
+      → Run names (length bytes) (Items.opening ∷ []) (λ x. read_marks x (uses_with v names shared) shared u.given u.opening (u.entries ++ p ∷ []))
+      (pairs_from v (suc n) ∷ []) bytes rest nothing_shared sb
   longer p rest sb r =
       let w = uses_with v names shared in
       let number : n ≡ suc (length u.entries) = is_n ∙ ap suc (sym u.counted) in
       run_as names (length bytes) (Items.opening ∷ []) (pairs_from v (suc n) ∷ []) _ _ bytes rest nothing_shared sb
       (λ x. ap (λ (k : ℕ). read_marks x w shared u.given u.opening u.entries ++ pairs_marks x w k (p ∷ [])) number ∙ read_more x w shared u.given u.opening u.entries p)
-      (run_then names (length bytes) (Items.opening ∷ []) (u.item ∷ []) (pairs_from v (suc n) ∷ []) (λ x. read_marks x w shared u.given u.opening u.entries) (λ x. pairs_marks x w n (p ∷ [])) bytes left rest nothing_shared now sb u.run
+      (run_then names (length bytes) (Items.opening ∷ []) (u.item ∷ []) (pairs_from v (suc n) ∷ []) (λ x. read_marks x w shared u.given u.opening u.entries)
+      (λ x. pairs_marks x w n (p ∷ [])) bytes left rest nothing_shared now sb u.run
       (next_run names (length bytes) v n u.item (λ x. pairs_marks x w n (p ∷ [])) (pairs_from v (suc n) ∷ []) left rest now sb next (λ e. cc) r))
 
   -- its marks change no text of a shared automaton
-  texts_kept : (p : math.PairEntry) (rest : List ℕ) (sb : Shared) → Run names (length bytes) (pairs_from v n ∷ []) (λ x. pairs_marks x (uses_with v names shared) n (p ∷ [])) (pairs_from v (suc n) ∷ []) left rest now sb → sb.texts ≡ now.texts
+  texts_kept : (p : math.PairEntry) (rest : List ℕ) (sb : Shared)
+      → Run names (length bytes) (pairs_from v n ∷ []) (λ x. pairs_marks x (uses_with v names shared) n (p ∷ [])) (pairs_from v (suc n) ∷ []) left rest now sb
+      → sb.texts ≡ now.texts
   texts_kept p rest sb r =
       let keeps = r.shares within [] in
       let counts = (counts_pairs (p ∷ []) (name_of names) (uses_with v names shared) n).after now.texts [] now.used now.unfolds_to in
       sym (ap (λ (z : Shared). z.texts) keeps.1) ∙ ap (λ (z : Shared). z.texts) counts.1
 
-  pub held_on : {sb : Shared} (p : math.PairEntry) (rest : List ℕ) (count_then : ℕ) → EvidenceUses v shared p.evidence → count_then ≡ n → Run names (length bytes) (pairs_from v n ∷ []) (λ x. pairs_marks x (uses_with v names shared) n (p ∷ [])) (pairs_from v (suc n) ∷ []) left rest now sb → IsUpTo v shared names bytes rest count_then sb
+  pub held_on : {sb : Shared} (p : math.PairEntry) (rest : List ℕ) (count_then : ℕ) → EvidenceUses v shared p.evidence → count_then ≡ n
+      → Run names (length bytes) (pairs_from v n ∷ []) (λ x. pairs_marks x (uses_with v names shared) n (p ∷ [])) (pairs_from v (suc n) ∷ []) left rest now sb
+      → IsUpTo v shared names bytes rest count_then sb
   held_on {sb} p rest count_then plain e r =
       let run = longer p rest sb r in
       let plains = plain_more v shared u.opening u.entries p u.plain plain in
@@ -222,17 +247,22 @@ module _ (v : Version) (shared : List Automaton) (names : NameTable) (bytes left
     after_here : (o : Opening) (es : List math.PairEntry) (place : ℕ) → IsRead old.names old.bytes o es place → IsRead names bytes o es place
     after_here o es place h = subst (λ (q : Reading). IsRead q.names q.bytes o es place) (sym is) h
 
-    pub reads_on : {sb : Shared} (p : math.PairEntry) (rest : List ℕ) → EvidenceUses v shared p.evidence → Run names (length bytes) (pairs_from v n ∷ []) (λ x. pairs_marks x (uses_with v names shared) n (p ∷ [])) (pairs_from v (suc n) ∷ []) left rest now sb → ReadsOn old p (up_to names bytes rest)
+    pub reads_on : {sb : Shared} (p : math.PairEntry) (rest : List ℕ) → EvidenceUses v shared p.evidence
+        → Run names (length bytes) (pairs_from v n ∷ []) (λ x. pairs_marks x (uses_with v names shared) n (p ∷ [])) (pairs_from v (suc n) ∷ []) left rest now sb
+        → ReadsOn old p (up_to names bytes rest)
     reads_on {sb} p rest plain r o es h =
         let there = left_there o es (read_here o es h) in
-        let read = run_read v shared names bytes rest u.given u.opening (u.entries ++ p ∷ []) (pairs_from v (suc n) ∷ []) u.can_share (plain_more v shared u.opening u.entries p u.plain plain) u.plain_shared (longer p rest sb r) in
-        subst (λ (x : Opening). IsRead names bytes x (es ++ p ∷ []) (place_of bytes rest)) (sym there.0) (subst (λ (x : List math.PairEntry). IsRead names bytes u.opening (x ++ p ∷ []) (place_of bytes rest)) (sym there.1) read.read)
+        let read = run_read v shared names bytes rest u.given u.opening (u.entries ++ p ∷ []) (pairs_from v (suc n) ∷ []) u.can_share
+        (plain_more v shared u.opening u.entries p u.plain plain) u.plain_shared (longer p rest sb r) in
+        subst (λ (x : Opening). IsRead names bytes x (es ++ p ∷ []) (place_of bytes rest)) (sym there.0)
+        (subst (λ (x : List math.PairEntry). IsRead names bytes u.opening (x ++ p ∷ []) (place_of bytes rest)) (sym there.1) read.read)
 
     rest_as : (o : Opening) (es : List math.PairEntry) (at : ℕ) → o ≡ u.opening → es ≡ u.entries → (r : IsRead names bytes o es at) → r.rest ≡ left
     rest_as o es at e f r = by (u.opening) e (u.entries) f (λ r. one_rest v shared names bytes left count now u at r)
       where
         by : (x : Opening) → o ≡ x → (xs : List math.PairEntry) → es ≡ xs → ((q : IsRead names bytes x xs at) → q.rest ≡ left) → r.rest ≡ left
-        by x e xs f each = (subst (λ (x : Opening). ((q : IsRead names bytes x es at) → q.rest ≡ left)) (sym e) (subst (λ (xs : List math.PairEntry). ((q : IsRead names bytes x xs at) → q.rest ≡ left)) (sym f) each)) r
+        by x e xs f each = (subst (λ (x : Opening). ((q : IsRead names bytes x es at) → q.rest ≡ left)) (sym e)
+            (subst (λ (xs : List math.PairEntry). ((q : IsRead names bytes x xs at) → q.rest ≡ left)) (sym f) each)) r
 
     -- what is left is the last line
     left_last : (o : Opening) (es : List math.PairEntry) → HasRead old o es → IsAll old o es → left ≡ last_line
@@ -241,8 +271,11 @@ module _ (v : Version) (shared : List Automaton) (names : NameTable) (bytes left
         let whole = text_is_whole names bytes o es (text_here (certificate_for o es) k) in
         sym (rest_as o es whole.at there.0 there.1 whole.read) ∙ whole.last
 
-    pub never_whole : {sb : Shared} (p : math.PairEntry) (rest : List ℕ) → Run names (length bytes) (pairs_from v n ∷ []) (λ x. pairs_marks x (uses_with v names shared) n (p ∷ [])) (pairs_from v (suc n) ∷ []) left rest now sb → (o : Opening) (es : List math.PairEntry) → HasRead old o es → IsAll old o es → ⊥
-    never_whole p rest r o es h k = bytes_apart 112 101 _ _ refl (sym (walks_text names (pairs_marks (name_of names) (uses_with v names shared) n (p ∷ [])) _ _ (r.walks within [])) ∙ left_last o es h k)
+    pub never_whole : {sb : Shared} (p : math.PairEntry) (rest : List ℕ)
+        → Run names (length bytes) (pairs_from v n ∷ []) (λ x. pairs_marks x (uses_with v names shared) n (p ∷ [])) (pairs_from v (suc n) ∷ []) left rest now sb
+        → (o : Opening) (es : List math.PairEntry) → HasRead old o es → IsAll old o es → ⊥
+    never_whole p rest r o es h k = bytes_apart 112 101 _ _ refl
+        (sym (walks_text names (pairs_marks (name_of names) (uses_with v names shared) n (p ∷ [])) _ _ (r.walks within [])) ∙ left_last o es h k)
 
     module _ (rest : List ℕ) (sb : Shared) (r : Run names (length bytes) (pairs_from v n ∷ []) (λ x. closing) [] left rest now sb) where
       left_text : left ≡ last_line ++ rest
@@ -258,7 +291,8 @@ module _ (v : Version) (shared : List Automaton) (names : NameTable) (bytes left
       at_end e o es h =
           let here = read_here o es h in
           let same = one_reading names bytes o u.opening es u.entries (place_of bytes left) here u.read.read in
-          let whole = whole_is_text names bytes o es (place_of bytes left) here (same.left ∙ u.read.is_left ∙ none_left) ((left_there o es here).2 ∙ left_text ∙ ap (λ (w : List ℕ). last_line ++ w) e) in
+          let whole = whole_is_text names bytes o es (place_of bytes left) here (same.left ∙ u.read.is_left ∙ none_left)
+          ((left_there o es here).2 ∙ left_text ∙ ap (λ (w : List ℕ). last_line ++ w) e) in
           subst (λ (q : Reading). IsCertificateText q.names q.bytes (certificate_for o es)) is whole
 
       pub no_entry : (o : Opening) (es : List math.PairEntry) (p : math.PairEntry) (place : ℕ) → HasRead old o es → IsRead old.names old.bytes o (es ++ p ∷ []) place → ⊥
@@ -274,8 +308,10 @@ module _ (v : Version) (shared : List Automaton) (names : NameTable) (bytes left
       pub behind_refused : (at : ℕ) → (rest ≡ [] → ⊥) → at ≡ place_of bytes rest → IsCertificateRefused old.names old.bytes syntax at
       behind_refused at some e =
           let w = uses_with v names shared in
-          let run = run_then names (length bytes) (Items.opening ∷ []) (u.item ∷ []) [] (λ x. read_marks x w shared u.given u.opening u.entries) (λ x. closing) bytes left rest nothing_shared now sb u.run (next_run names (length bytes) v n u.item (λ x. closing) [] left rest now sb next (λ q. cc) r) in
-          subst (λ (q : Reading). IsCertificateRefused q.names q.bytes syntax at) is (refused_behind names bytes rest (λ x. read_marks x w shared u.given u.opening u.entries ++ closing) at refl some e run)
+          let run = run_then names (length bytes) (Items.opening ∷ []) (u.item ∷ []) [] (λ x. read_marks x w shared u.given u.opening u.entries) (λ x. closing) bytes left rest
+          nothing_shared now sb u.run (next_run names (length bytes) v n u.item (λ x. closing) [] left rest now sb next (λ q. cc) r) in
+          subst (λ (q : Reading). IsCertificateRefused q.names q.bytes syntax at) is
+          (refused_behind names bytes rest (λ x. read_marks x w shared u.given u.opening u.entries ++ closing) at refl some e run)
 
     module _ (e : CertError) (s : IsStoppedWhere (WithinEntry v n left) names (length bytes) (pairs_from v n ∷ []) left now (told e)) where
       stop : IsStoppedWhere (WithinEntry v n left) names (length bytes) (u.item ∷ []) left now (told e)
@@ -285,7 +321,8 @@ module _ (v : Version) (shared : List Automaton) (names : NameTable) (bytes left
       refused_here =
           refused_as names bytes e refl
           (any_stop (WithinEntry v n left) names (length bytes) (Items.opening ∷ []) bytes nothing_shared (told e)
-          (stop_behind (WithinEntry v n left) names (length bytes) (Items.opening ∷ []) (u.item ∷ []) (λ x. read_marks x (uses_with v names shared) shared u.given u.opening u.entries) bytes left nothing_shared now (told e) u.run stop))
+          (stop_behind (WithinEntry v n left) names (length bytes) (Items.opening ∷ []) (u.item ∷ [])
+          (λ x. read_marks x (uses_with v names shared) shared u.given u.opening u.entries) bytes left nothing_shared now (told e) u.run stop))
 
       pub refused_there : IsRefusedAs old.names old.bytes e
       refused_there = subst (λ (q : Reading). IsRefusedAs q.names q.bytes e) is refused_here

@@ -25,11 +25,22 @@ use Rattle.cert_reading.proofs.Opening.{same_item}
 -- ---- from a path to moves
 
 -- bytes that begin with the text of marks are read along them, if these end in bytes
-pub moves_along : (front : List Mark) (u : List ℕ) (back : List Mark) (s : List Item) (bytes rest : List ℕ) → Path (front ++ (fixed u ∷ back)) s [] → bytes ≡ marks_text front ++ (u ++ rest) → (t : List Item) × Moves (front ++ fixed u ∷ []) s bytes t rest × Path back t []
+pub moves_along : (front : List Mark) (u : List ℕ) (back : List Mark) (s : List Item) (bytes rest : List ℕ) → Path (front ++ (fixed u ∷ back)) s []
+    → bytes ≡ marks_text front ++ (u ++ rest) → (t : List Item) × Moves (front ++ fixed u ∷ []) s bytes t rest × Path back t []
 moves_along [] u back [] bytes rest p e = absurd p
 moves_along [] u back (i ∷ s) bytes rest p e = (
   p.0 ++ s,
-  (p.0, rest, record { takes = p.1; there = takes_along i (fixed u) p.0 s back bytes [] (fixed u) p.1 p.2 (record { back = back; parts = refl; rest = rest; text = e; reached = tt }); text = e }, (refl, refl)),
+  (
+    p.0,
+    rest,
+    record {
+      takes = p.1;
+      there = takes_along i (fixed u) p.0 s back bytes [] (fixed u) p.1 p.2
+          (record { back = back; parts = refl; rest = rest; text = e; reached = tt });
+      text = e;
+    },
+    (refl, refl),
+  ),
   p.2,
 )
 moves_along (m ∷ front) u back [] bytes rest p e = absurd p
@@ -58,7 +69,8 @@ meet (m ∷ f) (n ∷ g) [] t u b r q h k = absurd h
 meet (m ∷ f) (n ∷ g) (i ∷ s) t u b r q h k =
     let same = same_taken i m n h.0 k.0 b h.2.takes k.2.takes h.2.there k.2.there in
     let rest : h.1 ≡ k.1 = append_cancel_left (mark_text m) h.1 k.1 (sym h.2.text ∙ k.2.text ∙ ap (λ (x : Mark). mark_text x ++ k.1) (sym same.marks)) in
-    meet_more m n f g t r u q same.marks (meet f g (h.0 ++ s) t u h.1 r q h.3 (subst (λ (x : List ℕ). Moves g (h.0 ++ s) x u q) (sym rest) (subst (λ (x : List Item). Moves g (x ++ s) k.1 u q) (sym same.items) k.3)))
+    meet_more m n f g t r u q same.marks (meet f g (h.0 ++ s) t u h.1 r q h.3
+    (subst (λ (x : List ℕ). Moves g (h.0 ++ s) x u q) (sym rest) (subst (λ (x : List Item). Moves g (x ++ s) k.1 u q) (sym same.items) k.3)))
 
 mark_read : (a : Lead) (w b : List ℕ) → IsWordOf (mode_of a) w → There a w b → mark_of a (take (taken a b) b) ≡ mark_of a w
 mark_read (text bytes items) w b h t = refl
@@ -74,27 +86,32 @@ ends_or_further : (r : Answer) (k : Left) (z : Shared) → further k z ≡ ends 
 ends_or_further r k z e = cc
 
 -- where a mark is read that passes nothing is refused
-never_refused : (names : NameTable) (end : ℕ) (i : Item) (s : List Item) (m : Mark) (b behind : List ℕ) (new : List Item) (z : Shared) (e : CertificateCause × ℕ) → Move i m b behind new → verdict names 0 (demands_of m) ≡ None → share_verdict z 0 (demands_of m) ≡ None → RefusesAt names (left_at end (i ∷ s) b) z e → ⊥
+never_refused : (names : NameTable) (end : ℕ) (i : Item) (s : List Item) (m : Mark) (b behind : List ℕ) (new : List Item) (z : Shared) (e : CertificateCause × ℕ)
+    → Move i m b behind new → verdict names 0 (demands_of m) ≡ None → share_verdict z 0 (demands_of m) ≡ None → RefusesAt names (left_at end (i ∷ s) b) z e → ⊥
 never_refused names end i s m b behind new z e h v w r =
     let k = h.takes in
     let t = h.there in
     let l = left_at end (i ∷ s) b in
     let first : first_there (leads i) b ≡ Some k.lead = ap (first_there (leads i)) t.parts ∙ first_complete i k.lead k.word_of t.rest k.among k.spelt t.ends in
     let mark : mark_of k.lead (take (taken k.lead b) b) ≡ m = mark_read k.lead k.word_of b k.spelt t ∙ sym k.mark in
-    let passed : verdict names l.at (demands_of (mark_of k.lead (take (taken k.lead b) b))) ≡ None = ap (λ (x : Mark). verdict names l.at (demands_of x)) mark ∙ passed_anywhere names 0 l.at (demands_of m) v in
+    let passed : verdict names l.at (demands_of (mark_of k.lead (take (taken k.lead b) b))) ≡ None = ap (λ (x : Mark). verdict names l.at (demands_of x)) mark
+    ∙ passed_anywhere names 0 l.at (demands_of m) v in
     let goes = ap (λ (x : Option Lead). step_lead names l x i s) first ∙ ap (λ (x : Option (CertificateCause × ℕ)). judged x (behind_lead l k.lead s)) passed in
     let on = step_on names l (behind_lead l k.lead s) m z (record { item = i; others = s; items = refl; lead = k.lead; first = first; mark = sym mark; goes = goes }) w in
     ends_or_further (machine.refused e.0 e.1) (behind_lead l k.lead s) (behind_mark m z) (sym on ∙ r)
 
 -- a reader that stops has gone along what passes
-pub stops_ahead : (names : NameTable) (end : ℕ) (f g : List Mark) (s t : List Item) (b r : List ℕ) (i : Item) (more : List Item) (q : List ℕ) (a z : Shared) (e : CertificateCause × ℕ) → Moves f s b t r → Pass names f → PassShares a f → Moves g s b (i ∷ more) q → z ≡ behind_marks g a → RefusesAt names (left_at end (i ∷ more) q) z e → (ms : List Mark) × Moves ms t r (i ∷ more) q
+pub stops_ahead : (names : NameTable) (end : ℕ) (f g : List Mark) (s t : List Item) (b r : List ℕ) (i : Item) (more : List Item) (q : List ℕ) (a z : Shared)
+    (e : CertificateCause × ℕ) → Moves f s b t r → Pass names f → PassShares a f → Moves g s b (i ∷ more) q → z ≡ behind_marks g a → RefusesAt names (left_at end (i ∷ more) q) z e
+    → (ms : List Mark) × Moves ms t r (i ∷ more) q
 stops_ahead names end f g s t b r i more q a z e h p w k is x = by (meet f g s t (i ∷ more) b r q h k)
   where
     by : Meet f g t r (i ∷ more) q → (ms : List Mark) × Moves ms t r (i ∷ more) q
     by (ahead ms y) = (ms, y)
     by (behind_it m ms v y) =
         let there = (pass_split g (m ∷ ms) a (subst (PassShares a) v w)).1.0 in
-        absurd (never_refused names end i more m q y.1 y.0 (behind_marks g a) e y.2 (pass_append names g (m ∷ ms) (subst (Pass names) v p)).1.0 there (subst (λ (c : Shared). RefusesAt names (left_at end (i ∷ more) q) c e) is x))
+        absurd (never_refused names end i more m q y.1 y.0 (behind_marks g a) e y.2 (pass_append names g (m ∷ ms) (subst (Pass names) v p)).1.0 there
+        (subst (λ (c : Shared). RefusesAt names (left_at end (i ∷ more) q) c e) is x))
 
 -- ---- the items behind a mark, by each lead of an item
 

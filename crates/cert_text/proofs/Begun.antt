@@ -31,8 +31,10 @@ version_line (by_number f) = fixed (codes "concon 2\n")
 
 -- the first line tells the version
 first_step : (u : Uses) (new : List Item) → Takes opening (version_line u) new → AreLow (version_of u) (new ++ [])
-first_step in_full new h = step_by (λ (x : List Item). AreLow first_version (x ++ [])) opening _ new h ((λ w e. absurd cc), ((λ w e. absurd cc), ((λ w e. inl (body_low first_version None)), ((λ w e. absurd (lines_apart e)), tt))))
-first_step (by_number f) new h = step_by (λ (x : List Item). AreLow second_version (x ++ [])) opening _ new h ((λ w e. absurd cc), ((λ w e. absurd cc), ((λ w e. absurd (lines_apart (sym e))), ((λ w e. inl (shared_low None)), tt))))
+first_step in_full new h = step_by (λ (x : List Item). AreLow first_version (x ++ [])) opening _ new h
+    ((λ w e. absurd cc), ((λ w e. absurd cc), ((λ w e. inl (body_low first_version None)), ((λ w e. absurd (lines_apart e)), tt))))
+first_step (by_number f) new h = step_by (λ (x : List Item). AreLow second_version (x ++ [])) opening _ new h
+    ((λ w e. absurd cc), ((λ w e. absurd cc), ((λ w e. absurd (lines_apart (sym e))), ((λ w e. inl (shared_low None)), tt))))
 
 second_step : (u : Uses) (g : Option Bool) (new : List Item) → Takes (heading g) (version_line u) new → AreLow (version_of u) (new ++ [])
 second_step in_full g new h = step_by (λ (x : List Item). AreLow first_version (x ++ [])) (heading g) _ new h ((λ w e. inl (body_low first_version g)), ((λ w e. absurd (lines_apart e)), tt))
@@ -45,15 +47,18 @@ answer_step false new h = step_by (λ (x : List Item). x ≡ heading (Some false
 behind_line : (u : Uses) (ms : List Mark) (new t : List Item) → Peakless ms → AreLow (version_of u) (new ++ []) → Path ms (new ++ []) t → AreLow (version_of u) t
 behind_line u ms new t none low p = low_path (version_of u) ms (new ++ []) t none p low
 
-heading_low : (u : Uses) (x : Naming) (bs : List Automaton) (ms : List Mark) (g : Option Bool) (t : List Item) → Peakless (heading_marks x u bs ++ ms) → Path (heading_marks x u bs ++ ms) (heading g ∷ []) t → AreLow (version_of u) t
+heading_low : (u : Uses) (x : Naming) (bs : List Automaton) (ms : List Mark) (g : Option Bool) (t : List Item) → Peakless (heading_marks x u bs ++ ms)
+    → Path (heading_marks x u bs ++ ms) (heading g ∷ []) t → AreLow (version_of u) t
 heading_low in_full x bs ms g t none p = behind_line in_full ms p.0 t none.1 (second_step in_full g p.0 p.1) p.2
 heading_low (by_number f) x bs ms g t none p = behind_line (by_number f) (shared_marks x bs ++ ms) p.0 t none.1 (second_step (by_number f) g p.0 p.1) p.2
 
-opening_low : (u : Uses) (x : Naming) (bs : List Automaton) (ms : List Mark) (t : List Item) → Peakless (heading_marks x u bs ++ ms) → Path (heading_marks x u bs ++ ms) (opening ∷ []) t → AreLow (version_of u) t
+opening_low : (u : Uses) (x : Naming) (bs : List Automaton) (ms : List Mark) (t : List Item) → Peakless (heading_marks x u bs ++ ms)
+    → Path (heading_marks x u bs ++ ms) (opening ∷ []) t → AreLow (version_of u) t
 opening_low in_full x bs ms t none p = behind_line in_full ms p.0 t none.1 (first_step in_full p.0 p.1) p.2
 opening_low (by_number f) x bs ms t none p = behind_line (by_number f) (shared_marks x bs ++ ms) p.0 t none.1 (first_step (by_number f) p.0 p.1) p.2
 
-front_low : (g : Option Bool) (u : Uses) (x : Naming) (bs : List Automaton) (ms : List Mark) (t : List Item) → Peakless (answer_marks g ++ (heading_marks x u bs ++ ms)) → Path (answer_marks g ++ (heading_marks x u bs ++ ms)) (opening ∷ []) t → AreLow (version_of u) t
+front_low : (g : Option Bool) (u : Uses) (x : Naming) (bs : List Automaton) (ms : List Mark) (t : List Item) → Peakless (answer_marks g ++ (heading_marks x u bs ++ ms))
+    → Path (answer_marks g ++ (heading_marks x u bs ++ ms)) (opening ∷ []) t → AreLow (version_of u) t
 front_low None u x bs ms t none p = opening_low u x bs ms t none p
 front_low (Some true) u x bs ms t none p = heading_low u x bs ms (Some true) t none.1 (subst (λ (s : List Item). Path (heading_marks x u bs ++ ms) (s ++ []) t) (answer_step true p.0 p.1) p.2)
 front_low (Some false) u x bs ms t none p = heading_low u x bs ms (Some false) t none.1 (subst (λ (s : List Item). Path (heading_marks x u bs ++ ms) (s ++ []) t) (answer_step false p.0 p.1) p.2)
@@ -81,11 +86,13 @@ along_marks names bytes o end h =
     let last = ends.1 ∷ ends.2 in
     let whole = with_end names bytes o end h in
     let text : bytes ≡ marks_text ends.0 ++ (last ++ h.rest) =
-    h.text ∙ ap (λ (w : List ℕ). w ++ h.rest) (ap marks_text ends.3 ∙ text_both ends.0 (fixed last ∷ []) ∙ ap (λ (w : List ℕ). marks_text ends.0 ++ w) (append-nil last)) ∙ append_assoc (marks_text ends.0) last h.rest in
+    h.text ∙ ap (λ (w : List ℕ). w ++ h.rest) (ap marks_text ends.3 ∙ text_both ends.0 (fixed last ∷ []) ∙ ap (λ (w : List ℕ). marks_text ends.0 ++ w) (append-nil last))
+    ∙ append_assoc (marks_text ends.0) last h.rest in
     let path = subst (λ (k : List Mark). Path k (opening ∷ []) []) (whole.1 ∙ ap (λ (k : List Mark). k ++ closing) ends.3 ∙ append_assoc ends.0 (fixed last ∷ []) closing) (skeleton_path whole.0) in
     let moved = moves_along ends.0 last closing (opening ∷ []) bytes h.rest path text in
     let moves = subst (λ (k : List Mark). Moves k (opening ∷ []) bytes moved.0 h.rest) (sym ends.3) moved.1 in
-    let low = last_item (version_of h.uses) moved.0 (front_low h.answer h.uses x h.shared (body_marks x h.uses h.answer (certificate_for o [])) moved.0 (opening_peakless x h.uses h.shared h.answer o) (moves_path ms (opening ∷ []) moved.0 bytes h.rest moves)) moved.2 in
+    let low = last_item (version_of h.uses) moved.0 (front_low h.answer h.uses x h.shared (body_marks x h.uses h.answer (certificate_for o [])) moved.0
+    (opening_peakless x h.uses h.shared h.answer o) (moves_path ms (opening ∷ []) moved.0 bytes h.rest moves)) moved.2 in
     record {
       marks = ms;
       item = low.0;
@@ -100,21 +107,25 @@ along names bytes o end h = subst (λ (r : List ℕ). Along names bytes (version
 
 -- ---- no reader stops within an opening that stands there
 
-pub unopened : (names : NameTable) (bytes : List ℕ) (e : CertificateCause × ℕ) (o : Opening) (end : ℕ) → (h : IsOpened names bytes o end) → StopsWhere (WithinOpening (version_in names bytes o end h.read)) names (length bytes) (opening ∷ []) bytes nothing_shared e → ⊥
+pub unopened : (names : NameTable) (bytes : List ℕ) (e : CertificateCause × ℕ) (o : Opening) (end : ℕ) → (h : IsOpened names bytes o end)
+    → StopsWhere (WithinOpening (version_in names bytes o end h.read)) names (length bytes) (opening ∷ []) bytes nothing_shared e → ⊥
 unopened names bytes e o end h s =
     let a = along names bytes o end h.read in
     let z = behind_marks s.marks nothing_shared in
     let r : At names bytes (left_at (length bytes) (s.item ∷ s.more) s.rest) z = walks_at names bytes s.marks _ _ nothing_shared (start_at names bytes) s.walks (s.stops []).0 in
-    let there = stops_ahead names (length bytes) a.marks r.reached.front (opening ∷ []) (a.item ∷ []) bytes h.read.rest s.item s.more s.rest nothing_shared z e a.moves a.passed a.shares r.reached.moves r.is (s.stops []).1 in
+    let there = stops_ahead names (length bytes) a.marks r.reached.front (opening ∷ []) (a.item ∷ []) bytes h.read.rest s.item s.more s.rest nothing_shared z e a.moves a.passed
+    a.shares r.reached.moves r.is (s.stops []).1 in
     by a there.0 there.1
   where
     by : (a : Along names bytes (version_in names bytes o end h.read) h.read.rest) (ms : List Mark) → Moves ms (a.item ∷ []) h.read.rest (s.item ∷ s.more) s.rest → ⊥
     by a [] m = s.place.closed a.item (sym m.0) a.is_list (subst BeginsEntry m.1 h.begins)
-    by a (m ∷ ms) k = s.place.early (later_moves (version_in names bytes o end h.read) 1 ms (k.0 ++ []) (s.item ∷ s.more) k.1 s.rest k.3 (list_step (version_in names bytes o end h.read) a.item m h.read.rest k.1 k.0 a.is_list h.begins k.2))
+    by a (m ∷ ms) k = s.place.early (later_moves (version_in names bytes o end h.read) 1 ms (k.0 ++ []) (s.item ∷ s.more) k.1 s.rest k.3
+        (list_step (version_in names bytes o end h.read) a.item m h.read.rest k.1 k.0 a.is_list h.begins k.2))
 
 -- ---- the first line tells the version
 
-versions_apart : (g k : Option Bool) (ms ns : List Mark) (r s : List ℕ) → marks_text (answer_marks g ++ (fixed (codes "concon 1\n") ∷ ms)) ++ r ≡ marks_text (answer_marks k ++ (fixed (codes "concon 2\n") ∷ ns)) ++ s → ⊥
+versions_apart : (g k : Option Bool) (ms ns : List Mark) (r s : List ℕ)
+    → marks_text (answer_marks g ++ (fixed (codes "concon 1\n") ∷ ms)) ++ r ≡ marks_text (answer_marks k ++ (fixed (codes "concon 2\n") ∷ ns)) ++ s → ⊥
 versions_apart None None ms ns r s e = bytes_apart 49 50 _ _ refl (append_cancel_left (codes "concon ") _ _ e)
 versions_apart None (Some true) ms ns r s e = bytes_apart 99 89 _ _ refl e
 versions_apart None (Some false) ms ns r s e = bytes_apart 99 78 _ _ refl e
@@ -125,13 +136,16 @@ versions_apart (Some false) None ms ns r s e = bytes_apart 78 99 _ _ refl e
 versions_apart (Some false) (Some true) ms ns r s e = bytes_apart 78 89 _ _ refl e
 versions_apart (Some false) (Some false) ms ns r s e = bytes_apart 49 50 _ _ refl (append_cancel_left (codes "NO\nconcon ") _ _ e)
 
-same_versions : (u w : Uses) (x y : Naming) (cs bs : List Automaton) (g k : Option Bool) (ms ns : List Mark) (r s : List ℕ) → marks_text (answer_marks g ++ (heading_marks x u cs ++ ms)) ++ r ≡ marks_text (answer_marks k ++ (heading_marks y w bs ++ ns)) ++ s → version_of u ≡ version_of w
+same_versions : (u w : Uses) (x y : Naming) (cs bs : List Automaton) (g k : Option Bool) (ms ns : List Mark) (r s : List ℕ)
+    → marks_text (answer_marks g ++ (heading_marks x u cs ++ ms)) ++ r ≡ marks_text (answer_marks k ++ (heading_marks y w bs ++ ns)) ++ s → version_of u ≡ version_of w
 same_versions in_full in_full x y cs bs g k ms ns r s e = refl
 same_versions (by_number f) (by_number i) x y cs bs g k ms ns r s e = refl
 same_versions in_full (by_number i) x y cs bs g k ms ns r s e = absurd (versions_apart g k _ _ r s e)
 same_versions (by_number f) in_full x y cs bs g k ms ns r s e = absurd (versions_apart k g _ _ s r (sym e))
 
-pub version_is : (names : NameTable) (bytes left : List ℕ) (o : Opening) (end : ℕ) (u : Uses) (all : List Automaton) (given : Option Bool) (ms : List Mark) → (h : IsRead names bytes o [] end) → bytes ≡ marks_text (answer_marks given ++ (heading_marks (name_of names) u all ++ ms)) ++ left → version_in names bytes o end h ≡ version_of u
+pub version_is : (names : NameTable) (bytes left : List ℕ) (o : Opening) (end : ℕ) (u : Uses) (all : List Automaton) (given : Option Bool) (ms : List Mark)
+    → (h : IsRead names bytes o [] end) → bytes ≡ marks_text (answer_marks given ++ (heading_marks (name_of names) u all ++ ms)) ++ left
+    → version_in names bytes o end h ≡ version_of u
 version_is names bytes left o end u all given ms h text =
     let k = opened names bytes o end h in
     same_versions k.uses u (name_of names) (name_of names) k.shared all k.answer given (body_marks (name_of names) k.uses k.answer (certificate_for o [])) ms k.rest left (sym k.text ∙ text)

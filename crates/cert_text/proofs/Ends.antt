@@ -25,12 +25,14 @@ mutual
 
   step_end : (s : Step) (level : ℕ) (a : List Mark) → EndsInBytes a → EndsInBytes (a ++ step_marks level s)
   step_end (by_rule rule p ds) level a h =
-      ends_behind a _ (derivations_end ds (suc level) (rule_mark rule p (derivation_count ds)) (fixed (codes "rule ") ∷ number rule ∷ fixed (codes " ") ∷ position p ∷ fixed (codes " ") ∷ number (derivation_count ds) ∷ [], 10, [], refl))
+      ends_behind a _ (derivations_end ds (suc level) (rule_mark rule p (derivation_count ds))
+      (fixed (codes "rule ") ∷ number rule ∷ fixed (codes " ") ∷ position p ∷ fixed (codes " ") ∷ number (derivation_count ds) ∷ [], 10, [], refl))
   step_end (by_hypothesis k p) level a h = ends_behind a _ (fixed (codes "hyp ") ∷ number k ∷ fixed (codes " ") ∷ position p ∷ [], 10, [], refl)
 
   derivations_end : (ds : Derivations) (level : ℕ) (a : List Mark) → EndsInBytes a → EndsInBytes (a ++ derivations_marks level ds)
   derivations_end no_derivations level a h = subst EndsInBytes (sym (append-nil a)) h
-  derivations_end (first_derivation d ds) level a h = ends_behind a _ (derivations_end ds level (steps_mark level (step_count d) ++ steps_marks level d) (steps_end d level (steps_mark level (step_count d)) (line_end level (step_count d))))
+  derivations_end (first_derivation d ds) level a h = ends_behind a _ (derivations_end ds level (steps_mark level (step_count d) ++ steps_marks level d)
+      (steps_end d level (steps_mark level (step_count d)) (line_end level (step_count d))))
 
 derivation_end : (d : Derivation) → EndsInBytes (derivation_marks d)
 derivation_end d = steps_end d 1 (steps_mark 1 (step_count d)) (line_end 1 (step_count d))
@@ -43,9 +45,11 @@ transitions_end (t ∷ ts) x bound a h =
 
 automaton_end : (a : Automaton) (x : Naming) → EndsInBytes (automaton_marks x a)
 automaton_end a x =
-    ends_behind (word (codes "states") (shares automaton_begins ∷ []) ∷ fixed (codes " ") ∷ word (numeral a.states) (in_range 0 1 (suc largest) a.states ∷ is_few states a.states ∷ []) ∷ fixed (codes "\naccepting") ∷ []) _
+    ends_behind (word (codes "states") (shares automaton_begins ∷ []) ∷ fixed (codes " ") ∷ word (numeral a.states)
+    (in_range 0 1 (suc largest) a.states ∷ is_few states a.states ∷ []) ∷ fixed (codes "\naccepting") ∷ []) _
     (ends_behind (accepting_marks a.states a.accepting) _
-    (transitions_end a.transitions x a.states (fixed (codes "\ntransitions ") ∷ number_for transitions (length a.transitions) ∷ fixed (codes "\n") ∷ []) (fixed (codes "\ntransitions ") ∷ number_for transitions (length a.transitions) ∷ [], 10, [], refl)))
+    (transitions_end a.transitions x a.states (fixed (codes "\ntransitions ") ∷ number_for transitions (length a.transitions) ∷ fixed (codes "\n") ∷ [])
+    (fixed (codes "\ntransitions ") ∷ number_for transitions (length a.transitions) ∷ [], 10, [], refl)))
 
 infeasibility_end : (e : InfeasibilityEvidence) (x : Naming) (u : Uses) → EndsInBytes (infeasibility_marks x u e)
 infeasibility_end by_caps x u = ([], 116, codes "cap\n", refl)
@@ -62,13 +66,15 @@ evidence_end (unfeasible_pair k d e) x u = ends_behind (fixed (codes "unfeasible
 pairs_end : (ps : List PairEntry) (x : Naming) (u : Uses) (n : ℕ) (a : List Mark) → EndsInBytes a → EndsInBytes (a ++ pairs_marks x u n ps)
 pairs_end [] x u n a h = subst EndsInBytes (sym (append-nil a)) h
 pairs_end (p ∷ ps) x u n a h =
-    let line = word (codes "pair") (is_few marks.pairs n ∷ []) ∷ fixed (codes " ") ∷ number p.inner ∷ fixed (codes " ") ∷ position p.position ∷ fixed (codes " ") ∷ number p.outer ∷ fixed (codes " ") ∷ [] in
+    let line = word (codes "pair") (is_few marks.pairs n ∷ []) ∷ fixed (codes " ") ∷ number p.inner ∷ fixed (codes " ") ∷ position p.position ∷ fixed (codes " ")
+    ∷ number p.outer ∷ fixed (codes " ") ∷ [] in
     ends_behind a _ (pairs_end ps x u (suc n) (line ++ evidence_marks x u p.evidence) (ends_behind line (evidence_marks x u p.evidence) (evidence_end p.evidence x u)))
 
 -- an opening, and entries behind it
 body_parts : (o : Opening) (x : Naming) (u : Uses) (g : Option Bool) (es : List PairEntry) → body_marks x u g (certificate_for o es) ≡ body_marks x u g (certificate_for o []) ++ pairs_marks x u 1 es
 body_parts ortho_opening x u g es = refl
-body_parts (quasi_opening m) x u g es = ap (λ (ms : List Mark). word (codes "quasi") (fits_answer true g ∷ []) ∷ fixed (codes "\n") ∷ (ms ++ pairs_marks x u 1 es)) (sym (append-nil (measure_marks x m)))
+body_parts (quasi_opening m) x u g es = ap (λ (ms : List Mark). word (codes "quasi") (fits_answer true g ∷ []) ∷ fixed (codes "\n") ∷ (ms ++ pairs_marks x u 1 es))
+    (sym (append-nil (measure_marks x m)))
 body_parts (simplified_opening ss o) x u g es =
     let steps = simplifications_marks x u ss in
     let body = body_marks x u g (certificate_for o []) in
@@ -88,10 +94,12 @@ read_end x u bs g o es = subst EndsInBytes (sym (read_parts x u bs g o es)) (pai
 pairs_more : (x : Naming) (u : Uses) (n m : ℕ) (ps : List PairEntry) (p : PairEntry) → m ≡ n + length ps → pairs_marks x u n ps ++ pairs_marks x u m (p ∷ []) ≡ pairs_marks x u n (ps ++ p ∷ [])
 pairs_more x u n m [] p e = let q : m ≡ n = omega (arith, e) in ap (λ (k : ℕ). pairs_marks x u k (p ∷ [])) q
 pairs_more x u n m (q ∷ ps) p e =
-    append_assoc (pair_line_by x u n q) (pairs_marks x u (suc n) ps) (pairs_marks x u m (p ∷ [])) ∙ ap (λ (ms : List Mark). pair_line_by x u n q ++ ms) (pairs_more x u (suc n) m ps p (omega (arith, e)))
+    append_assoc (pair_line_by x u n q) (pairs_marks x u (suc n) ps) (pairs_marks x u m (p ∷ [])) ∙ ap (λ (ms : List Mark). pair_line_by x u n q ++ ms)
+    (pairs_more x u (suc n) m ps p (omega (arith, e)))
 
 -- one entry more
-pub read_more : (x : Naming) (u : Uses) (bs : List Automaton) (g : Option Bool) (o : Opening) (es : List PairEntry) (p : PairEntry) → read_marks x u bs g o es ++ pairs_marks x u (suc (length es)) (p ∷ []) ≡ read_marks x u bs g o (es ++ p ∷ [])
+pub read_more : (x : Naming) (u : Uses) (bs : List Automaton) (g : Option Bool) (o : Opening) (es : List PairEntry) (p : PairEntry)
+    → read_marks x u bs g o es ++ pairs_marks x u (suc (length es)) (p ∷ []) ≡ read_marks x u bs g o (es ++ p ∷ [])
 read_more x u bs g o es p =
     ap (λ (ms : List Mark). ms ++ pairs_marks x u (suc (length es)) (p ∷ [])) (read_parts x u bs g o es)
     ∙ append_assoc (opening_marks x u bs g o) (pairs_marks x u 1 es) (pairs_marks x u (suc (length es)) (p ∷ []))

@@ -136,21 +136,30 @@ behind_line (m ∷ ms) t b r h p = by ms (line_gone h.2.takes) h.3
 abbrev Begins : Version → ℕ → List ℕ → List Item → Type 0
 Begins v n left new = (Behind v n new × ((w : List ℕ) → left ≡ codes "end" ++ w → ⊥)) ⊎ (new ≡ between line ∷ [])
 
-word_left : (i : Item) (m : Mark) (left behind : List ℕ) (new : List Item) (h : Move i m left behind new) (bytes : List ℕ) (ds : List Demand) (items : List Item) → h.takes.lead ≡ keyword bytes ds items → left ≡ bytes ++ h.there.rest
+word_left : (i : Item) (m : Mark) (left behind : List ℕ) (new : List Item) (h : Move i m left behind new) (bytes : List ℕ) (ds : List Demand) (items : List Item)
+    → h.takes.lead ≡ keyword bytes ds items → left ≡ bytes ++ h.there.rest
 word_left i m left behind new h bytes ds items e =
     h.there.parts ∙ ap (λ (w : List ℕ). w ++ h.there.rest) (text_is bytes h.takes.word_of (subst (λ (a : Lead). IsWordOf (mode_of a) h.takes.word_of) e h.takes.spelt))
 
 no_last : (left rest : List ℕ) → left ≡ codes "pair" ++ rest → (w : List ℕ) → left ≡ codes "end" ++ w → ⊥
 no_last left rest e w f = bytes_apart 112 101 _ _ refl (sym e ∙ f)
 
-begins_with : (v : Version) (n k : ℕ) (i : Item) (m : Mark) (left behind : List ℕ) (new : List Item) → n < suc k → (h : Move i m left behind new) → In h.takes.lead (pair_or_end v k) → Begins v n left new
-begins_with v n k i m left behind new less h (inl e) = inl (given_items (Behind v n) i m new h.takes _ e (inl (suc k, refl, less)), no_last left h.there.rest (word_left i m left behind new h (codes "pair") _ _ e))
+begins_with : (v : Version) (n k : ℕ) (i : Item) (m : Mark) (left behind : List ℕ) (new : List Item) → n < suc k → (h : Move i m left behind new)
+    → In h.takes.lead (pair_or_end v k) → Begins v n left new
+begins_with v n k i m left behind new less h (inl e) = inl (
+  given_items (Behind v n) i m new h.takes _ e (inl (suc k, refl, less)),
+  no_last left h.there.rest
+      (word_left i m left behind new h (codes "pair") _ _ e),
+)
 begins_with v n k i m left behind new less h (inr (inl e)) = inr (given_items (λ (x : List Item). x ≡ between line ∷ []) i m new h.takes _ e refl)
 begins_with v n k i m left behind new less h (inr (inr x)) = absurd x
 
-symbol_begins : (v : Version) (i : Item) (m : Mark) (left behind : List ℕ) (new : List Item) (h : Move i m left behind new) (f a : List Demand × List Item) → BeginsEntry left → In h.takes.lead (keyword (codes "fun") f.0 f.1 ∷ keyword (codes "aux") a.0 a.1 ∷ pair_or_end v 1) → Begins v 1 left new
-symbol_begins v i m left behind new h f a b (inl e) = absurd (no_entry 102 (codes "un") left h.there.rest b (word_left i m left behind new h (codes "fun") f.0 f.1 e) (apart 102 112 refl) (apart 102 101 refl))
-symbol_begins v i m left behind new h f a b (inr (inl e)) = absurd (no_entry 97 (codes "ux") left h.there.rest b (word_left i m left behind new h (codes "aux") a.0 a.1 e) (apart 97 112 refl) (apart 97 101 refl))
+symbol_begins : (v : Version) (i : Item) (m : Mark) (left behind : List ℕ) (new : List Item) (h : Move i m left behind new) (f a : List Demand × List Item) → BeginsEntry left
+    → In h.takes.lead (keyword (codes "fun") f.0 f.1 ∷ keyword (codes "aux") a.0 a.1 ∷ pair_or_end v 1) → Begins v 1 left new
+symbol_begins v i m left behind new h f a b (inl e) = absurd (no_entry 102 (codes "un") left h.there.rest b (word_left i m left behind new h (codes "fun") f.0 f.1 e)
+    (apart 102 112 refl) (apart 102 101 refl))
+symbol_begins v i m left behind new h f a b (inr (inl e)) = absurd (no_entry 97 (codes "ux") left h.there.rest b (word_left i m left behind new h (codes "aux") a.0 a.1 e)
+    (apart 97 112 refl) (apart 97 101 refl))
 symbol_begins v i m left behind new h f a b (inr (inr x)) = begins_with v 1 1 i m left behind new (omega arith) h x
 
 entries_begin : (v : Version) (k : ℕ) (m : Mark) (left behind : List ℕ) (new : List Item) → BeginsEntry left → Move (entries_from v k) m left behind new → Begins v 1 left new
@@ -170,15 +179,26 @@ next_begins v i n m left behind new (inr x) h = subst (λ (k : ℕ). Begins v k 
 
 -- ---- an opening and entries that are read, by moves
 
-along : (names : NameTable) (bytes : List ℕ) (o : Opening) (es : List PairEntry) (at : ℕ) (g : Gone names bytes o es at) → (t : List Item) × Moves (read_marks (name_of names) g.uses g.shared g.answer o es) (opening ∷ []) bytes t g.rest × Path closing t []
+along : (names : NameTable) (bytes : List ℕ) (o : Opening) (es : List PairEntry) (at : ℕ) (g : Gone names bytes o es at)
+    → (t : List Item) × Moves (read_marks (name_of names) g.uses g.shared g.answer o es) (opening ∷ []) bytes t g.rest × Path closing t []
 along names bytes o es at g =
     let x = name_of names in
     let c = certificate_for o es in
     let ms = read_marks x g.uses g.shared g.answer o es in
     let heading = heading_marks x g.uses g.shared in
     let body = body_marks x g.uses g.answer c in
-    let whole : certificate_marks x g.uses g.shared g.answer c ≡ ms ++ closing = sym (append_assoc (answer_marks g.answer) (heading ++ body) closing ∙ ap (λ (k : List Mark). answer_marks g.answer ++ k) (append_assoc heading body closing)) in
-    let skeleton : Skeleton = record { names = x; uses = g.uses; shared = g.shared; answer = g.answer; certificate = c; allowed = g.allowed; named = subst HaveNames (sym whole) (have_both ms closing g.spells.named tt) } in
+    let whole : certificate_marks x g.uses g.shared g.answer c ≡ ms ++ closing = sym (append_assoc (answer_marks g.answer) (heading ++ body) closing
+    ∙ ap (λ (k : List Mark). answer_marks g.answer ++ k) (append_assoc heading body closing)) in
+    let skeleton : Skeleton = record {
+      names = x;
+      uses = g.uses;
+      shared = g.shared;
+      answer = g.answer;
+      certificate = c;
+      allowed = g.allowed;
+      named = subst HaveNames (sym whole)
+          (have_both ms closing g.spells.named tt);
+    } in
     let end = read_end x g.uses g.shared g.answer o es in
     let last = end.1 ∷ end.2 in
     let path = subst (λ (k : List Mark). Path k (opening ∷ []) []) (whole ∙ ap (λ (k : List Mark). k ++ closing) end.3 ∙ append_assoc end.0 (fixed last ∷ []) closing) (skeleton_path skeleton) in
@@ -206,7 +226,8 @@ module _ (v : Version) (shared : List Automaton) (names : NameTable) (bytes left
   here = walks_moves names gone_marks _ _ (u.run.walks (omega arith) [])
 
   -- what goes on from here to where the last line may stand has read an entry
-  entered : (ms : List Mark) (t : List Item) (rest : List ℕ) → (ms ≡ [] → ⊥) → Moves ms (u.item ∷ []) left t rest → Path closing t [] → AreBehind v (suc count) t × ((w : List ℕ) → left ≡ codes "end" ++ w → ⊥)
+  entered : (ms : List Mark) (t : List Item) (rest : List ℕ) → (ms ≡ [] → ⊥) → Moves ms (u.item ∷ []) left t rest → Path closing t []
+      → AreBehind v (suc count) t × ((w : List ℕ) → left ≡ codes "end" ++ w → ⊥)
   entered [] t rest some h p = absurd (some refl)
   entered (m ∷ ms) t rest some h p = by (next_begins v u.item (suc count) m left h.1 h.0 u.next h.2)
     where
@@ -215,7 +236,8 @@ module _ (v : Version) (shared : List Automaton) (names : NameTable) (bytes left
       by (inr e) = absurd (behind_line ms t h.1 rest (subst (λ (x : List Item). Moves ms (x ++ []) h.1 t rest) e h.3) p)
 
   -- so it goes on along one entry more
-  goes_on : (p : PairEntry) (place : ℕ) (a : Gone names bytes u.opening (u.entries ++ p ∷ []) place) (t : List Item) → Moves (read_marks (name_of names) a.uses a.shared a.answer u.opening (u.entries ++ p ∷ [])) (opening ∷ []) bytes t a.rest
+  goes_on : (p : PairEntry) (place : ℕ) (a : Gone names bytes u.opening (u.entries ++ p ∷ []) place) (t : List Item)
+      → Moves (read_marks (name_of names) a.uses a.shared a.answer u.opening (u.entries ++ p ∷ [])) (opening ∷ []) bytes t a.rest
       → (ms : List Mark) × ((ms ≡ [] → ⊥) × Moves ms (u.item ∷ []) left t a.rest)
   goes_on p place a t h = by (meet gone_marks f (opening ∷ []) (u.item ∷ []) parts.0 bytes left parts.1 here parts.2)
     where
@@ -226,7 +248,8 @@ module _ (v : Version) (shared : List Automaton) (names : NameTable) (bytes left
       more = pairs_marks (name_of names) a.uses (suc (length u.entries)) (p ∷ [])
 
       parts : (s : List Item) × (q : List ℕ) × Moves f (opening ∷ []) bytes s q × Moves more s q t a.rest
-      parts = moves_split f more (opening ∷ []) t bytes a.rest (subst (λ (k : List Mark). Moves k (opening ∷ []) bytes t a.rest) (sym (read_more (name_of names) a.uses a.shared a.answer u.opening u.entries p)) h)
+      parts = moves_split f more (opening ∷ []) t bytes a.rest
+          (subst (λ (k : List Mark). Moves k (opening ∷ []) bytes t a.rest) (sym (read_more (name_of names) a.uses a.shared a.answer u.opening u.entries p)) h)
 
       by : Meet gone_marks f (u.item ∷ []) left parts.0 parts.1 → (ms : List Mark) × ((ms ≡ [] → ⊥) × Moves ms (u.item ∷ []) left t a.rest)
       by (ahead ks m) = (ks ++ more, (some_mark ks _ _, moves_both ks more (u.item ∷ []) parts.0 t left parts.1 a.rest m parts.3))
@@ -272,9 +295,16 @@ module _ (v : Version) (shared : List Automaton) (names : NameTable) (bytes left
       let on = goes_on p place a al.0 al.1 in
       let behind = entered on.0 al.0 a.rest on.1.0 on.1.1 al.2 in
       let low = last_item v (suc count) al.0 behind.0 al.2 in
-      record { number = low.0; later = low.1; moves = subst (λ (t : List Item). Moves (read_marks (name_of names) a.uses a.shared a.answer u.opening (u.entries ++ p ∷ [])) (opening ∷ []) bytes t a.rest) low.2 al.1; no_end = behind.1 }
+      record {
+        number = low.0;
+        later = low.1;
+        moves = subst (λ (t : List Item). Moves (read_marks (name_of names) a.uses a.shared a.answer u.opening (u.entries ++ p ∷ []))
+            (opening ∷ []) bytes t a.rest) low.2 al.1;
+        no_end = behind.1;
+      }
 
-  pub entry_stands : (o : Opening) (es : List PairEntry) (p : PairEntry) (place : ℕ) → IsRead names bytes o es (place_of bytes left) → IsRead names bytes o (es ++ p ∷ []) place → (w : List ℕ) → left ≡ codes "end" ++ w → ⊥
+  pub entry_stands : (o : Opening) (es : List PairEntry) (p : PairEntry) (place : ℕ) → IsRead names bytes o es (place_of bytes left) → IsRead names bytes o (es ++ p ∷ []) place
+      → (w : List ℕ) → left ≡ codes "end" ++ w → ⊥
   entry_stands o es p place before after = let more = more_there o es p place before after in (entry_there p more.0 (gone names bytes u.opening (u.entries ++ p ∷ []) more.0 more.1)).no_end
 
   module _ (e : CertificateCause × ℕ) (s : StopsWhere (WithinEntry v (suc count) left) names (length bytes) (u.item ∷ []) left now e) where
@@ -298,5 +328,7 @@ module _ (v : Version) (shared : List Automaton) (names : NameTable) (bytes left
         let is_y : with_begun y.begun now ≡ y = sym (same_begun y now known.1) in
         let refused = subst (λ (x : Shared). RefusesAt names (left_at (length bytes) (s.item ∷ s.more) s.rest) (behind_marks s.marks x) e) is_y (s.stops y.begun).1 in
         let moves = moves_both gone_marks s.marks (opening ∷ []) (u.item ∷ []) (s.item ∷ s.more) bytes left s.rest here (walks_moves names s.marks _ _ s.walks) in
-        let further = stops_ahead names (length bytes) (read_marks (name_of names) a.uses a.shared a.answer u.opening (u.entries ++ p ∷ [])) (gone_marks ++ s.marks) (opening ∷ []) (pairs_from v there.number ∷ []) bytes a.rest s.item s.more s.rest nothing_shared (behind_marks s.marks y) e there.moves a.spells.passed a.pass_shared moves (sym (behind_both gone_marks s.marks nothing_shared)) refused in
+        let further = stops_ahead names (length bytes) (read_marks (name_of names) a.uses a.shared a.answer u.opening (u.entries ++ p ∷ [])) (gone_marks ++ s.marks) (opening ∷ [])
+        (pairs_from v there.number ∷ []) bytes a.rest s.item s.more s.rest nothing_shared (behind_marks s.marks y) e there.moves a.spells.passed a.pass_shared moves
+        (sym (behind_both gone_marks s.marks nothing_shared)) refused in
         never_behind there.number a.rest further.0 there.later there.no_end further.1

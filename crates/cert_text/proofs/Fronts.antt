@@ -37,8 +37,10 @@ use Rattle.cert_text.proofs.Begun.{version_in, unopened, version_is}
 
 -- ---- a part more
 
-pub begun_on : {names : NameTable} {bytes : List ℕ} {v : Version} {shared : List Automaton} {given : Option Bool} {steps : Option (List Simplification)} {further : List Mark} {items : List Item} {s t : Reading} (ns : List Mark) (to : List Item)
-    → IsBegun names bytes v shared given steps further items s → AreStill ns → ReadsWhere BeforeEntries names (length bytes) items (λ u. ns) to s t → IsBegun names bytes v shared given steps (further ++ ns) to t
+pub begun_on : {names : NameTable} {bytes : List ℕ} {v : Version} {shared : List Automaton} {given : Option Bool} {steps : Option (List Simplification)} {further : List Mark}
+    {items : List Item} {s t : Reading} (ns : List Mark) (to : List Item)
+    → IsBegun names bytes v shared given steps further items s → AreStill ns → ReadsWhere BeforeEntries names (length bytes) items (λ u. ns) to s t
+    → IsBegun names bytes v shared given steps (further ++ ns) to t
 begun_on {names} {bytes} {v} {shared} {given} {steps} {further} {items} {s} {t} ns to b still h = record {
   can_share = b.can_share;
   start = b.start;
@@ -52,14 +54,18 @@ begun_on {names} {bytes} {v} {shared} {given} {steps} {further} {items} {s} {t} 
 }
 
 -- behind the line of the kind
-pub line_behind : {names : NameTable} {bytes : List ℕ} {v : Version} {shared : List Automaton} {kind : Kind} {s t : Reading} → (b : BeginsBody names bytes v shared kind s) → Reads names (length bytes) (between line ∷ []) (λ u. fixed (codes "\n") ∷ []) [] s t
+pub line_behind : {names : NameTable} {bytes : List ℕ} {v : Version} {shared : List Automaton} {kind : Kind} {s t : Reading} → (b : BeginsBody names bytes v shared kind s)
+    → Reads names (length bytes) (between line ∷ []) (λ u. fixed (codes "\n") ∷ []) [] s t
     → IsBegun names bytes v shared b.given b.steps (kind_mark b.given kind ∷ fixed (codes "\n") ∷ []) (item_by v kind ∷ []) t
-line_behind {v = v} {kind = kind} b h = begun_on (fixed (codes "\n") ∷ []) (item_by v kind ∷ []) b.begun (tt, tt) (low_where (item_by v kind) (λ i m q w. low_unopened w (item_by v kind) (kind_item v w kind) i m q) h)
+line_behind {v = v} {kind = kind} b h = begun_on (fixed (codes "\n") ∷ []) (item_by v kind ∷ []) b.begun (tt, tt)
+    (low_where (item_by v kind) (λ i m q w. low_unopened w (item_by v kind) (kind_item v w kind) i m q) h)
 
 -- of a kind that is known
-pub line_of : {names : NameTable} {bytes : List ℕ} {v : Version} {shared : List Automaton} {kind : Kind} {s t : Reading} (k : Kind) → kind ≡ k → (b : BeginsBody names bytes v shared kind s) → Reads names (length bytes) (between line ∷ []) (λ u. fixed (codes "\n") ∷ []) [] s t
+pub line_of : {names : NameTable} {bytes : List ℕ} {v : Version} {shared : List Automaton} {kind : Kind} {s t : Reading} (k : Kind) → kind ≡ k
+    → (b : BeginsBody names bytes v shared kind s) → Reads names (length bytes) (between line ∷ []) (λ u. fixed (codes "\n") ∷ []) [] s t
     → IsBegun names bytes v shared b.given b.steps (kind_mark b.given k ∷ fixed (codes "\n") ∷ []) (item_by v k ∷ []) t
-line_of {names} {bytes} {v} {shared} {kind} {s} {t} k e b h = subst (λ (x : Kind). IsBegun names bytes v shared b.given b.steps (kind_mark b.given x ∷ fixed (codes "\n") ∷ []) (item_by v x ∷ []) t) e (line_behind b h)
+line_of {names} {bytes} {v} {shared} {kind} {s} {t} k e b h = subst (λ (x : Kind). IsBegun names bytes v shared b.given b.steps (kind_mark b.given x ∷ fixed (codes "\n") ∷ [])
+    (item_by v x ∷ []) t) e (line_behind b h)
 
 -- ---- the marks from the first one on
 
@@ -67,8 +73,10 @@ abbrev pub certificate_behind : Option (List Simplification) → Certificate →
 certificate_behind None c = c
 certificate_behind (Some steps) c = simplified_certificate steps c
 
-front_body : (steps : Option (List Simplification)) (u : Naming) (w : Uses) (shared : List Automaton) (given : Option Bool) (c : Certificate) → front_marks u w shared given steps ++ body_marks u w given c ≡ answer_marks given ++ (heading_marks u w shared ++ body_marks u w given (certificate_behind steps c))
-front_body None u w shared given c = ap (λ (z : List Mark). (answer_marks given ++ z) ++ body_marks u w given c) (append-nil (heading_marks u w shared)) ∙ append_assoc (answer_marks given) (heading_marks u w shared) (body_marks u w given c)
+front_body : (steps : Option (List Simplification)) (u : Naming) (w : Uses) (shared : List Automaton) (given : Option Bool) (c : Certificate)
+    → front_marks u w shared given steps ++ body_marks u w given c ≡ answer_marks given ++ (heading_marks u w shared ++ body_marks u w given (certificate_behind steps c))
+front_body None u w shared given c = ap (λ (z : List Mark). (answer_marks given ++ z) ++ body_marks u w given c) (append-nil (heading_marks u w shared))
+    ∙ append_assoc (answer_marks given) (heading_marks u w shared) (body_marks u w given c)
 front_body (Some ss) u w shared given c =
     append_assoc (answer_marks given) (heading_marks u w shared ++ steps_marks u w (Some ss)) (body_marks u w given c)
     ∙ ap (λ (z : List Mark). answer_marks given ++ z) (append_assoc (heading_marks u w shared) (steps_marks u w (Some ss)) (body_marks u w given c))
@@ -77,10 +85,13 @@ behind_is : (steps : Option (List Simplification)) (o : Opening) (es : List Pair
 behind_is None o es = refl
 behind_is (Some ss) o es = refl
 
-front_read : (steps : Option (List Simplification)) (u : Naming) (w : Uses) (shared : List Automaton) (given : Option Bool) (o : Opening) → front_marks u w shared given steps ++ body_marks u w given (certificate_for o []) ≡ read_marks u w shared given (opening_behind steps o) []
-front_read steps u w shared given o = front_body steps u w shared given (certificate_for o []) ∙ ap (λ (c : Certificate). answer_marks given ++ (heading_marks u w shared ++ body_marks u w given c)) (behind_is steps o [])
+front_read : (steps : Option (List Simplification)) (u : Naming) (w : Uses) (shared : List Automaton) (given : Option Bool) (o : Opening)
+    → front_marks u w shared given steps ++ body_marks u w given (certificate_for o []) ≡ read_marks u w shared given (opening_behind steps o) []
+front_read steps u w shared given o = front_body steps u w shared given (certificate_for o [])
+    ∙ ap (λ (c : Certificate). answer_marks given ++ (heading_marks u w shared ++ body_marks u w given c)) (behind_is steps o [])
 
-front_whole : (steps : Option (List Simplification)) (u : Naming) (w : Uses) (shared : List Automaton) (given : Option Bool) (c : Certificate) → front_marks u w shared given steps ++ (body_marks u w given c ++ closing) ≡ certificate_marks u w shared given (certificate_behind steps c)
+front_whole : (steps : Option (List Simplification)) (u : Naming) (w : Uses) (shared : List Automaton) (given : Option Bool) (c : Certificate)
+    → front_marks u w shared given steps ++ (body_marks u w given c ++ closing) ≡ certificate_marks u w shared given (certificate_behind steps c)
 front_whole steps u w shared given c =
     let body = body_marks u w given (certificate_behind steps c) in
     sym (append_assoc (front_marks u w shared given steps) (body_marks u w given c) closing) ∙ ap (λ (z : List Mark). z ++ closing) (front_body steps u w shared given c)
@@ -88,12 +99,14 @@ front_whole steps u w shared given c =
 
 -- ---- what was refused stays so
 
-told_on : (P : Place) (names : NameTable) (end : ℕ) (from to : List Item) (f : Naming → List Mark) (b r : List ℕ) (sa sb : Shared) (s t : Option CertError) (d e : CertError) → s ≡ Some d → t ≡ Some e → ReadsOnWhere P names end from f to b r sa sb s t → told e ≡ told d
+told_on : (P : Place) (names : NameTable) (end : ℕ) (from to : List Item) (f : Naming → List Mark) (b r : List ℕ) (sa sb : Shared) (s t : Option CertError) (d e : CertError)
+    → s ≡ Some d → t ≡ Some e → ReadsOnWhere P names end from f to b r sa sb s t → told e ≡ told d
 told_on P names end from to f b r sa sb None t d e p q x = absurd cc
 told_on P names end from to f b r sa sb (Some c) None d e p q x = absurd cc
 told_on P names end from to f b r sa sb (Some c) (Some g) d e p q x = cc
 
-same_told : {P : Place} {names : NameTable} {end : ℕ} {from to : List Item} {f : Naming → List Mark} {s t : Reading} → ReadsWhere P names end from f to s t → (d e : CertError) → s.refused ≡ Some d → t.refused ≡ Some e → told e ≡ told d
+same_told : {P : Place} {names : NameTable} {end : ℕ} {from to : List Item} {f : Naming → List Mark} {s t : Reading} → ReadsWhere P names end from f to s t → (d e : CertError)
+    → s.refused ≡ Some d → t.refused ≡ Some e → told e ≡ told d
 same_told {P} {names} {end} {from} {to} {f} {s} {t} h d e p q = told_on P names end from to f s.left.now t.left.now s.shares t.shares s.refused t.refused d e p q h.on
 
 -- ---- a line `peak` before each line that tells a kind
@@ -104,24 +117,31 @@ peak_is_line = (other 112 refl, (other 101 refl, (other 97 refl, (other 107 refl
 past_peak : (ls ks : List (List ℕ)) (k r z : List ℕ) → AreHeadingLines ls → AreHeadingLines ks → IsKindLine k → lines_text ls ++ (codes "peak" ++ 10 ∷ r) ≡ lines_text ks ++ (k ++ 10 ∷ z) → ⊥
 past_peak [] [] k r z h j a e = no_peak (subst IsKindLine (sym (line_same (codes "peak") k r z peak_is_line (kind_line k a) e).0) a)
 past_peak [] (l ∷ ks) k r z h j a e = j.2 (sym (line_same (codes "peak") l r (lines_text ks ++ (k ++ 10 ∷ z)) peak_is_line j.0 (e ∙ append_assoc l (10 ∷ lines_text ks) (k ++ 10 ∷ z))).0)
-past_peak (l ∷ ls) [] k r z h j a e = h.1 (subst IsKindLine (sym (line_same l k (lines_text ls ++ (codes "peak" ++ 10 ∷ r)) z h.0 (kind_line k a) (sym (append_assoc l (10 ∷ lines_text ls) (codes "peak" ++ 10 ∷ r)) ∙ e)).0) a)
+past_peak (l ∷ ls) [] k r z h j a e = h.1
+    (subst IsKindLine (sym (line_same l k (lines_text ls ++ (codes "peak" ++ 10 ∷ r)) z h.0 (kind_line k a)
+    (sym (append_assoc l (10 ∷ lines_text ls) (codes "peak" ++ 10 ∷ r)) ∙ e)).0) a)
 past_peak (l ∷ ls) (m ∷ ks) k r z h j a e =
-    let q = line_same l m (lines_text ls ++ (codes "peak" ++ 10 ∷ r)) (lines_text ks ++ (k ++ 10 ∷ z)) h.0 j.0 (sym (append_assoc l (10 ∷ lines_text ls) (codes "peak" ++ 10 ∷ r)) ∙ e ∙ append_assoc m (10 ∷ lines_text ks) (k ++ 10 ∷ z)) in
+    let q = line_same l m (lines_text ls ++ (codes "peak" ++ 10 ∷ r)) (lines_text ks ++ (k ++ 10 ∷ z)) h.0 j.0 (sym (append_assoc l (10 ∷ lines_text ls) (codes "peak" ++ 10 ∷ r))
+    ∙ e ∙ append_assoc m (10 ∷ lines_text ks) (k ++ 10 ∷ z)) in
     past_peak ls ks k r z h.3 j.3 a q.1
 
 pub peak_no_end : (bytes w r : List ℕ) (end : ℕ) → Own w → bytes ≡ w ++ (codes "peak" ++ 10 ∷ r) → IsOpeningEnd bytes end → ⊥
-peak_no_end bytes w r end own text h = past_peak own.lines h.heading h.kind r (lines_text h.lines ++ h.rest) own.are h.are_heading h.is_kind (ap (λ (v : List ℕ). v ++ (codes "peak" ++ 10 ∷ r)) (sym own.text) ∙ sym text ∙ h.text)
+peak_no_end bytes w r end own text h = past_peak own.lines h.heading h.kind r (lines_text h.lines ++ h.rest) own.are h.are_heading h.is_kind
+    (ap (λ (v : List ℕ). v ++ (codes "peak" ++ 10 ∷ r)) (sym own.text) ∙ sym text ∙ h.text)
 
 -- the lines before a body tell no kind
 own_joined : (a b : List Mark) → Own (marks_text a) → Own (marks_text b) → Own (marks_text (a ++ b))
 own_joined a b h k = subst Own (sym (text_both a b)) (own_both (marks_text a) (marks_text b) h k)
 
-own_before : (v : Version) (names : NameTable) (shared : List Automaton) (steps : Option (List Simplification)) → CanStep v shared steps → Own (marks_text (steps_marks (name_of names) (uses_with v names shared) steps))
+own_before : (v : Version) (names : NameTable) (shared : List Automaton) (steps : Option (List Simplification)) → CanStep v shared steps
+    → Own (marks_text (steps_marks (name_of names) (uses_with v names shared) steps))
 own_before v names shared None h = no_lines
 own_before first_version names shared (Some ss) h = let e = h.0 in absurd cc
 own_before second_version names shared (Some ss) h = own_simplify ss (name_of names) (number_in names shared)
 
-own_front : (v : Version) (names : NameTable) (shared : List Automaton) (given : Option Bool) (steps : Option (List Simplification)) (further : List Mark) → CanStep v shared steps → HaveNames (front_marks (name_of names) (uses_with v names shared) shared given steps ++ further) → Own (marks_text (front_marks (name_of names) (uses_with v names shared) shared given steps))
+own_front : (v : Version) (names : NameTable) (shared : List Automaton) (given : Option Bool) (steps : Option (List Simplification)) (further : List Mark) → CanStep v shared steps
+    → HaveNames (front_marks (name_of names) (uses_with v names shared) shared given steps ++ further)
+    → Own (marks_text (front_marks (name_of names) (uses_with v names shared) shared given steps))
 own_front v names shared given steps further can named =
     let x = name_of names in
     let w = uses_with v names shared in
@@ -131,33 +151,41 @@ own_front v names shared given steps further can named =
     let parts = have_append heading ms (have_append (answer_marks given) (heading ++ ms) front).1 in
     own_joined (answer_marks given) (heading ++ ms) (own_answer given) (own_joined heading ms (own_heading w shared x parts.0) (own_before v names shared steps can))
 
-module _ {names : NameTable} {bytes : List ℕ} {v : Version} {shared : List Automaton} {given : Option Bool} {steps : Option (List Simplification)} {further : List Mark} {items : List Item} {s : Reading} (b : IsBegun names bytes v shared given steps further items s) where
+module _ {names : NameTable} {bytes : List ℕ} {v : Version} {shared : List Automaton} {given : Option Bool} {steps : Option (List Simplification)} {further : List Mark}
+    {items : List Item} {s : Reading} (b : IsBegun names bytes v shared given steps further items s) where
   -- further parts behind it
-  pub behind : {P : Place} {f g : Naming → List Mark} {to : List Item} {t : Reading} → ((is : List Item) (q : List ℕ) → BeforeEntries is q → P is q) → ((u : Naming) → further ++ f u ≡ g u) → ReadsWhere P names (length bytes) items f to s t
+  pub behind : {P : Place} {f g : Naming → List Mark} {to : List Item} {t : Reading} → ((is : List Item) (q : List ℕ) → BeforeEntries is q → P is q)
+      → ((u : Naming) → further ++ f u ≡ g u) → ReadsWhere P names (length bytes) items f to s t
       → ReadsWhere P names (length bytes) (opening ∷ []) (λ u. front_marks u (uses_with v names shared) shared given steps ++ g u) to b.start t
   behind {P} {f} {g} {to} {t} less same h =
-      as_marks_where (λ none u. append_assoc (front_marks u (uses_with v names shared) shared given steps) further (f u) ∙ ap (λ (z : List Mark). front_marks u (uses_with v names shared) shared given steps ++ z) (same u)) (then_where (elsewhere less b.read) h)
+      as_marks_where (λ none u. append_assoc (front_marks u (uses_with v names shared) shared given steps) further (f u)
+      ∙ ap (λ (z : List Mark). front_marks u (uses_with v names shared) shared given steps ++ z) (same u)) (then_where (elsewhere less b.read) h)
 
-  pub read_behind : {P : Place} {f : Naming → List Mark} {to : List Item} {t : Reading} (o : Opening) → ((is : List Item) (q : List ℕ) → BeforeEntries is q → P is q) → ((u : Naming) → further ++ f u ≡ body_marks u (uses_with v names shared) given (certificate_for o [])) → ReadsWhere P names (length bytes) items f to s t
+  pub read_behind : {P : Place} {f : Naming → List Mark} {to : List Item} {t : Reading} (o : Opening) → ((is : List Item) (q : List ℕ) → BeforeEntries is q → P is q)
+      → ((u : Naming) → further ++ f u ≡ body_marks u (uses_with v names shared) given (certificate_for o [])) → ReadsWhere P names (length bytes) items f to s t
       → ReadsWhere P names (length bytes) (opening ∷ []) (λ u. read_marks u (uses_with v names shared) shared given (opening_behind steps o) []) to b.start t
   read_behind {P} {f} {to} {t} o less same h = as_marks_where (λ none u. front_read steps u (uses_with v names shared) shared given o) (behind less same h)
 
-  pub whole_behind : {f : Naming → List Mark} {to : List Item} {t : Reading} (c : Certificate) → ((u : Naming) → further ++ f u ≡ body_marks u (uses_with v names shared) given c ++ closing) → Reads names (length bytes) items f to s t
+  pub whole_behind : {f : Naming → List Mark} {to : List Item} {t : Reading} (c : Certificate)
+      → ((u : Naming) → further ++ f u ≡ body_marks u (uses_with v names shared) given c ++ closing) → Reads names (length bytes) items f to s t
       → ReadsWhere Anywhere names (length bytes) (opening ∷ []) (λ u. certificate_marks u (uses_with v names shared) shared given (certificate_behind steps c)) to b.start t
   whole_behind {f} {to} {t} c same h = as_marks_where (λ none u. front_whole steps u (uses_with v names shared) shared given c) (behind (λ is q p. tt) same (reads_anywhere h))
 
-  pub run_of : {P : Place} {f : Naming → List Mark} {to : List Item} {t : Reading} → t.refused ≡ None → ReadsWhere P names (length bytes) (opening ∷ []) f to b.start t → Run names (length bytes) (opening ∷ []) f to bytes t.left.now nothing_shared t.shares
+  pub run_of : {P : Place} {f : Naming → List Mark} {to : List Item} {t : Reading} → t.refused ≡ None → ReadsWhere P names (length bytes) (opening ∷ []) f to b.start t
+      → Run names (length bytes) (opening ∷ []) f to bytes t.left.now nothing_shared t.shares
   run_of {P} {f} {to} {t} none h =
       subst (λ (x : List ℕ). Run names (length bytes) (opening ∷ []) f to x t.left.now nothing_shared t.shares) b.all_left
       (subst (λ (z : Shared). Run names (length bytes) (opening ∷ []) f to b.start.left.now t.left.now z t.shares) b.fresh (ran b.not_refused none h))
 
-  pub stop_of : {P : Place} {f : Naming → List Mark} {to : List Item} {t : Reading} (e : CertError) → t.refused ≡ Some e → ReadsWhere P names (length bytes) (opening ∷ []) f to b.start t → IsStoppedWhere P names (length bytes) (opening ∷ []) bytes nothing_shared (told e)
+  pub stop_of : {P : Place} {f : Naming → List Mark} {to : List Item} {t : Reading} (e : CertError) → t.refused ≡ Some e
+      → ReadsWhere P names (length bytes) (opening ∷ []) f to b.start t → IsStoppedWhere P names (length bytes) (opening ∷ []) bytes nothing_shared (told e)
   stop_of {P} {f} {to} {t} e q h =
       subst (λ (x : List ℕ). IsStoppedWhere P names (length bytes) (opening ∷ []) x nothing_shared (told e)) b.all_left
       (subst (λ (z : Shared). IsStoppedWhere P names (length bytes) (opening ∷ []) b.start.left.now z (told e)) b.fresh (stopped_where e b.not_refused q h))
 
   -- what is refused is the refusal of the text
-  pub refused_behind_it : {P : Place} {f : Naming → List Mark} {to : List Item} {t : Reading} (e : CertError) → t.refused ≡ Some e → ReadsWhere P names (length bytes) (opening ∷ []) f to b.start t → IsRefusedAs names bytes e
+  pub refused_behind_it : {P : Place} {f : Naming → List Mark} {to : List Item} {t : Reading} (e : CertError) → t.refused ≡ Some e
+      → ReadsWhere P names (length bytes) (opening ∷ []) f to b.start t → IsRefusedAs names bytes e
   refused_behind_it e q h = refused_as names bytes e refl (stop_of e q (anywhere h))
 
   -- ---- where it is refused no opening is there
@@ -171,40 +199,49 @@ module _ {names : NameTable} {bytes : List ℕ} {v : Version} {shared : List Aut
       let w = uses_with v names shared in
       let text : bytes ≡ marks_text (answer_marks given ++ (heading_marks x w shared ++ (steps_marks x w steps ++ further))) ++ s.left.now =
       begun_text none
-      ∙ ap (λ (ms : List Mark). marks_text ms ++ s.left.now) (append_assoc (answer_marks given) (heading_marks x w shared ++ steps_marks x w steps) further ∙ ap (λ (z : List Mark). answer_marks given ++ z) (append_assoc (heading_marks x w shared) (steps_marks x w steps) further)) in
+      ∙ ap (λ (ms : List Mark). marks_text ms ++ s.left.now) (append_assoc (answer_marks given) (heading_marks x w shared ++ steps_marks x w steps) further
+      ∙ ap (λ (z : List Mark). answer_marks given ++ z) (append_assoc (heading_marks x w shared) (steps_marks x w steps) further)) in
       version_is names bytes s.left.now o end w shared given (steps_marks x w steps ++ further) h.read text ∙ same_version v names shared
 
-  stopped_at : (P : Place) (e : CertError) (x : CertificateCause × ℕ) → told e ≡ Some x → IsStoppedWhere P names (length bytes) (opening ∷ []) bytes nothing_shared (told e) → IsStoppedWhere P names (length bytes) (opening ∷ []) bytes nothing_shared (Some x)
+  stopped_at : (P : Place) (e : CertError) (x : CertificateCause × ℕ) → told e ≡ Some x → IsStoppedWhere P names (length bytes) (opening ∷ []) bytes nothing_shared (told e)
+      → IsStoppedWhere P names (length bytes) (opening ∷ []) bytes nothing_shared (Some x)
   stopped_at P e x q h = subst (IsStoppedWhere P names (length bytes) (opening ∷ []) bytes nothing_shared) q h
 
   -- before it
   pub none_before : (d : CertError) → s.refused ≡ Some d → (x : CertificateCause × ℕ) → told d ≡ Some x → (o : Opening) (end : ℕ) → IsOpened names bytes o end → ⊥
   none_before d q x t o end h =
-      unopened names bytes x o end h (stopped_at (WithinOpening (version_in names bytes o end h.read)) d x t (stop_of d q (elsewhere (λ is r p. p (version_in names bytes o end h.read)) b.read)) (omega arith))
+      unopened names bytes x o end h (stopped_at (WithinOpening (version_in names bytes o end h.read)) d x t
+      (stop_of d q (elsewhere (λ is r p. p (version_in names bytes o end h.read)) b.read)) (omega arith))
 
   -- or behind it
-  pub none_behind : {f : Naming → List Mark} {to : List Item} {t : Reading} (e : CertError) → t.refused ≡ Some e → ReadsWhere (WithinOpening v) names (length bytes) items f to s t → (x : CertificateCause × ℕ) → told e ≡ Some x → (o : Opening) (end : ℕ) → IsOpened names bytes o end → ⊥
+  pub none_behind : {f : Naming → List Mark} {to : List Item} {t : Reading} (e : CertError) → t.refused ≡ Some e → ReadsWhere (WithinOpening v) names (length bytes) items f to s t
+      → (x : CertificateCause × ℕ) → told e ≡ Some x → (o : Opening) (end : ℕ) → IsOpened names bytes o end → ⊥
   none_behind {f} {to} {t} e q h x told_is o end i = by s.refused refl
     where
       by : (r : Option CertError) → s.refused ≡ r → ⊥
       by (Some d) r = none_before d r x (sym (same_told h d e r q) ∙ told_is) o end i
       by None r =
           let stop = stop_of e q (then_where (elsewhere (λ is k p. p v) b.read) h) in
-          unopened names bytes x o end i (stopped_at (WithinOpening (version_in names bytes o end i.read)) e x told_is (subst (λ (w : Version). IsStoppedWhere (WithinOpening w) names (length bytes) (opening ∷ []) bytes nothing_shared (told e)) (sym (version_there r o end i)) stop) (omega arith))
+          unopened names bytes x o end i (stopped_at (WithinOpening (version_in names bytes o end i.read)) e x told_is
+          (subst (λ (w : Version). IsStoppedWhere (WithinOpening w) names (length bytes) (opening ∷ []) bytes nothing_shared (told e)) (sym (version_there r o end i)) stop)
+          (omega arith))
 
 -- ---- peaks
 
-module _ {names : NameTable} {bytes : List ℕ} {v : Version} {shared : List Automaton} {given : Option Bool} {steps : Option (List Simplification)} {items : List Item} {s : Reading} (b : IsBegun names bytes v shared given steps (kind_mark given Peak ∷ fixed (codes "\n") ∷ []) items s) where
+module _ {names : NameTable} {bytes : List ℕ} {v : Version} {shared : List Automaton} {given : Option Bool} {steps : Option (List Simplification)} {items : List Item} {s : Reading}
+    (b : IsBegun names bytes v shared given steps (kind_mark given Peak ∷ fixed (codes "\n") ∷ []) items s) where
   -- behind the line of a peak there is no end of an opening
   pub no_end : s.refused ≡ None → (end : ℕ) → IsOpeningEnd bytes end → ⊥
   no_end none end h =
       let w = (run_of b none b.read).walks (omega arith) [] in
       let front = front_marks (name_of names) (uses_with v names shared) shared given steps in
       let line = kind_mark given Peak ∷ fixed (codes "\n") ∷ [] in
-      let text : bytes ≡ marks_text front ++ (codes "peak" ++ 10 ∷ s.left.now) = walks_text names (front ++ line) _ _ w ∙ ap (λ (z : List ℕ). z ++ s.left.now) (text_both front line) ∙ append_assoc (marks_text front) (codes "peak\n") s.left.now in
+      let text : bytes ≡ marks_text front ++ (codes "peak" ++ 10 ∷ s.left.now) = walks_text names (front ++ line) _ _ w ∙ ap (λ (z : List ℕ). z ++ s.left.now)
+      (text_both front line) ∙ append_assoc (marks_text front) (codes "peak\n") s.left.now in
       peak_no_end bytes (marks_text front) s.left.now end (own_front v names shared given steps line (b.can_step none) (walks_named names (front ++ line) _ _ w)) text h
 
-  pub none_at_peak : {f : Naming → List Mark} {to : List Item} {t : Reading} (e : CertError) → t.refused ≡ Some e → Reads names (length bytes) items f to s t → (x : CertificateCause × ℕ) → told e ≡ Some x → (o : Opening) (end : ℕ) → IsOpened names bytes o end → ⊥
+  pub none_at_peak : {f : Naming → List Mark} {to : List Item} {t : Reading} (e : CertError) → t.refused ≡ Some e → Reads names (length bytes) items f to s t
+      → (x : CertificateCause × ℕ) → told e ≡ Some x → (o : Opening) (end : ℕ) → IsOpened names bytes o end → ⊥
   none_at_peak {f} {to} {t} e q h x told_is o end i = by s.refused refl
     where
       by : (r : Option CertError) → s.refused ≡ r → ⊥
@@ -212,5 +249,6 @@ module _ {names : NameTable} {bytes : List ℕ} {v : Version} {shared : List Aut
       by None r = no_end r end (openings_end names bytes o end i)
 
 -- a refusal where no opening is read stands before the end of one
-pub told_before : (names : NameTable) (bytes : List ℕ) (e : CertError) → ((t : CertificateCause × ℕ) → told e ≡ Some t → (o : Opening) (end : ℕ) → IsOpened names bytes o end → ⊥) → IsRefusedAs names bytes e → IsToldBefore bytes e
+pub told_before : (names : NameTable) (bytes : List ℕ) (e : CertError) → ((t : CertificateCause × ℕ) → told e ≡ Some t → (o : Opening) (end : ℕ) → IsOpened names bytes o end → ⊥)
+    → IsRefusedAs names bytes e → IsToldBefore bytes e
 told_before names bytes e none h f at t end k = bad_openings_are_refused names bytes end f at k (λ o i. none (f, at) t o end i) (refused_as_told names bytes e f at h t)

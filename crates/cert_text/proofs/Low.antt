@@ -64,17 +64,20 @@ early_step i m new none h (line_at g e) = step_by (NewLow second_version) (share
 early_step i m new none h (count_at g e) = step_by (NewLow second_version) (shared_count g) m new (subst (λ (j : Item). Takes j m new) e h) ((λ w q. inl (automata_low (value w) g)), tt)
 early_step i m new none h (next_at n g e) = step_by (NewLow second_version) (automata_left n g) m new (subst (λ (j : Item). Takes j m new) e h) ((λ w q. inl (early refl (end_at n g refl))), tt)
 early_step i m new none h (end_at n g e) = step_by (NewLow second_version) (automaton_end n g) m new (subst (λ (j : Item). Takes j m new) e h) ((λ w q. inl (automata_low n g)), tt)
-early_step i m new none h (body_at g e) = step_by (NewLow second_version) (simplified g) m new (subst (λ (j : Item). Takes j m new) e h) ((λ w q. inl (body_low second_version g)), body_each second_version g m none)
+early_step i m new none h (body_at g e) = step_by (NewLow second_version) (simplified g) m new (subst (λ (j : Item). Takes j m new) e h)
+    ((λ w q. inl (body_low second_version g)), body_each second_version g m none)
 
 measure_step : (v : Version) (m : Mark) (new : List Item) → Takes (measure v) m new → NewLow v new
 measure_step first_version m new h = step_by (NewLow first_version) (measure first_version) m new h ((λ w e. inl (entries_low first_version 1)), tt)
 measure_step second_version m new h = step_by (NewLow second_version) (measure second_version) m new h ((λ w e. inl (entries_low second_version 1)), ((λ w e. inl (heads_low 1)), tt))
 
 entries_step : (v : Version) (n : ℕ) (m : Mark) (new : List Item) → Takes (entries_from v n) m new → NewLow v new
-entries_step v n m new h = step_by (NewLow v) (entries_from v n) m new h ((λ w e. inl (entries_low v (suc n))), ((λ w e. inl (entries_low v (suc n))), ((λ w e. inl (pairs_low v 1)), ((λ w e. inr refl), tt))))
+entries_step v n m new h = step_by (NewLow v) (entries_from v n) m new h
+    ((λ w e. inl (entries_low v (suc n))), ((λ w e. inl (entries_low v (suc n))), ((λ w e. inl (pairs_low v 1)), ((λ w e. inr refl), tt))))
 
 heads_step : (n : ℕ) (m : Mark) (new : List Item) → Takes (heads_from n) m new → NewLow second_version new
-heads_step n m new h = step_by (NewLow second_version) (heads_from n) m new h ((λ w e. inl (heads_low (suc n))), ((λ w e. inl (heads_low (suc n))), ((λ w e. inl (pairs_low second_version 1)), ((λ w e. inr refl), tt))))
+heads_step n m new h = step_by (NewLow second_version) (heads_from n) m new h
+    ((λ w e. inl (heads_low (suc n))), ((λ w e. inl (heads_low (suc n))), ((λ w e. inl (pairs_low second_version 1)), ((λ w e. inr refl), tt))))
 
 pairs_step : (v : Version) (n : ℕ) (m : Mark) (new : List Item) → Takes (pairs_from v (suc n)) m new → NewLow v new
 pairs_step v n m new h = step_by (NewLow v) (pairs_from v (suc n)) m new h ((λ w e. inl (pairs_low v (suc n))), ((λ w e. inr refl), tt))

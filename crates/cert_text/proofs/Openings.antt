@@ -1,5 +1,6 @@
 -- A text that is read up to its entries, or a whole peak.
-use Rattle.std.proofs.Common.{◌≡◌, inl, inr, ℕ, suc, Bool, true, false, List, [], ◌∷◌, ◌++◌, length, drop, Option, Some, None, Result, Ok, Err, IfOk, codes, refl, sym, ap, ◌∙◌, subst, arith, append_assoc}
+use Rattle.std.proofs.Common.{◌≡◌, inl, inr, ℕ, suc, Bool, true, false, List, [], ◌∷◌, ◌++◌, length, drop, Option, Some, None, Result, Ok, Err, IfOk, codes, refl, sym, ap, ◌∙◌}
+use Rattle.std.proofs.Common.{subst, arith, append_assoc}
 use Rattle.std.proofs.lemmas.List.{append-nil}
 use Rattle.certificates.specs.Prelude.{Automaton, MeasureCertificate, linear_measure, precedence_measure, Simplification, Apartness, Peak, Certificate, peak_certificate}
 use Rattle.cops_names.specs.NameTable.{NameTable}
@@ -47,11 +48,13 @@ if_ok P Q (Err e) f h = tt
 
 -- ---- the entries behind an opening
 
-ready : (names : NameTable) (bytes rest : List ℕ) (steps : Option (List Simplification)) (o : Opening) → IsOpened names bytes (opening_behind steps o) (place_of bytes rest) → IsOpenedAs names bytes (opened_behind steps (at_entries o (record { names = names; bytes = bytes; place = place_of bytes rest })))
+ready : (names : NameTable) (bytes rest : List ℕ) (steps : Option (List Simplification)) (o : Opening) → IsOpened names bytes (opening_behind steps o) (place_of bytes rest)
+    → IsOpenedAs names bytes (opened_behind steps (at_entries o (record { names = names; bytes = bytes; place = place_of bytes rest })))
 ready names bytes rest None o h = (refl, refl, h)
 ready names bytes rest (Some ss) o h = (refl, refl, h)
 
-whole_there : (names : NameTable) (bytes : List ℕ) (steps : Option (List Simplification)) (c : Certificate) → IsCertificateText names bytes (certificate_behind steps c) → IsOpenedAs names bytes (opened_behind steps (whole c))
+whole_there : (names : NameTable) (bytes : List ℕ) (steps : Option (List Simplification)) (c : Certificate) → IsCertificateText names bytes (certificate_behind steps c)
+    → IsOpenedAs names bytes (opened_behind steps (whole c))
 whole_there names bytes None c h = h
 whole_there names bytes (Some ss) c h = h
 
@@ -61,22 +64,27 @@ answer_still (Some true) = (tt, tt)
 answer_still (Some false) = (tt, tt)
 
 -- nothing is known of shared automata in the first version
-known_then : (v : Version) (shared : List Automaton) (names : NameTable) (bytes : List ℕ) (given : Option Bool) (o : Opening) (to : List Item) (t : words.Reading) → CanShare v shared → AreShared v names shared (length bytes) t → t.refused ≡ None
+known_then : (v : Version) (shared : List Automaton) (names : NameTable) (bytes : List ℕ) (given : Option Bool) (o : Opening) (to : List Item) (t : words.Reading)
+    → CanShare v shared → AreShared v names shared (length bytes) t → t.refused ≡ None
     → Run names (length bytes) (Items.opening ∷ []) (λ u. read_marks u (uses_with v names shared) shared given o []) to bytes t.left.now nothing_shared t.shares → IsKnown names shared t.shares
 known_then second_version shared names bytes given o to t can known none run = (known none).1
 known_then first_version shared names bytes given o to t can known none run =
     let counts : Counts (read_marks (name_of names) in_full shared given o []) [] =
-    counts_both (answer_marks given) _ [] _ (counts_still (answer_marks given) (answer_still given)) (counts_both (fixed (codes "concon 1\n") ∷ []) _ [] _ (counts_still (fixed (codes "concon 1\n") ∷ []) (tt, tt)) (counts_body (certificate_for o []) (name_of names) in_full given)) in
+    counts_both (answer_marks given) _ [] _ (counts_still (answer_marks given) (answer_still given))
+    (counts_both (fixed (codes "concon 1\n") ∷ []) _ [] _ (counts_still (fixed (codes "concon 1\n") ∷ []) (tt, tt))
+    (counts_body (certificate_for o []) (name_of names) in_full given)) in
     let texts : t.shares.texts ≡ [] = sym (ap (λ (z : Shared). z.texts) (run.shares (omega arith) []).1) ∙ ap (λ (z : Shared). z.texts) (counts.after [] [] 0 0).1 in
     subst (λ (all : List Automaton). IsKnown names all t.shares) (sym can) (tt, texts)
 
 -- what is plain behind steps
-plain_behind : (v : Version) (shared : List Automaton) (steps : Option (List Simplification)) (c : Certificate) → IsUnsimplified c → CanStep v shared steps → IsPlainBy v shared c → IsPlainBy v shared (certificate_behind steps c)
+plain_behind : (v : Version) (shared : List Automaton) (steps : Option (List Simplification)) (c : Certificate) → IsUnsimplified c → CanStep v shared steps → IsPlainBy v shared c
+    → IsPlainBy v shared (certificate_behind steps c)
 plain_behind v shared None c u h p = p
 plain_behind first_version shared (Some ss) c u h p = let e = h.0 in absurd cc
 plain_behind second_version shared (Some ss) c u h p = (u, h.1, p)
 
-plain_opening : (v : Version) (shared : List Automaton) (steps : Option (List Simplification)) (o : Opening) → IsUnsimplified (certificate_for o []) → CanStep v shared steps → IsPlainBy v shared (certificate_for o []) → IsPlainBy v shared (certificate_for (opening_behind steps o) [])
+plain_opening : (v : Version) (shared : List Automaton) (steps : Option (List Simplification)) (o : Opening) → IsUnsimplified (certificate_for o []) → CanStep v shared steps
+    → IsPlainBy v shared (certificate_for o []) → IsPlainBy v shared (certificate_for (opening_behind steps o) [])
 plain_opening v shared None o u h p = plain_behind v shared None (certificate_for o []) u h p
 plain_opening v shared (Some ss) o u h p = plain_behind v shared (Some ss) (certificate_for o []) u h p
 
@@ -85,11 +93,16 @@ measure_end first_version m h = (_, refl)
 measure_end second_version (linear_measure es) h = inl (_, refl)
 measure_end second_version (precedence_measure order) h = inr (_, refl)
 
-module _ {names : NameTable} {bytes : List ℕ} {v : Version} {shared : List Automaton} {given : Option Bool} {steps : Option (List Simplification)} {further : List Mark} {items : List Item} {s : words.Reading} (b : IsBegun names bytes v shared given steps further items s) where
+module _ {names : NameTable} {bytes : List ℕ} {v : Version} {shared : List Automaton} {given : Option Bool} {steps : Option (List Simplification)} {further : List Mark}
+    {items : List Item} {s : words.Reading} (b : IsBegun names bytes v shared given steps further items s) where
   -- an opening that is read up to an item, with nothing refused
-  module _ {t : words.Reading} (o : Opening) (item : Item) (none : t.refused ≡ None) (was : s.refused ≡ None) (known : AreShared v names shared (length bytes) t) (simple : IsUnsimplified (certificate_for o [])) (plain : IsPlainBy v shared (certificate_for o [])) (h : ReadsWhere (WithinOpening v) names (length bytes) (Items.opening ∷ []) (λ u. read_marks u (uses_with v names shared) shared given (opening_behind steps o) []) (item ∷ []) b.start t) where
+  module _ {t : words.Reading} (o : Opening) (item : Item) (none : t.refused ≡ None) (was : s.refused ≡ None) (known : AreShared v names shared (length bytes) t)
+      (simple : IsUnsimplified (certificate_for o [])) (plain : IsPlainBy v shared (certificate_for o []))
+      (h : ReadsWhere (WithinOpening v) names (length bytes) (Items.opening ∷ [])
+      (λ u. read_marks u (uses_with v names shared) shared given (opening_behind steps o) []) (item ∷ []) b.start t) where
     read_there : IsReadTo names bytes (opening_behind steps o) [] (place_of bytes t.left.now) v (drop t.shares.used shared) t.left.now
-    read_there = run_read v shared names bytes t.left.now given (opening_behind steps o) [] (item ∷ []) b.can_share (plain_opening v shared steps o simple (b.can_step was) plain) (b.plain_shared was) (run_of b none h)
+    read_there = run_read v shared names bytes t.left.now given (opening_behind steps o) [] (item ∷ []) b.can_share (plain_opening v shared steps o simple (b.can_step was) plain)
+        (b.plain_shared was) (run_of b none h)
 
     pub up_to : IsNext v item 1 t.left.now → IsUpTo v shared names bytes t.left.now 0 t.shares
     up_to next = record {
@@ -107,19 +120,23 @@ module _ {names : NameTable} {bytes : List ℕ} {v : Version} {shared : List Aut
       next = next;
     }
 
-    pub opened_there : (q : Reading) → BeginsEntry t.left.now → q ≡ record { names = names; bytes = bytes; place = place_of bytes t.left.now } → IsOpenedAs names bytes (opened_behind steps (at_entries o q))
+    pub opened_there : (q : Reading) → BeginsEntry t.left.now → q ≡ record { names = names; bytes = bytes; place = place_of bytes t.left.now }
+        → IsOpenedAs names bytes (opened_behind steps (at_entries o q))
     opened_there q begins e =
         subst (λ (r : Reading). IsOpenedAs names bytes (opened_behind steps (at_entries o r))) (sym e)
         (ready names bytes t.left.now steps o (record { read = read_there.read; begins = subst BeginsEntry (sym read_there.is_rest) begins }))
 
   -- a peak that is read to the end
-  pub peak_there : {t : words.Reading} (p : Peak) → t.refused ≡ None → s.refused ≡ None → t.left.now ≡ [] → ApartUses v shared p.apart → {P : Place} → ReadsWhere P names (length bytes) (Items.opening ∷ []) (λ u. certificate_marks u (uses_with v names shared) shared given (certificate_behind steps (peak_certificate p))) [] b.start t
+  pub peak_there : {t : words.Reading} (p : Peak) → t.refused ≡ None → s.refused ≡ None → t.left.now ≡ [] → ApartUses v shared p.apart → {P : Place}
+      → ReadsWhere P names (length bytes) (Items.opening ∷ [])
+      (λ u. certificate_marks u (uses_with v names shared) shared given (certificate_behind steps (peak_certificate p))) [] b.start t
       → IsOpenedAs names bytes (opened_behind steps (whole (peak_certificate p)))
   peak_there {t} p none was ends plain h =
       let c = peak_certificate p in
       whole_there names bytes steps c
       (found_by v (certificate_behind steps c) names shared given bytes nothing_shared t.shares refl b.can_share (plain_behind v shared steps c tt (b.can_step was) plain) (b.plain_shared was)
-      (subst (λ (r : List ℕ). Run names (length bytes) (Items.opening ∷ []) (λ u. certificate_marks u (uses_with v names shared) shared given (certificate_behind steps c)) [] bytes r nothing_shared t.shares) ends (run_of b none h)))
+      (subst (λ (r : List ℕ). Run names (length bytes) (Items.opening ∷ []) (λ u. certificate_marks u (uses_with v names shared) shared given (certificate_behind steps c)) [] bytes
+      r nothing_shared t.shares) ends (run_of b none h)))
 
 -- ---- by kinds
 
@@ -127,18 +144,23 @@ abbrev pub line_of_kind : Option Bool → kinds_of.Kind → List Mark
 line_of_kind given kind = kind_mark given kind ∷ fixed (codes "\n") ∷ []
 
 module _ {names : NameTable} {bytes : List ℕ} {v : Version} {shared : List Automaton} {given : Option Bool} {steps : Option (List Simplification)} {s t : words.Reading} where
-  module _ (b : IsBegun names bytes v shared given steps (line_of_kind given kinds.Ortho) (pairs_from v 1 ∷ []) s) (h : ReadsWhere (WithinOpening v) names (length bytes) (pairs_from v 1 ∷ []) (λ u. []) (pairs_from v 1 ∷ []) s t) where
-    pub ortho_read : ReadsWhere (WithinOpening v) names (length bytes) (Items.opening ∷ []) (λ u. read_marks u (uses_with v names shared) shared given (opening_behind steps ortho_opening) []) (pairs_from v 1 ∷ []) b.start t
+  module _ (b : IsBegun names bytes v shared given steps (line_of_kind given kinds.Ortho) (pairs_from v 1 ∷ []) s)
+      (h : ReadsWhere (WithinOpening v) names (length bytes) (pairs_from v 1 ∷ []) (λ u. []) (pairs_from v 1 ∷ []) s t) where
+    pub ortho_read : ReadsWhere (WithinOpening v) names (length bytes) (Items.opening ∷ [])
+        (λ u. read_marks u (uses_with v names shared) shared given (opening_behind steps ortho_opening) []) (pairs_from v 1 ∷ []) b.start t
     ortho_read = read_behind b ortho_opening (λ is q p. p v) (λ u. refl) h
 
     pub ortho_up_to : t.refused ≡ None → IsUpTo v shared names bytes t.left.now 0 t.shares
     ortho_up_to none = up_to b ortho_opening (pairs_from v 1) none (open_before_where h none) (known_where v shared h [] (counts_still [] tt) b.known) tt tt ortho_read (inl refl)
 
-    pub ortho_there : t.refused ≡ None → (q : Reading) → BeginsEntry t.left.now → q ≡ record { names = names; bytes = bytes; place = place_of bytes t.left.now } → IsOpenedAs names bytes (opened_behind steps (at_entries ortho_opening q))
+    pub ortho_there : t.refused ≡ None → (q : Reading) → BeginsEntry t.left.now → q ≡ record { names = names; bytes = bytes; place = place_of bytes t.left.now }
+        → IsOpenedAs names bytes (opened_behind steps (at_entries ortho_opening q))
     ortho_there none q begins e = opened_there b ortho_opening (pairs_from v 1) none (open_before_where h none) (known_where v shared h [] (counts_still [] tt) b.known) tt tt ortho_read q begins e
 
-  module _ (m : MeasureCertificate) (b : IsBegun names bytes v shared given steps (line_of_kind given kinds.Quasi) (Items.measure v ∷ []) s) (h : ReadsWhere (WithinOpening v) names (length bytes) (Items.measure v ∷ []) (λ u. measure_marks u m) (behind_measure v m ∷ []) s t) where
-    pub quasi_read : ReadsWhere (WithinOpening v) names (length bytes) (Items.opening ∷ []) (λ u. read_marks u (uses_with v names shared) shared given (opening_behind steps (quasi_opening m)) []) (behind_measure v m ∷ []) b.start t
+  module _ (m : MeasureCertificate) (b : IsBegun names bytes v shared given steps (line_of_kind given kinds.Quasi) (Items.measure v ∷ []) s)
+      (h : ReadsWhere (WithinOpening v) names (length bytes) (Items.measure v ∷ []) (λ u. measure_marks u m) (behind_measure v m ∷ []) s t) where
+    pub quasi_read : ReadsWhere (WithinOpening v) names (length bytes) (Items.opening ∷ [])
+        (λ u. read_marks u (uses_with v names shared) shared given (opening_behind steps (quasi_opening m)) []) (behind_measure v m ∷ []) b.start t
     quasi_read = read_behind b (quasi_opening m) (λ is q p. p v) (λ u. ap (λ (ms : List Mark). kind_mark given kinds.Quasi ∷ fixed (codes "\n") ∷ ms) (sym (append-nil (measure_marks u m)))) h
 
     quasi_known : AreShared v names shared (length bytes) t
@@ -147,18 +169,24 @@ module _ {names : NameTable} {bytes : List ℕ} {v : Version} {shared : List Aut
     pub quasi_up_to : HasMeasure v m → t.refused ≡ None → BeginsEntry t.left.now → IsUpTo v shared names bytes t.left.now 0 t.shares
     quasi_up_to has none begins = up_to b (quasi_opening m) (behind_measure v m) none (open_before_where h none) quasi_known tt (has, tt) quasi_read (inr (measure_end v m has, refl, begins))
 
-    pub quasi_there : HasMeasure v m → t.refused ≡ None → (q : Reading) → BeginsEntry t.left.now → q ≡ record { names = names; bytes = bytes; place = place_of bytes t.left.now } → IsOpenedAs names bytes (opened_behind steps (at_entries (quasi_opening m) q))
+    pub quasi_there : HasMeasure v m → t.refused ≡ None → (q : Reading) → BeginsEntry t.left.now → q ≡ record { names = names; bytes = bytes; place = place_of bytes t.left.now }
+        → IsOpenedAs names bytes (opened_behind steps (at_entries (quasi_opening m) q))
     quasi_there has none q begins e = opened_there b (quasi_opening m) (behind_measure v m) none (open_before_where h none) quasi_known tt (has, tt) quasi_read q begins e
 
-  pub peak_read : (p : Peak) → (b : IsBegun names bytes v shared given steps (line_of_kind given kinds.Peak) (Items.start_line v ∷ []) s) → Reads names (length bytes) (Items.start_line v ∷ []) (λ u. peak_marks u (uses_with v names shared) p ++ closing) [] s t
+  pub peak_read : (p : Peak) → (b : IsBegun names bytes v shared given steps (line_of_kind given kinds.Peak) (Items.start_line v ∷ []) s)
+      → Reads names (length bytes) (Items.start_line v ∷ []) (λ u. peak_marks u (uses_with v names shared) p ++ closing) [] s t
       → ReadsWhere Anywhere names (length bytes) (Items.opening ∷ []) (λ u. certificate_marks u (uses_with v names shared) shared given (certificate_behind steps (peak_certificate p))) [] b.start t
   peak_read p b h = whole_behind b (peak_certificate p) (λ u. refl) h
 
 -- how uses are written
-pub measure_by : {names : NameTable} {end : ℕ} {s t : words.Reading} (m : MeasureCertificate) (w v : Version) → w ≡ v → ReadsWhere (WithinOpening w) names end (Items.measure w ∷ []) (λ u. measure_marks u m) (behind_measure w m ∷ []) s t → ReadsWhere (WithinOpening v) names end (Items.measure v ∷ []) (λ u. measure_marks u m) (behind_measure v m ∷ []) s t
+pub measure_by : {names : NameTable} {end : ℕ} {s t : words.Reading} (m : MeasureCertificate) (w v : Version) → w ≡ v
+    → ReadsWhere (WithinOpening w) names end (Items.measure w ∷ []) (λ u. measure_marks u m) (behind_measure w m ∷ []) s t
+    → ReadsWhere (WithinOpening v) names end (Items.measure v ∷ []) (λ u. measure_marks u m) (behind_measure v m ∷ []) s t
 measure_by {names} {end} {s} {t} m w v e h = subst (λ (x : Version). ReadsWhere (WithinOpening x) names end (Items.measure x ∷ []) (λ u. measure_marks u m) (behind_measure x m ∷ []) s t) e h
 
-pub peak_by : {names : NameTable} {end : ℕ} {s t : words.Reading} (p : Peak) (w v : Version) (all shared : List Automaton) → w ≡ v → all ≡ shared → Reads names end (Items.start_line w ∷ []) (λ u. peak_marks u (uses_with w names all) p ++ closing) [] s t → Reads names end (Items.start_line v ∷ []) (λ u. peak_marks u (uses_with v names shared) p ++ closing) [] s t
+pub peak_by : {names : NameTable} {end : ℕ} {s t : words.Reading} (p : Peak) (w v : Version) (all shared : List Automaton) → w ≡ v → all ≡ shared
+    → Reads names end (Items.start_line w ∷ []) (λ u. peak_marks u (uses_with w names all) p ++ closing) [] s t
+    → Reads names end (Items.start_line v ∷ []) (λ u. peak_marks u (uses_with v names shared) p ++ closing) [] s t
 peak_by {names} {end} {s} {t} p w v all shared e q h =
     subst (λ (x : List Automaton). Reads names end (Items.start_line v ∷ []) (λ u. peak_marks u (uses_with v names x) p ++ closing) [] s t) q
     (subst (λ (x : Version). Reads names end (Items.start_line x ∷ []) (λ u. peak_marks u (uses_with x names all) p ++ closing) [] s t) e h)
@@ -171,25 +199,40 @@ apart_by a w v all shared e q h = subst (λ (x : List Automaton). ApartUses v x 
 
 -- ---- from the first line on
 
-line_here : (second : Bool) (a : Bool) (given : Option Bool) {names : NameTable} {end : ℕ} {s t : words.Reading} → second ≡ a → ReadsWhere BeforeEntries names end (Items.opening ∷ []) (λ u. first_marks given second) (behind_version second given ∷ []) s t → ReadsWhere BeforeEntries names end (Items.opening ∷ []) (λ u. first_marks given a) (behind_version a given ∷ []) s t
+line_here : (second : Bool) (a : Bool) (given : Option Bool) {names : NameTable} {end : ℕ} {s t : words.Reading} → second ≡ a
+    → ReadsWhere BeforeEntries names end (Items.opening ∷ []) (λ u. first_marks given second) (behind_version second given ∷ []) s t
+    → ReadsWhere BeforeEntries names end (Items.opening ∷ []) (λ u. first_marks given a) (behind_version a given ∷ []) s t
 line_here second a given {names} {end} {s} {t} e h = subst (λ (x : Bool). ReadsWhere BeforeEntries names end (Items.opening ∷ []) (λ u. first_marks given x) (behind_version x given ∷ []) s t) e h
 
 -- a text of the first version, behind the word of its kind
-pub first_begun : {names : NameTable} {bytes : List ℕ} {given : Option Bool} {second : Bool} {s t u : words.Reading} (kind : kinds_of.Kind) → s.left.now ≡ bytes → s.shares ≡ nothing_shared → s.refused ≡ None → second ≡ false
+pub first_begun : {names : NameTable} {bytes : List ℕ} {given : Option Bool} {second : Bool} {s t u : words.Reading} (kind : kinds_of.Kind) → s.left.now ≡ bytes
+    → s.shares ≡ nothing_shared → s.refused ≡ None → second ≡ false
     → ReadsWhere BeforeEntries names (length bytes) (Items.opening ∷ []) (λ u. first_marks given second) (behind_version second given ∷ []) s t
     → ReadsWhere BeforeEntries names (length bytes) (Items.body first_version given ∷ []) (λ u. kind_mark given kind ∷ []) (Items.between Items.line ∷ item_by first_version kind ∷ []) t u
     → IsBegun names bytes first_version [] given None (kind_mark given kind ∷ []) (Items.between Items.line ∷ item_by first_version kind ∷ []) u
 first_begun {given = given} {second = second} {s = s} kind all fresh none is first next =
-    record { can_share = refl; start = s; all_left = all; fresh = fresh; not_refused = none; read = then_where (line_here second false given is first) next; known = tt; plain_shared = λ x. tt; can_step = λ x. tt }
+    record {
+      can_share = refl;
+      start = s;
+      all_left = all;
+      fresh = fresh;
+      not_refused = none;
+      read = then_where (line_here second false given is first) next;
+      known = tt;
+      plain_shared = λ x. tt;
+      can_step = λ x. tt;
+    }
 
 shared_front : (a h m : List Mark) (l : Mark) → h ≡ l ∷ m → (a ++ (l ∷ [])) ++ m ≡ (a ++ (h ++ [])) ++ []
 shared_front a h m l e = append_assoc a (l ∷ []) m ∙ ap (λ (z : List Mark). a ++ z) (sym e ∙ sym (append-nil h)) ∙ sym (append-nil (a ++ (h ++ [])))
 
 -- a text of the second version, behind its shared automata
-pub second_begun : {names : NameTable} {bytes : List ℕ} {given : Option Bool} {second : Bool} {s t u : words.Reading} (all : List Automaton) → s.left.now ≡ bytes → s.shares ≡ nothing_shared → s.refused ≡ None → second ≡ true
+pub second_begun : {names : NameTable} {bytes : List ℕ} {given : Option Bool} {second : Bool} {s t u : words.Reading} (all : List Automaton) → s.left.now ≡ bytes
+    → s.shares ≡ nothing_shared → s.refused ≡ None → second ≡ true
     → ReadsWhere BeforeEntries names (length bytes) (Items.opening ∷ []) (λ u. first_marks given second) (behind_version second given ∷ []) s t
     → ReadsWhere BeforeEntries names (length bytes) (Items.shared_line given ∷ []) (λ u. shared_marks u all) (Items.simplified given ∷ []) t u
-    → (AreShared second_version names [] (length bytes) t → AreShared second_version names all (length bytes) u) → (u.refused ≡ None → ArePlainAutomata all) → IsBegun names bytes second_version all given None [] (Items.simplified given ∷ []) u
+    → (AreShared second_version names [] (length bytes) t → AreShared second_version names all (length bytes) u) → (u.refused ≡ None → ArePlainAutomata all)
+    → IsBegun names bytes second_version all given None [] (Items.simplified given ∷ []) u
 second_begun {names} {bytes} {given} {second} {s} {t} {u} all begins fresh none is line shared known plain =
     let before : AreShared second_version names [] (length bytes) s = λ x. ((let long = ap length begins in omega (arith, long)), (tt, ap (λ (z : Shared). z.texts) fresh)) in
     record {
@@ -198,7 +241,8 @@ second_begun {names} {bytes} {given} {second} {s} {t} {u} all begins fresh none 
       all_left = begins;
       fresh = fresh;
       not_refused = none;
-      read = as_marks_where (λ r x. shared_front (answer_marks given) (heading_marks x (uses_with second_version names all) all) (shared_marks x all) (fixed (codes "concon 2\n")) refl) (then_where (line_here second true given is line) shared);
+      read = as_marks_where (λ r x. shared_front (answer_marks given) (heading_marks x (uses_with second_version names all) all) (shared_marks x all) (fixed (codes "concon 2\n"))
+          refl) (then_where (line_here second true given is line) shared);
       known = known (known_where second_version [] line [] (counts_still (first_marks given second) (first_still given second)) before);
       plain_shared = plain;
       can_step = λ r. tt;
@@ -206,8 +250,10 @@ second_begun {names} {bytes} {given} {second} {s} {t} {u} all begins fresh none 
 
 -- ---- steps before the body
 
-pub word_begun : {names : NameTable} {bytes : List ℕ} {v : Version} {shared : List Automaton} {given : Option Bool} {items : List Item} {s t : words.Reading} (kind : kinds_of.Kind) → IsBegun names bytes v shared given None [] items s
-    → ReadsWhere BeforeEntries names (length bytes) items (λ u. kind_mark given kind ∷ []) (Items.between Items.line ∷ item_by v kind ∷ []) s t → IsBegun names bytes v shared given None (kind_mark given kind ∷ []) (Items.between Items.line ∷ item_by v kind ∷ []) t
+pub word_begun : {names : NameTable} {bytes : List ℕ} {v : Version} {shared : List Automaton} {given : Option Bool} {items : List Item} {s t : words.Reading} (kind : kinds_of.Kind)
+    → IsBegun names bytes v shared given None [] items s
+    → ReadsWhere BeforeEntries names (length bytes) items (λ u. kind_mark given kind ∷ []) (Items.between Items.line ∷ item_by v kind ∷ []) s t
+    → IsBegun names bytes v shared given None (kind_mark given kind ∷ []) (Items.between Items.line ∷ item_by v kind ∷ []) t
 word_begun {v = v} {given = given} kind b h = begun_on (kind_mark given kind ∷ []) (Items.between Items.line ∷ item_by v kind ∷ []) b (kind_still given kind) h
 
 steps_front : (a h s k : List Mark) → ((a ++ (h ++ [])) ++ []) ++ (s ++ k) ≡ (a ++ (h ++ s)) ++ k
@@ -221,7 +267,8 @@ count_marks n = word (numeral n) (in_range 0 1 (suc largest) n ∷ is_few simpli
 body_low : (given : Option Bool) (i : Item) (m : List Item) (q : List ℕ) → BeforeEntries (i ∷ (m ++ Items.body second_version given ∷ [])) q
 body_low given i m q = λ w. low_unopened w (Items.body second_version given) (λ h. let e = h.1 in cc) i m q
 
-pub steps_begin : {names : NameTable} {bytes : List ℕ} {shared : List Automaton} {given : Option Bool} {s s1 s2 s3 t : words.Reading} (n : ℕ) (ss : List Simplification) (kind : kinds_of.Kind) → IsBegun names bytes second_version shared given None [] (Items.simplified given ∷ []) s
+pub steps_begin : {names : NameTable} {bytes : List ℕ} {shared : List Automaton} {given : Option Bool} {s s1 s2 s3 t : words.Reading} (n : ℕ) (ss : List Simplification)
+    (kind : kinds_of.Kind) → IsBegun names bytes second_version shared given None [] (Items.simplified given ∷ []) s
     → ReadsWhere BeforeEntries names (length bytes) (Items.simplified given ∷ []) (λ u. fixed (codes "simplify ") ∷ []) (Items.simplification_count ∷ Items.body second_version given ∷ []) s s1
     → Reads names (length bytes) (Items.simplification_count ∷ []) (λ u. count_marks n) (Items.simplifications_of n) s1 s2
     → Reads names (length bytes) (Items.simplifications_of n) (λ u. simplifications_marks u (by_number (number_in names shared)) ss) [] s2 s3
@@ -238,7 +285,8 @@ steps_begin {names} {bytes} {shared} {given} {s} {s1} {s2} {s3} {t} n ss kind b 
       fresh = b.fresh;
       not_refused = b.not_refused;
       read = as_marks_where (λ none u.
-          ap (λ (k : ℕ). ((answer_marks given ++ (heading_marks u (by_number (number_in names shared)) shared ++ [])) ++ []) ++ (fixed (codes "simplify ") ∷ (count_marks k ++ (simplifications_marks u (by_number (number_in names shared)) ss ++ (kind_mark given kind ∷ [])))))
+          ap (λ (k : ℕ). ((answer_marks given ++ (heading_marks u (by_number (number_in names shared)) shared ++ [])) ++ [])
+          ++ (fixed (codes "simplify ") ∷ (count_marks k ++ (simplifications_marks u (by_number (number_in names shared)) ss ++ (kind_mark given kind ∷ [])))))
           (sym (counted (open_before_where next none)))
           ∙ steps_front (answer_marks given) (heading_marks u (by_number (number_in names shared)) shared) (steps_marks u (by_number (number_in names shared)) (Some ss)) (kind_mark given kind ∷ []))
           (then_where b.read (then_where first (then_where (low_where low (body_low given) count) (then_where (low_where low (body_low given) steps) next))));
@@ -248,7 +296,8 @@ steps_begin {names} {bytes} {shared} {given} {s} {s1} {s2} {s3} {t} n ss kind b 
     }
 
 -- the same of automata that are the shared ones
-pub steps_begin_by : {names : NameTable} {bytes : List ℕ} {shared : List Automaton} {given : Option Bool} {s s1 s2 s3 t : words.Reading} (all : List Automaton) (n : ℕ) (ss : List Simplification) (kind : kinds_of.Kind) → all ≡ shared → IsBegun names bytes second_version shared given None [] (Items.simplified given ∷ []) s
+pub steps_begin_by : {names : NameTable} {bytes : List ℕ} {shared : List Automaton} {given : Option Bool} {s s1 s2 s3 t : words.Reading} (all : List Automaton) (n : ℕ)
+    (ss : List Simplification) (kind : kinds_of.Kind) → all ≡ shared → IsBegun names bytes second_version shared given None [] (Items.simplified given ∷ []) s
     → ReadsWhere BeforeEntries names (length bytes) (Items.simplified given ∷ []) (λ u. fixed (codes "simplify ") ∷ []) (Items.simplification_count ∷ Items.body second_version given ∷ []) s s1
     → Reads names (length bytes) (Items.simplification_count ∷ []) (λ u. count_marks n) (Items.simplifications_of n) s1 s2
     → Reads names (length bytes) (Items.simplifications_of n) (λ u. simplifications_marks u (by_number (number_in names all)) ss) [] s2 s3
@@ -261,7 +310,9 @@ steps_begin_by {names} {bytes} {shared} {given} {s} {s1} {s2} {s3} {t} all n ss 
     counted (subst (λ (x : List Automaton). s3.refused ≡ None → StepsUse second_version x ss) e plain) (subst (λ (x : List Automaton). AreShared second_version names x (length bytes) s3) e known) next
 
 -- the shared automata are known where the steps begin
-pub known_at_steps : {names : NameTable} {bytes : List ℕ} {shared : List Automaton} {given : Option Bool} {s s1 s2 : words.Reading} (n : ℕ) → IsBegun names bytes second_version shared given None [] (Items.simplified given ∷ []) s
+pub known_at_steps : {names : NameTable} {bytes : List ℕ} {shared : List Automaton} {given : Option Bool} {s s1 s2 : words.Reading} (n : ℕ)
+    → IsBegun names bytes second_version shared given None [] (Items.simplified given ∷ []) s
     → ReadsWhere BeforeEntries names (length bytes) (Items.simplified given ∷ []) (λ u. fixed (codes "simplify ") ∷ []) (Items.simplification_count ∷ Items.body second_version given ∷ []) s s1
     → Reads names (length bytes) (Items.simplification_count ∷ []) (λ u. count_marks n) (Items.simplifications_of n) s1 s2 → AreShared second_version names shared (length bytes) s2
-known_at_steps {shared = shared} n b first count = known_behind second_version shared count [] (counts_still (count_marks n) (tt, (tt, tt))) (known_where second_version shared first [] (counts_still (fixed (codes "simplify ") ∷ []) (tt, tt)) b.known)
+known_at_steps {shared = shared} n b first count = known_behind second_version shared count [] (counts_still (count_marks n) (tt, (tt, tt)))
+    (known_where second_version shared first [] (counts_still (fixed (codes "simplify ") ∷ []) (tt, tt)) b.known)

@@ -68,14 +68,25 @@ heads_of (Some f) x bound qs = (refl, both (states_marks bound qs) (behind (has_
 
 transitions : (ts : List Transition) (x : Naming) (bound : ℕ) → Peakless (transitions_marks x bound ts)
 transitions [] x bound = tt
-transitions (t ∷ ts) x bound = both (head_marks x bound t.symbol t.arguments ++ _) (transitions_marks x bound ts) (both (head_marks x bound t.symbol t.arguments) _ (heads_of t.symbol x bound t.arguments) (refl, (num t.target, (refl, tt)))) (transitions ts x bound)
+transitions (t ∷ ts) x bound = both (head_marks x bound t.symbol t.arguments ++ _) (transitions_marks x bound ts)
+    (both (head_marks x bound t.symbol t.arguments) _ (heads_of t.symbol x bound t.arguments) (refl, (num t.target, (refl, tt)))) (transitions ts x bound)
 
 automaton : (a : Automaton) (x : Naming) → Peakless (automaton_marks x a)
-automaton a x = (refl, (refl, (num a.states, (refl, both (accepting_marks a.states a.accepting) _ (accepting a.accepting a.states) (refl, (num (length a.transitions), (refl, transitions a.transitions x a.states)))))))
+automaton a x = (
+  refl,
+  (
+    refl,
+    (
+      num a.states,
+      (refl, both (accepting_marks a.states a.accepting) _ (accepting a.accepting a.states) (refl, (num (length a.transitions), (refl, transitions a.transitions x a.states)))),
+    ),
+  ),
+)
 
 automata : (bs : List Automaton) (x : Naming) → Peakless (automata_marks x bs)
 automata [] x = tt
-automata (b ∷ bs) x = both (automaton_marks x b ++ (closed (shares automaton_ends) ∷ [])) (automata_marks x bs) (both (automaton_marks x b) (closed (shares automaton_ends) ∷ []) (automaton b x) (refl, tt)) (automata bs x)
+automata (b ∷ bs) x = both (automaton_marks x b ++ (closed (shares automaton_ends) ∷ [])) (automata_marks x bs)
+    (both (automaton_marks x b) (closed (shares automaton_ends) ∷ []) (automaton b x) (refl, tt)) (automata bs x)
 
 infeasible : (e : InfeasibilityEvidence) (x : Naming) (u : Uses) → Peakless (infeasibility_marks x u e)
 infeasible by_caps x u = (refl, tt)
@@ -103,7 +114,8 @@ entries (e ∷ es) x n =
 
 symbols : (hs : List Head) (x : Naming) (n : ℕ) → Peakless (heads_marks x n hs)
 symbols [] x n = tt
-symbols (h ∷ hs) x n = both (measured_marks x n h ++ (fixed (codes "\n") ∷ [])) (heads_marks x (suc n) hs) (both (measured_marks x n h) (fixed (codes "\n") ∷ []) (measured h x n) (refl, tt)) (symbols hs x (suc n))
+symbols (h ∷ hs) x n = both (measured_marks x n h ++ (fixed (codes "\n") ∷ [])) (heads_marks x (suc n) hs)
+    (both (measured_marks x n h) (fixed (codes "\n") ∷ []) (measured h x n) (refl, tt)) (symbols hs x (suc n))
 
 measure : (m : MeasureCertificate) (x : Naming) → Peakless (measure_marks x m)
 measure (linear_measure es) x = (refl, entries es x 1)

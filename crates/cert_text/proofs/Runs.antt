@@ -23,19 +23,24 @@ use Rattle.cert_text.specs.ReadingView.{place_of, read_marks}
 
 -- ---- a run to the end, and one behind an opening and entries
 
-pub run_read : {t : Shared} (v : Version) (all : List Automaton) (names : NameTable) (bytes left : List ℕ) (given : Option Bool) (o : Opening) (es : List PairEntry) (to : List Item) → CanShare v all → IsPlainBy v all (certificate_for o es) → ArePlainAutomata all
-    → Run names (length bytes) (opening ∷ []) (λ u. read_marks u (uses_with v names all) all given o es) to bytes left nothing_shared t → IsReadTo names bytes o es (place_of bytes left) v (drop t.used all) left
+pub run_read : {t : Shared} (v : Version) (all : List Automaton) (names : NameTable) (bytes left : List ℕ) (given : Option Bool) (o : Opening) (es : List PairEntry)
+    (to : List Item) → CanShare v all → IsPlainBy v all (certificate_for o es) → ArePlainAutomata all
+    → Run names (length bytes) (opening ∷ []) (λ u. read_marks u (uses_with v names all) all given o es) to bytes left nothing_shared t
+    → IsReadTo names bytes o es (place_of bytes left) v (drop t.used all) left
 run_read {t} v all names bytes left given o es to share p q r =
     let ms = read_marks (name_of names) (uses_with v names all) all given o es in
     let w = r.walks (omega arith) [] in
     let keeps = r.shares (omega arith) [] in
     let text = walks_text names ms _ _ w in
     let long = ap length text ∙ length-append (marks_text ms) left in
-    front_found v all names bytes left given o es (place_of bytes left) t.used share p q (record { named = walks_named names ms _ _ w; passed = walks_pass names ms _ _ w; found = r.found }) keeps.0 (ap (λ (z : Shared). z.used) keeps.1) text (let e : place_of bytes left + length left ≡ length bytes = omega (arith, long) in e)
+    front_found v all names bytes left given o es (place_of bytes left) t.used share p q
+    (record { named = walks_named names ms _ _ w; passed = walks_pass names ms _ _ w; found = r.found }) keeps.0 (ap (λ (z : Shared). z.used) keeps.1) text
+    (let e : place_of bytes left + length left ≡ length bytes = omega (arith, long) in e)
 
 -- ---- refusals
 
-stop_refused : (names : NameTable) (bytes : List ℕ) (e : CertificateCause × ℕ) → StopsWhere Anywhere names (length bytes) (opening ∷ []) bytes nothing_shared e → IsCertificateRefused names bytes e.0 e.1
+stop_refused : (names : NameTable) (bytes : List ℕ) (e : CertificateCause × ℕ) → StopsWhere Anywhere names (length bytes) (opening ∷ []) bytes nothing_shared e
+    → IsCertificateRefused names bytes e.0 e.1
 stop_refused names bytes e s =
     let there = s.stops [] in
     refused_at names bytes _ (behind_marks s.marks nothing_shared) e (walks_at names bytes s.marks _ _ nothing_shared (start_at names bytes) s.walks there.0) there.1
@@ -51,22 +56,27 @@ refused_from names bytes (CertTooDeep at) s = stop_refused names bytes _ (s (ome
 refused_from names bytes (TooMany what at) s = stop_refused names bytes _ (s (omega arith))
 refused_from names bytes NoMemory s = tt
 
-pub refused_as : (names : NameTable) (bytes : List ℕ) (e : CertError) → {sa : Shared} → sa ≡ nothing_shared → IsStoppedWhere Anywhere names (length bytes) (opening ∷ []) bytes sa (told e) → IsRefusedAs names bytes e
+pub refused_as : (names : NameTable) (bytes : List ℕ) (e : CertError) → {sa : Shared} → sa ≡ nothing_shared
+    → IsStoppedWhere Anywhere names (length bytes) (opening ∷ []) bytes sa (told e) → IsRefusedAs names bytes e
 refused_as names bytes e fresh s = refused_from names bytes e (subst (λ (z : Shared). IsStoppedWhere Anywhere names (length bytes) (opening ∷ []) bytes z (told e)) fresh s)
 
 -- bytes behind the last line are refused
-behind_from : (names : NameTable) (bytes left : List ℕ) (marks : Naming → List Mark) (sb : Shared) → (left ≡ [] → ⊥) → Run names (length bytes) (opening ∷ []) marks [] bytes left nothing_shared sb → IsCertificateRefused names bytes syntax (length bytes - length left)
+behind_from : (names : NameTable) (bytes left : List ℕ) (marks : Naming → List Mark) (sb : Shared) → (left ≡ [] → ⊥)
+    → Run names (length bytes) (opening ∷ []) marks [] bytes left nothing_shared sb → IsCertificateRefused names bytes syntax (length bytes - length left)
 behind_from names bytes [] marks sb some r = absurd (some refl)
 behind_from names bytes (b ∷ left) marks sb some r =
     refused_at names bytes (left_at (length bytes) [] (b ∷ left)) (behind_marks (marks (name_of names)) nothing_shared) (syntax, length bytes - length (b ∷ left))
     (walks_at names bytes (marks (name_of names)) _ _ nothing_shared (start_at names bytes) (r.walks (omega arith) []) (r.shares (omega arith) []).0) refl
 
-pub refused_behind : (names : NameTable) (bytes left : List ℕ) (marks : Naming → List Mark) (at : ℕ) → {sa sb : Shared} → sa ≡ nothing_shared → (left ≡ [] → ⊥) → at ≡ length bytes - length left → Run names (length bytes) (opening ∷ []) marks [] bytes left sa sb → IsCertificateRefused names bytes syntax at
+pub refused_behind : (names : NameTable) (bytes left : List ℕ) (marks : Naming → List Mark) (at : ℕ) → {sa sb : Shared} → sa ≡ nothing_shared → (left ≡ [] → ⊥)
+    → at ≡ length bytes - length left → Run names (length bytes) (opening ∷ []) marks [] bytes left sa sb → IsCertificateRefused names bytes syntax at
 refused_behind names bytes left marks at {sa} {sb} fresh some e r =
-    subst (λ (n : ℕ). IsCertificateRefused names bytes syntax n) (sym e) (behind_from names bytes left marks sb some (subst (λ (z : Shared). Run names (length bytes) (opening ∷ []) marks [] bytes left z sb) fresh r))
+    subst (λ (n : ℕ). IsCertificateRefused names bytes syntax n) (sym e)
+    (behind_from names bytes left marks sb some (subst (λ (z : Shared). Run names (length bytes) (opening ∷ []) marks [] bytes left z sb) fresh r))
 
 -- the refusal that an error tells
-as_told : (names : NameTable) (bytes : List ℕ) (x y : CertificateCause × ℕ) → IsCertificateRefused names bytes x.0 x.1 → ◌≡◌ {A = Option (CertificateCause × ℕ)} (Some x) (Some y) → IsCertificateRefused names bytes y.0 y.1
+as_told : (names : NameTable) (bytes : List ℕ) (x y : CertificateCause × ℕ) → IsCertificateRefused names bytes x.0 x.1 → ◌≡◌ {A = Option (CertificateCause × ℕ)} (Some x) (Some y)
+    → IsCertificateRefused names bytes y.0 y.1
 as_told names bytes x y h e = let same : x ≡ y = cc in subst (λ (z : CertificateCause × ℕ). IsCertificateRefused names bytes z.0 z.1) same h
 
 pub refused_as_told : (names : NameTable) (bytes : List ℕ) (e : CertError) (f : CertificateCause) (at : ℕ) → IsRefusedAs names bytes e → told e ≡ Some (f, at) → IsCertificateRefused names bytes f at

@@ -35,7 +35,8 @@ both_long a b c d p q = omega (arith, p, q, length-append a b, length-append c d
 pairs_long : (ps : List PairEntry) (x : Naming) (u w : Uses) (n : ℕ) → version_of u ≡ version_of w → length (pairs_marks x u n ps) ≡ length (pairs_marks x w n ps)
 pairs_long [] x u w n v = refl
 pairs_long (p ∷ ps) x u w n v =
-    let line = word (codes "pair") (is_few marks.pairs n ∷ []) ∷ fixed (codes " ") ∷ number p.inner ∷ fixed (codes " ") ∷ position p.position ∷ fixed (codes " ") ∷ number p.outer ∷ fixed (codes " ") ∷ [] in
+    let line = word (codes "pair") (is_few marks.pairs n ∷ []) ∷ fixed (codes " ") ∷ number p.inner ∷ fixed (codes " ") ∷ position p.position ∷ fixed (codes " ")
+    ∷ number p.outer ∷ fixed (codes " ") ∷ [] in
     both_long (line ++ evidence_marks x u p.evidence) (pairs_marks x u (suc n) ps) (line ++ evidence_marks x w p.evidence) (pairs_marks x w (suc n) ps)
     (both_long line (evidence_marks x u p.evidence) line (evidence_marks x w p.evidence) refl (evidence_long p.evidence x u w v)) (pairs_long ps x u w (suc n) v)
 
@@ -47,13 +48,15 @@ steps_long (dropped r e ∷ ss) x u w v =
     (both_long line (infeasibility_marks x u e) line (infeasibility_marks x w e) refl (infeasibility_long e x u w v)) (steps_long ss x u w v)
 steps_long (inlined r k ∷ ss) x u w v = let rest = steps_long ss x u w v in omega (arith, rest)
 
-body_long : (o : Opening) (es : List PairEntry) (x : Naming) (u w : Uses) (g h : Option Bool) → version_of u ≡ version_of w → length (body_marks x u g (certificate_for o es)) ≡ length (body_marks x w h (certificate_for o es))
+body_long : (o : Opening) (es : List PairEntry) (x : Naming) (u w : Uses) (g h : Option Bool) → version_of u ≡ version_of w
+    → length (body_marks x u g (certificate_for o es)) ≡ length (body_marks x w h (certificate_for o es))
 body_long ortho_opening es x u w g h v = let rest = pairs_long es x u w 1 v in omega (arith, rest)
 body_long (quasi_opening m) es x u w g h v =
     let rest = both_long (measure_marks x m) (pairs_marks x u 1 es) (measure_marks x m) (pairs_marks x w 1 es) refl (pairs_long es x u w 1 v) in
     omega (arith, rest)
 body_long (simplified_opening ss o) es x u w g h v =
-    let rest = both_long (simplifications_marks x u ss) (body_marks x u g (certificate_for o es)) (simplifications_marks x w ss) (body_marks x w h (certificate_for o es)) (steps_long ss x u w v) (body_long o es x u w g h v) in
+    let rest = both_long (simplifications_marks x u ss) (body_marks x u g (certificate_for o es)) (simplifications_marks x w ss) (body_marks x w h (certificate_for o es))
+    (steps_long ss x u w v) (body_long o es x u w g h v) in
     omega (arith, rest)
 
 -- ---- the lines before the body
@@ -71,9 +74,11 @@ automata_rest [] (q ∷ bs) x a b n e = absurd (let k : 0 ≡ suc (length bs) = 
 automata_rest (p ∷ all) [] x a b n e = absurd (let k : suc (length all) ≡ 0 = n in omega arith)
 automata_rest (p ∷ all) (q ∷ bs) x a b n e =
     let left : (y : Automaton) (ys : List Automaton) (c : List Mark) → automata_marks x (y ∷ ys) ++ c ≡ automaton_marks x y ++ closed (shares automaton_ends) ∷ (automata_marks x ys ++ c) =
-    (λ y ys c. append_assoc (automaton_marks x y ++ closed (shares automaton_ends) ∷ []) (automata_marks x ys) c ∙ append_assoc (automaton_marks x y) (closed (shares automaton_ends) ∷ []) (automata_marks x ys ++ c)) in
+    (λ y ys c. append_assoc (automaton_marks x y ++ closed (shares automaton_ends) ∷ []) (automata_marks x ys) c ∙ append_assoc (automaton_marks x y)
+    (closed (shares automaton_ends) ∷ []) (automata_marks x ys ++ c)) in
     let whole = sym (left p all a) ∙ e ∙ left q bs b in
-    let tails : behind_states x p ++ closed (shares automaton_ends) ∷ (automata_marks x all ++ a) ≡ behind_states x q ++ closed (shares automaton_ends) ∷ (automata_marks x bs ++ b) = append_cancel_left (word (codes "states") (shares marks.automaton_begins ∷ []) ∷ []) _ _ whole in
+    let tails : behind_states x p ++ closed (shares automaton_ends) ∷ (automata_marks x all ++ a) ≡ behind_states x q ++ closed (shares automaton_ends)
+    ∷ (automata_marks x bs ++ b) = append_cancel_left (word (codes "states") (shares marks.automaton_begins ∷ []) ∷ []) _ _ whole in
     automata_rest all bs x a b (let k : suc (length all) ≡ suc (length bs) = n in omega arith)
     (sealed (behind_states x p) (behind_states x q) (automata_marks x all ++ a) (automata_marks x bs ++ b) (behind_states_still p x) (behind_states_still q x) tails)
 
@@ -91,7 +96,8 @@ heading_rest in_full in_full all bs x a b e = (refl, append_cancel_left (fixed (
 heading_rest in_full (by_number h) all bs x a b e = let first : fixed (codes "concon 1\n") ≡ fixed (codes "concon 2\n") = cc in absurd (lines_apart first)
 heading_rest (by_number f) in_full all bs x a b e = let first : fixed (codes "concon 2\n") ≡ fixed (codes "concon 1\n") = cc in absurd (lines_apart (sym first))
 heading_rest (by_number f) (by_number h) all bs x a b e =
-    let behind : number_for marks.shared_automata (length all) ∷ (fixed (codes "\n") ∷ (automata_marks x all ++ a)) ≡ number_for marks.shared_automata (length bs) ∷ (fixed (codes "\n") ∷ (automata_marks x bs ++ b)) =
+    let behind : number_for marks.shared_automata (length all) ∷ (fixed (codes "\n") ∷ (automata_marks x all ++ a)) ≡ number_for marks.shared_automata (length bs)
+    ∷ (fixed (codes "\n") ∷ (automata_marks x bs ++ b)) =
     append_cancel_left (fixed (codes "concon 2\n") ∷ fixed (codes "shared ") ∷ []) _ _ e in
     let count : number_for marks.shared_automata (length all) ≡ number_for marks.shared_automata (length bs) = cc in
     let tails : automata_marks x all ++ a ≡ automata_marks x bs ++ b = cc in
@@ -108,7 +114,8 @@ no_answer u all x a c v r n e =
     let first : fixed (99 ∷ h.0) ≡ fixed (c ∷ v) = cc in
     marks_apart 99 c h.0 v n first
 
-answer_rest : (g h : Option Bool) (u w : Uses) (all bs : List Automaton) (x : Naming) (a b : List Mark) → answer_marks g ++ (heading_marks x u all ++ a) ≡ answer_marks h ++ (heading_marks x w bs ++ b) → heading_marks x u all ++ a ≡ heading_marks x w bs ++ b
+answer_rest : (g h : Option Bool) (u w : Uses) (all bs : List Automaton) (x : Naming) (a b : List Mark)
+    → answer_marks g ++ (heading_marks x u all ++ a) ≡ answer_marks h ++ (heading_marks x w bs ++ b) → heading_marks x u all ++ a ≡ heading_marks x w bs ++ b
 answer_rest None None u w all bs x a b e = e
 answer_rest None (Some true) u w all bs x a b e = absurd (no_answer u all x a 89 _ _ refl e)
 answer_rest None (Some false) u w all bs x a b e = absurd (no_answer u all x a 78 _ _ refl e)
@@ -119,7 +126,8 @@ answer_rest (Some false) (Some false) u w all bs x a b e = append_cancel_left (f
 answer_rest (Some true) (Some false) u w all bs x a b e = let first : fixed (codes "YES\n") ≡ fixed (codes "NO\n") = cc in absurd (marks_apart 89 78 _ _ refl first)
 answer_rest (Some false) (Some true) u w all bs x a b e = let first : fixed (codes "NO\n") ≡ fixed (codes "YES\n") = cc in absurd (marks_apart 78 89 _ _ refl first)
 
-pub no_front : (x : Naming) (u w : Uses) (all bs : List Automaton) (g h : Option Bool) (o : Opening) (es : List PairEntry) (m : Mark) (ms : List Mark) → read_marks x u all g o es ≡ read_marks x w bs h o es ++ m ∷ ms → ⊥
+pub no_front : (x : Naming) (u w : Uses) (all bs : List Automaton) (g h : Option Bool) (o : Opening) (es : List PairEntry) (m : Mark) (ms : List Mark)
+    → read_marks x u all g o es ≡ read_marks x w bs h o es ++ m ∷ ms → ⊥
 no_front x u w all bs g h o es m ms e =
     let one = body_marks x u g (certificate_for o es) in
     let other = body_marks x w h (certificate_for o es) in

@@ -21,7 +21,8 @@ use Rattle.cert_text.specs.OpenedText.{OpenedText, behind_steps}
 abbrev pub steps_marks : Naming → Uses → Option (List Simplification) → List Mark
 steps_marks names uses None = []
 steps_marks names uses (Some steps) =
-    fixed (codes "simplify ") ∷ word (numeral (length steps)) (in_range 0 1 (suc largest) (length steps) ∷ is_few simplifications (length steps) ∷ []) ∷ fixed (codes "\n") ∷ simplifications_marks names uses steps
+    fixed (codes "simplify ") ∷ word (numeral (length steps)) (in_range 0 1 (suc largest) (length steps) ∷ is_few simplifications (length steps) ∷ []) ∷ fixed (codes "\n")
+    ∷ simplifications_marks names uses steps
 
 abbrev pub opening_behind : Option (List Simplification) → Opening → Opening
 opening_behind None o = o
@@ -41,7 +42,8 @@ abbrev pub front_marks : Naming → Uses → List Automaton → Option Bool → 
 front_marks names uses shared given steps = answer_marks given ++ (heading_marks names uses shared ++ steps_marks names uses steps)
 
 -- a text that is read from its first byte on, along these and further marks, up to these items
-pub record IsBegun (names : NameTable) (bytes : List ℕ) (v : Version) (shared : List Automaton) (given : Option Bool) (steps : Option (List Simplification)) (further : List Mark) (items : List Item) (at : Reading) : Type 0 where
+pub record IsBegun (names : NameTable) (bytes : List ℕ) (v : Version) (shared : List Automaton) (given : Option Bool) (steps : Option (List Simplification)) (further : List Mark)
+    (items : List Item) (at : Reading) : Type 0 where
   pub can_share : CanShare v shared
   pub start : Reading
   pub all_left : start.left.now ≡ bytes

@@ -21,12 +21,14 @@ same_longest bytes [] = refl
 same_longest bytes (c ∷ cs) = ap (max (scan (spelling c.bytes) bytes).size) (same_longest bytes cs)
 
 -- past the last one
-pub past_last : (names : NameTable) (end : ℕ) (i : Item) (s t : Reading) (cs : List Choice) (k : ℕ) (e : CertError) → length cs ≤ k → t.refused ≡ Some e → Reads names end (i ∷ []) (λ u. []) [] s t → Chosen names end i cs k s t
+pub past_last : (names : NameTable) (end : ℕ) (i : Item) (s t : Reading) (cs : List Choice) (k : ℕ) (e : CertError) → length cs ≤ k → t.refused ≡ Some e
+    → Reads names end (i ∷ []) (λ u. []) [] s t → Chosen names end i cs k s t
 past_last names end i s t [] k e h q r = (e, q, r)
 past_last names end i s t (c ∷ cs) zero e h q r = absurd (omega (arith, h))
 past_last names end i s t (c ∷ cs) (suc k) e h q r = past_last names end i s t cs k e (omega (arith, h)) q r
 
-pub is_first : (bytes w rest : List ℕ) (texts : List code.Lead) (k : ℕ) (d : code.Lead) → k < length texts → Missed bytes k (map bare texts) → IsLeadRead (bare (get_or texts k d)) bytes w rest → IsFirst bytes (map bare texts) k rest
+pub is_first : (bytes w rest : List ℕ) (texts : List code.Lead) (k : ℕ) (d : code.Lead) → k < length texts → Missed bytes k (map bare texts)
+    → IsLeadRead (bare (get_or texts k d)) bytes w rest → IsFirst bytes (map bare texts) k rest
 is_first bytes w rest [] k d lt m h = absurd (omega (arith, lt))
 is_first bytes w rest (a ∷ ls) zero d lt m h = (w, h)
 is_first bytes w rest (a ∷ ls) (suc k) d lt m h = (m.0, is_first bytes w rest ls k d (omega (arith, lt)) m.1 h)
@@ -38,7 +40,8 @@ first_chosen names end i s t bytes rest [] k h f = absurd h
 first_chosen names end i s t bytes rest (c ∷ cs) zero h f = f c h.0 (rw h.1.there refl) h.1
 first_chosen names end i s t bytes rest (c ∷ cs) (suc k) h f = first_chosen names end i s t bytes rest cs k h.1 (λ x w e. f x w (rw h.0 e))
 
-pub missed_bare : (bytes : List ℕ) (texts : List code.Lead) (k : ℕ) (d : code.Lead) → k < length texts → Missed bytes k (map bare texts) → is_there (bare (get_or texts k d)) bytes ≡ false → Missed bytes (suc k) (map bare texts)
+pub missed_bare : (bytes : List ℕ) (texts : List code.Lead) (k : ℕ) (d : code.Lead) → k < length texts → Missed bytes k (map bare texts)
+    → is_there (bare (get_or texts k d)) bytes ≡ false → Missed bytes (suc k) (map bare texts)
 missed_bare bytes [] k d lt m e = absurd (omega (arith, lt))
 missed_bare bytes (a ∷ ls) zero d lt m e = (e, tt)
 missed_bare bytes (a ∷ ls) (suc k) d lt m e = (m.0, missed_bare bytes ls k d (omega (arith, lt)) m.1 e)

@@ -15,7 +15,9 @@ pub record LongestOn (leads : List code.Lead) (bytes : List ℕ) (at most : ℕ)
   pub within : most ≤ length bytes
 
 -- a text is read whole or not at all
-spelled_more : (a : ℕ) (w bs : List ℕ) (t : Bool) → (is_word (scan (spelling w) bs).mode ≡ true → (scan (spelling w) bs).size ≡ length w) → is_word (scan_next (spelling (a ∷ w)) (if t then Some (spelling w) else None) (λ n. scan n bs)).mode ≡ true → (scan_next (spelling (a ∷ w)) (if t then Some (spelling w) else None) (λ n. scan n bs)).size ≡ suc (length w)
+spelled_more : (a : ℕ) (w bs : List ℕ) (t : Bool) → (is_word (scan (spelling w) bs).mode ≡ true → (scan (spelling w) bs).size ≡ length w)
+    → is_word (scan_next (spelling (a ∷ w)) (if t then Some (spelling w) else None) (λ n. scan n bs)).mode ≡ true
+    → (scan_next (spelling (a ∷ w)) (if t then Some (spelling w) else None) (λ n. scan n bs)).size ≡ suc (length w)
 spelled_more a w bs true k h = ap suc (k h)
 spelled_more a w bs false k h = absurd (cc)
 
@@ -26,16 +28,20 @@ spelled (a ∷ w) [] h = absurd (cc)
 spelled (a ∷ w) (b ∷ bs) h = spelled_more a w bs (a == b) (λ k. spelled w bs k) h
 
 -- of a lead that is no check all of the word is read
-pub all_read : (a : code.Lead) (bytes : List ℕ) → ((b : ℕ) → a ≡ leading.Check b → ⊥) → is_word (scan (mode_of (bare a)) bytes).mode ≡ true → taken (bare a) bytes ≡ (scan (mode_of (bare a)) bytes).size
+pub all_read : (a : code.Lead) (bytes : List ℕ) → ((b : ℕ) → a ≡ leading.Check b → ⊥) → is_word (scan (mode_of (bare a)) bytes).mode ≡ true
+    → taken (bare a) bytes ≡ (scan (mode_of (bare a)) bytes).size
 all_read (leading.Text w) bytes n h = sym (spelled (w.now) bytes h)
 all_read (leading.Check b) bytes n h = absurd (n b refl)
 all_read (leading.Keyword w) bytes n h = sym (spelled (w.now) bytes h)
 all_read _ bytes n h = refl
 
-pub is_front : (a : code.Lead) (bytes w behind : List ℕ) (size : ℕ) → ((b : ℕ) → a ≡ leading.Check b → ⊥) → is_word (scan (mode_of (bare a)) bytes).mode ≡ true → size ≡ (scan (mode_of (bare a)) bytes).size → size ≤ length bytes → w ≡ take size bytes → behind ≡ drop size bytes → ends_lead (bare a) behind ≡ true → IsLeadRead (bare a) bytes w behind
+pub is_front : (a : code.Lead) (bytes w behind : List ℕ) (size : ℕ) → ((b : ℕ) → a ≡ leading.Check b → ⊥) → is_word (scan (mode_of (bare a)) bytes).mode ≡ true
+    → size ≡ (scan (mode_of (bare a)) bytes).size → size ≤ length bytes → w ≡ take size bytes → behind ≡ drop size bytes → ends_lead (bare a) behind ≡ true
+    → IsLeadRead (bare a) bytes w behind
 is_front a bytes w behind size n h e le first last ends =
     let same : taken (bare a) bytes ≡ size = all_read a bytes n h ∙ sym e in
-    let off : ends_lead (bare a) (drop (scan (mode_of (bare a)) bytes).size bytes) ≡ true = subst (λ (k : ℕ). ends_lead (bare a) (drop k bytes) ≡ true) e (subst (λ (k : List ℕ). ends_lead (bare a) k ≡ true) last ends) in
+    let off : ends_lead (bare a) (drop (scan (mode_of (bare a)) bytes).size bytes) ≡ true = subst (λ (k : ℕ). ends_lead (bare a) (drop k bytes) ≡ true) e
+    (subst (λ (k : List ℕ). ends_lead (bare a) k ≡ true) last ends) in
     record { there = rw (h, off) refl; word = rw same first; rest = rw same last; within = omega (arith, same) }
 
 -- bytes at the front

@@ -10,10 +10,13 @@ use Rattle.cert_words.specs.Walks.{Reads}
 use Rattle.cert_words.specs.Nodes.{NodeRead}
 use Rattle.cert_words.proofs.Walking.{already}
 
-pub node_leads : (n depth : ℕ) (g : Frame) (fs : List Frame) → suc (suc (length fs)) ≡ depth → leads (node n (g ∷ fs)) ≡ name_lead (is_node depth n) (λ name. name_behind (suc n) name (g ∷ fs) ∷ []) ∷ variable_lead (is_node depth n) (term_behind (suc n) (g ∷ fs) ∷ []) ∷ []
+pub node_leads : (n depth : ℕ) (g : Frame) (fs : List Frame) → suc (suc (length fs)) ≡ depth
+    → leads (node n (g ∷ fs)) ≡ name_lead (is_node depth n) (λ name. name_behind (suc n) name (g ∷ fs) ∷ []) ∷ variable_lead (is_node depth n)
+    (term_behind (suc n) (g ∷ fs) ∷ []) ∷ []
 node_leads n depth g fs e = ap (λ (d : ℕ). name_lead (is_node d n) (λ name. name_behind (suc n) name (g ∷ fs) ∷ []) ∷ variable_lead (is_node d n) (term_behind (suc n) (g ∷ fs) ∷ []) ∷ []) e
 
-pub refused_node : (names : NameTable) (end : ℕ) (i : Item) (depth n : ℕ) (new : List ℕ → List Item) (other to : List Item) (marks : Naming → List Mark) (s t : Reading) (r : Node) (e : CertError) → t.refused ≡ Some e → NodeRead names end i depth n new other s t r → Reads names end (i ∷ []) marks to s t
+pub refused_node : (names : NameTable) (end : ℕ) (i : Item) (depth n : ℕ) (new : List ℕ → List Item) (other to : List Item) (marks : Naming
+    → List Mark) (s t : Reading) (r : Node) (e : CertError) → t.refused ≡ Some e → NodeRead names end i depth n new other s t r → Reads names end (i ∷ []) marks to s t
 refused_node names end i depth n new other to marks s t (Symbol f) e q h = already e q h
 refused_node names end i depth n new other to marks s t (Variable x) e q h = already e q h
 

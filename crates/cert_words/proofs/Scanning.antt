@@ -18,14 +18,16 @@ here : (m : Mode) (bytes : List ℕ) (at : ℕ) (n : Option Mode) → at < lengt
 here m bytes at n h e = rw add-one (scan_cons m (get_or bytes at 0) (drop (suc at) bytes) (drop at bytes) n (drop-cons bytes at 0 h) (sym e))
 
 -- no word goes on with the byte here
-pub scan_stops : (begins m : Mode) (bytes : List ℕ) (at : ℕ) (r : Option code.Mode) → ScansOn begins bytes m at → at < length bytes → option_map mode_view r ≡ next m (get_or bytes at 0) → r ≡ None → (at ≡ (scan begins bytes).size) × (m ≡ (scan begins bytes).mode)
+pub scan_stops : (begins m : Mode) (bytes : List ℕ) (at : ℕ) (r : Option code.Mode) → ScansOn begins bytes m at → at < length bytes
+    → option_map mode_view r ≡ next m (get_or bytes at 0) → r ≡ None → (at ≡ (scan begins bytes).size) × (m ≡ (scan begins bytes).mode)
 scan_stops begins m bytes at r s h e none =
     let it = here m bytes at None h (sym (ap (option_map mode_view) none) ∙ e) in
     let size : (scan m (drop at bytes)).size ≡ 0 = ap (λ (x : Scan). x.size) it in
     let mode : (scan m (drop at bytes)).mode ≡ m = ap (λ (x : Scan). x.mode) it in
     (omega (arith, size, s.size), sym (s.mode ∙ mode))
 
-pub scan_goes_on : (begins m : Mode) (bytes : List ℕ) (at : ℕ) (r : Option code.Mode) (k : code.Mode) → ScansOn begins bytes m at → at < length bytes → option_map mode_view r ≡ next m (get_or bytes at 0) → r ≡ Some k → ScansOn begins bytes (mode_view k) (at + 1)
+pub scan_goes_on : (begins m : Mode) (bytes : List ℕ) (at : ℕ) (r : Option code.Mode) (k : code.Mode) → ScansOn begins bytes m at → at < length bytes
+    → option_map mode_view r ≡ next m (get_or bytes at 0) → r ≡ Some k → ScansOn begins bytes (mode_view k) (at + 1)
 scan_goes_on begins m bytes at r k s h e some =
     let it = here m bytes at (Some (mode_view k)) h (sym (ap (option_map mode_view) some) ∙ e) in
     let size : (scan m (drop at bytes)).size ≡ suc (scan (mode_view k) (drop (at + 1) bytes)).size = ap (λ (x : Scan). x.size) it in

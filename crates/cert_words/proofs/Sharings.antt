@@ -1,5 +1,6 @@
 -- Words at which shared automata are judged.
-use Rattle.std.proofs.Common.{◌≡◌, ◌≤◌, ◌-◌, nat_le, nat_lt, ℕ, suc, Bool, true, false, not, cond, ◌&&◌, List, [], ◌∷◌, ◌++◌, length, take, Option, Some, None, refl, sym, ap, ◌∙◌, subst, arith, length-append}
+use Rattle.std.proofs.Common.{◌≡◌, ◌≤◌, ◌-◌, nat_le, nat_lt, ℕ, suc, Bool, true, false, not, cond, ◌&&◌, List, [], ◌∷◌, ◌++◌, length, take, Option, Some, None, refl, sym, ap, ◌∙◌}
+use Rattle.std.proofs.Common.{subst, arith, length-append}
 use Rattle.std.proofs.Math.Seq.{take-append_seam}
 use Rattle.cops_names.specs.NameTable.{NameTable}
 use Rattle.cert_grammar.specs.Prelude.{largest, name_of, CertificateCause, bad_share, too_many, unfolded, automaton_begins, automaton_ends, is_use, is_light, all_used, Demand, shares}
@@ -27,9 +28,12 @@ end_keeps w s v e h = λ b. ((alone_met (holds s all_used) (bad_share, 0) (sym e
 alone_missed : (v : Bool) (x : CertificateCause × ℕ) → v ≡ false → first_of (cond {A = Option (CertificateCause × ℕ)} v None (Some x)) None ≡ Some x
 alone_missed v x e = ap (λ (t : Bool). first_of (cond {A = Option (CertificateCause × ℕ)} t None (Some x)) None) e
 
-pub end_stop : (names : NameTable) (end : ℕ) (bytes : List ℕ) (s : Shared) (i : Item) (w v rest : List ℕ) (new : List Item) (t : Bool) → first_there (leads i) bytes ≡ Some (keyword w (shares all_used ∷ []) new) → IsLeadRead (keyword w [] []) bytes v rest → t ≡ holds s all_used → t ≡ false → IsStuckAt names end i bytes s (Some (bad_share, end - length bytes))
+pub end_stop : (names : NameTable) (end : ℕ) (bytes : List ℕ) (s : Shared) (i : Item) (w v rest : List ℕ) (new : List Item) (t : Bool)
+    → first_there (leads i) bytes ≡ Some (keyword w (shares all_used ∷ []) new) → IsLeadRead (keyword w [] []) bytes v rest → t ≡ holds s all_used → t ≡ false
+    → IsStuckAt names end i bytes s (Some (bad_share, end - length bytes))
 end_stop names end bytes s i w v rest new t f h e missed = λ items b.
-    shared_stop names end bytes s i (keyword w (shares all_used ∷ []) new) v rest (bad_share, end - length bytes) items (with_begun b s) (record { first = f; word = h.word; rest = h.rest; within = h.within }) refl
+    shared_stop names end bytes s i (keyword w (shares all_used ∷ []) new) v rest (bad_share, end - length bytes) items (with_begun b s)
+    (record { first = f; word = h.word; rest = h.rest; within = h.within }) refl
     (alone_missed (holds s all_used) (bad_share, end - length bytes) (sym e ∙ missed))
 
 -- ---- a use
@@ -37,8 +41,10 @@ end_stop names end bytes s i w v rest new t f h e missed = λ items b.
 first_out : (v : Bool) (x : CertificateCause × ℕ) (o : Option (CertificateCause × ℕ)) → v ≡ false → first_of (cond {A = Option (CertificateCause × ℕ)} v None (Some x)) o ≡ Some x
 first_out v x o e = ap (λ (t : Bool). first_of (cond {A = Option (CertificateCause × ℕ)} t None (Some x)) o) e
 
-second_out : (v w : Bool) (x y : CertificateCause × ℕ) → v ≡ true → w ≡ false → first_of (cond {A = Option (CertificateCause × ℕ)} v None (Some x)) (first_of (cond {A = Option (CertificateCause × ℕ)} w None (Some y)) None) ≡ Some y
-second_out v w x y e f = ap (λ (t : Bool). first_of (cond {A = Option (CertificateCause × ℕ)} t None (Some x)) (first_of (cond {A = Option (CertificateCause × ℕ)} w None (Some y)) None)) e ∙ alone_missed w y f
+second_out : (v w : Bool) (x y : CertificateCause × ℕ) → v ≡ true → w ≡ false
+    → first_of (cond {A = Option (CertificateCause × ℕ)} v None (Some x)) (first_of (cond {A = Option (CertificateCause × ℕ)} w None (Some y)) None) ≡ Some y
+second_out v w x y e f = ap (λ (t : Bool). first_of (cond {A = Option (CertificateCause × ℕ)} t None (Some x))
+    (first_of (cond {A = Option (CertificateCause × ℕ)} w None (Some y)) None)) e ∙ alone_missed w y f
 
 abbrev pub use_demands : ℕ → List Demand
 use_demands n = is_short n ∷ shares (is_use n) ∷ shares (is_light n) ∷ []
@@ -46,7 +52,8 @@ use_demands n = is_short n ∷ shares (is_use n) ∷ shares (is_light n) ∷ []
 abbrev pub use_lead : (ℕ → List Item) → Lead
 use_lead new = numeral_lead use_demands new
 
-use_keeps : (w : List ℕ) (n : ℕ) (s t : Shared) → holds s (is_use n) ≡ true → holds s (is_light n) ≡ true → t ≡ share_effect (is_light n) (share_effect (is_use n) s) → Keeps s (word w (use_demands n) ∷ []) t
+use_keeps : (w : List ℕ) (n : ℕ) (s t : Shared) → holds s (is_use n) ≡ true → holds s (is_light n) ≡ true → t ≡ share_effect (is_light n) (share_effect (is_use n) s)
+    → Keeps s (word w (use_demands n) ∷ []) t
 use_keeps w n s t h k e = λ b. ((two_met (holds s (is_use n)) (holds s (is_light n)) (bad_share, 0) (too_many unfolded, 0) h k, tt), ap (with_begun []) (sym e))
 
 pub use_met : (names : NameTable) (v n : ℕ) → n ≡ v → (nat_le 0 v && nat_lt v (suc largest)) ≡ true → (at : ℕ) → verdict names at (use_demands v) ≡ None
@@ -56,22 +63,32 @@ module _ (names : NameTable) (end : ℕ) (s : Reading) (i : Item) (v : List ℕ)
   use_first : leads i ≡ use_lead new ∷ [] → is_there (numeral_lead (λ k. []) (λ k. [])) s.left.now ≡ true → first_there (leads i) s.left.now ≡ Some (use_lead new)
   use_first e h = first_one i s.left.now (use_lead new) [] e h
 
-  pub use_read : (t : Reading) → leads i ≡ use_lead new ∷ [] → s.refused ≡ None → t.refused ≡ None → IsLeadRead (numeral_lead (λ k. []) (λ k. [])) s.left.now v t.left.now → (n ≡ value v) × ((nat_le 0 (value v) && nat_lt (value v) (suc largest)) ≡ true)
+  pub use_read : (t : Reading) → leads i ≡ use_lead new ∷ [] → s.refused ≡ None → t.refused ≡ None → IsLeadRead (numeral_lead (λ k. []) (λ k. [])) s.left.now v t.left.now
+      → (n ≡ value v) × ((nat_le 0 (value v) && nat_lt (value v) (suc largest)) ≡ true)
       → (holds s.shares (is_use n) ≡ true) × (holds s.shares (is_light n) ≡ true) × (t.shares ≡ share_effect (is_light n) (share_effect (is_use n) s.shares))
       → Reads names end (i ∷ []) (λ u. use_mark n ∷ []) (new n) s t
-  use_read t e q r h k m = went q r (front_same s.shares.texts t.shares.texts (ap (λ (z : Shared). z.texts) m.2)) (number_keeps names end s.left.now s.shares i use_demands new v t.left.now n (use_first e h.there) h k.0 (use_met names (value v) n k.0 k.1) t.shares (use_keeps (numeral n) n s.shares t.shares m.0 m.1 m.2))
+  use_read t e q r h k m = went q r (front_same s.shares.texts t.shares.texts (ap (λ (z : Shared). z.texts) m.2))
+      (number_keeps names end s.left.now s.shares i use_demands new v t.left.now n (use_first e h.there) h k.0 (use_met names (value v) n k.0 k.1) t.shares
+      (use_keeps (numeral n) n s.shares t.shares m.0 m.1 m.2))
 
-  out : (x : CertificateCause × ℕ) (rest : List ℕ) → leads i ≡ use_lead new ∷ [] → IsLeadRead (numeral_lead (λ k. []) (λ k. [])) s.left.now v rest → (n ≡ value v) × ((nat_le 0 (value v) && nat_lt (value v) (suc largest)) ≡ true)
+  out : (x : CertificateCause × ℕ) (rest : List ℕ) → leads i ≡ use_lead new ∷ [] → IsLeadRead (numeral_lead (λ k. []) (λ k. [])) s.left.now v rest
+      → (n ≡ value v) × ((nat_le 0 (value v) && nat_lt (value v) (suc largest)) ≡ true)
       → ((b : List ℕ) → share_verdict (with_begun b s.shares) (end - length s.left.now) (use_demands n) ≡ Some x) → IsStuckAt names end i s.left.now s.shares (Some x)
   out x rest e h k w = λ items b.
-      shared_stop names end s.left.now s.shares i (use_lead new) v rest x items (with_begun b s.shares) (record { first = use_first e h.there; word = h.word; rest = h.rest; within = h.within }) (use_met names (value v) n k.0 k.1 (end - length s.left.now))
+      shared_stop names end s.left.now s.shares i (use_lead new) v rest x items (with_begun b s.shares)
+      (record { first = use_first e h.there; word = h.word; rest = h.rest; within = h.within }) (use_met names (value v) n k.0 k.1 (end - length s.left.now))
       (subst (λ (j : ℕ). share_verdict (with_begun b s.shares) (end - length s.left.now) (use_demands j) ≡ Some x) k.0 (w b))
 
-  pub use_bad : (rest : List ℕ) → leads i ≡ use_lead new ∷ [] → IsLeadRead (numeral_lead (λ k. []) (λ k. [])) s.left.now v rest → (n ≡ value v) × ((nat_le 0 (value v) && nat_lt (value v) (suc largest)) ≡ true) → holds s.shares (is_use n) ≡ false → IsStuckAt names end i s.left.now s.shares (Some (bad_share, end - length s.left.now))
+  pub use_bad : (rest : List ℕ) → leads i ≡ use_lead new ∷ [] → IsLeadRead (numeral_lead (λ k. []) (λ k. [])) s.left.now v rest
+      → (n ≡ value v) × ((nat_le 0 (value v) && nat_lt (value v) (suc largest)) ≡ true) → holds s.shares (is_use n) ≡ false
+      → IsStuckAt names end i s.left.now s.shares (Some (bad_share, end - length s.left.now))
   use_bad rest e h k missed = out (bad_share, end - length s.left.now) rest e h k (λ b. first_out (holds s.shares (is_use n)) (bad_share, end - length s.left.now) _ missed)
 
-  pub use_heavy : (rest : List ℕ) → leads i ≡ use_lead new ∷ [] → IsLeadRead (numeral_lead (λ k. []) (λ k. [])) s.left.now v rest → (n ≡ value v) × ((nat_le 0 (value v) && nat_lt (value v) (suc largest)) ≡ true) → holds s.shares (is_use n) ≡ true → holds s.shares (is_light n) ≡ false → IsStuckAt names end i s.left.now s.shares (Some (too_many unfolded, end - length s.left.now))
-  use_heavy rest e h k kept missed = out (too_many unfolded, end - length s.left.now) rest e h k (λ b. second_out (holds s.shares (is_use n)) (holds s.shares (is_light n)) (bad_share, end - length s.left.now) (too_many unfolded, end - length s.left.now) kept missed)
+  pub use_heavy : (rest : List ℕ) → leads i ≡ use_lead new ∷ [] → IsLeadRead (numeral_lead (λ k. []) (λ k. [])) s.left.now v rest
+      → (n ≡ value v) × ((nat_le 0 (value v) && nat_lt (value v) (suc largest)) ≡ true) → holds s.shares (is_use n) ≡ true → holds s.shares (is_light n) ≡ false
+      → IsStuckAt names end i s.left.now s.shares (Some (too_many unfolded, end - length s.left.now))
+  use_heavy rest e h k kept missed = out (too_many unfolded, end - length s.left.now) rest e h k
+      (λ b. second_out (holds s.shares (is_use n)) (holds s.shares (is_light n)) (bad_share, end - length s.left.now) (too_many unfolded, end - length s.left.now) kept missed)
 
 -- ---- an automaton's end
 
@@ -105,7 +122,8 @@ module _ (names : NameTable) (end : ℕ) (from : List Item) (f : Naming → List
   since : Run names end from f (i ∷ []) a.left.now s.left.now a.shares s.shares → length a.left.now ≤ end → a.left.now ≡ marks_text done ++ s.left.now
   since r le = walks_text names done _ _ (r.walks le [])
 
-  text_is : (text : List ℕ) → Run names end from f (i ∷ []) a.left.now s.left.now a.shares s.shares → length a.left.now ≤ end → text ≡ take (length a.left.now - length s.left.now) a.left.now → text ≡ marks_text done
+  text_is : (text : List ℕ) → Run names end from f (i ∷ []) a.left.now s.left.now a.shares s.shares → length a.left.now ≤ end
+      → text ≡ take (length a.left.now - length s.left.now) a.left.now → text ≡ marks_text done
   text_is text r le e =
       let whole = since r le in
       let long = ap length whole ∙ length-append (marks_text done) s.left.now in
@@ -113,20 +131,25 @@ module _ (names : NameTable) (end : ℕ) (from : List Item) (f : Naming → List
       e ∙ ap (λ (n : ℕ). take n a.left.now) size ∙ ap (take (length (marks_text done))) whole ∙ take-append_seam (marks_text done) s.left.now
 
   -- what is known where it ends
-  behind_all : Run names end from f (i ∷ []) a.left.now s.left.now a.shares s.shares → length a.left.now ≤ end → BeginsAnew done → (b : List ℕ) → behind_marks done (with_begun b a.shares) ≡ with_begun (marks_text done) s.shares
+  behind_all : Run names end from f (i ∷ []) a.left.now s.left.now a.shares s.shares → length a.left.now ≤ end → BeginsAnew done → (b : List ℕ)
+      → behind_marks done (with_begun b a.shares) ≡ with_begun (marks_text done) s.shares
   behind_all r le anew b = same_begun (behind_marks done (with_begun b a.shares)) s.shares (r.shares le b).1 ∙ ap (λ (x : List ℕ). with_begun x s.shares) (anew b a.shares)
 
   first_is : leads i ≡ at_once (shares automaton_ends) new ∷ [] → first_there (leads i) s.left.now ≡ Some (at_once (shares automaton_ends) new)
   first_is e = first_one i s.left.now (at_once (shares automaton_ends) new) [] e (here_there (shares automaton_ends) new s.left.now)
 
-  pub end_read : (text : List ℕ) (t : Reading) (good : Bool) → leads i ≡ at_once (shares automaton_ends) new ∷ [] → s.refused ≡ None → t.refused ≡ None → t.left.now ≡ s.left.now → text ≡ take (length a.left.now - length s.left.now) a.left.now → good ≡ holds (with_begun text s.shares) automaton_ends → good ≡ true → t.shares ≡ behind_end text s.shares → BeginsAnew done
+  pub end_read : (text : List ℕ) (t : Reading) (good : Bool) → leads i ≡ at_once (shares automaton_ends) new ∷ [] → s.refused ≡ None → t.refused ≡ None → t.left.now ≡ s.left.now
+      → text ≡ take (length a.left.now - length s.left.now) a.left.now → good ≡ holds (with_begun text s.shares) automaton_ends → good ≡ true
+      → t.shares ≡ behind_end text s.shares → BeginsAnew done
       → Reads names end from f (i ∷ []) a s → Reads names end from (λ u. f u ++ closed (shares automaton_ends) ∷ []) new a t
   end_read text t good e none still left cut g kept known anew x =
-      went (open_before x none) still (front_then a.shares.texts s.shares.texts t.shares.texts x.front (front_ended text s.shares t.shares known)) (subst (λ (r : List ℕ). Run names end from (λ u. f u ++ closed (shares automaton_ends) ∷ []) new a.left.now r a.shares t.shares) (sym left) (record {
+      went (open_before x none) still (front_then a.shares.texts s.shares.texts t.shares.texts x.front (front_ended text s.shares t.shares known))
+      (subst (λ (r : List ℕ). Run names end from (λ u. f u ++ closed (shares automaton_ends) ∷ []) new a.left.now r a.shares t.shares) (sym left) (record {
         walks = λ le items.
             let first = run.walks le items in
             let less = walks_shorter names done _ _ first in
-            walks_then names done (closed (shares automaton_ends) ∷ []) _ _ _ first (one_walk names end s.left.now s.shares i (at_once (shares automaton_ends) new) [] s.left.now (record { first = first_is e; word = refl; rest = refl; within = omega arith }) refl (omega (arith, less, le)) items);
+            walks_then names done (closed (shares automaton_ends) ∷ []) _ _ _ first (one_walk names end s.left.now s.shares i (at_once (shares automaton_ends) new) [] s.left.now
+            (record { first = first_is e; word = refl; rest = refl; within = omega arith }) refl (omega (arith, less, le)) items);
         found = found_then names (f tagged) (closed (shares automaton_ends) ∷ []) run.found tt;
         shares = λ le b.
             let there = behind_all run le anew b in
@@ -134,8 +157,10 @@ module _ (names : NameTable) (end : ℕ) (from : List Item) (f : Naming → List
             let new_one : is_among text s.shares.texts ≡ false = not_among good (is_among text s.shares.texts) g kept in
             let here = subst (λ (w : List ℕ). is_among w s.shares.texts ≡ false) is new_one in (
               pass_join done (closed (shares automaton_ends) ∷ []) (with_begun b a.shares) (run.shares le b).0
-                  (subst (λ (z : Shared). PassShares z (closed (shares automaton_ends) ∷ [])) (sym there) (alone_met (not (is_among (marks_text done) s.shares.texts)) (bad_share, 0 - length (marks_text done)) (ap not here), tt)),
-              ap (with_begun []) (behind_both done (closed (shares automaton_ends) ∷ []) (with_begun b a.shares)) ∙ ap (λ (z : Shared). with_begun [] (behind_marks (closed (shares automaton_ends) ∷ []) z)) there
+                  (subst (λ (z : Shared). PassShares z (closed (shares automaton_ends) ∷ [])) (sym there)
+                  (alone_met (not (is_among (marks_text done) s.shares.texts)) (bad_share, 0 - length (marks_text done)) (ap not here), tt)),
+              ap (with_begun []) (behind_both done (closed (shares automaton_ends) ∷ []) (with_begun b a.shares))
+                  ∙ ap (λ (z : Shared). with_begun [] (behind_marks (closed (shares automaton_ends) ∷ []) z)) there
                   ∙ ap (λ (w : List ℕ). with_begun [] (record { texts = s.shares.texts ++ w ∷ []; begun = []; used = s.shares.used; unfolds_to = s.shares.unfolds_to })) (sym is)
                   ∙ ap (with_begun []) (sym (known ∙ with_new_text text s.shares new_one)),
             );
@@ -144,23 +169,29 @@ module _ (names : NameTable) (end : ℕ) (from : List Item) (f : Naming → List
       run : Run names end from f (i ∷ []) a.left.now s.left.now a.shares s.shares
       run = read_run none x
 
-  pub end_stuck : (text : List ℕ) (good : Bool) (at : ℕ) → leads i ≡ at_once (shares automaton_ends) new ∷ [] → s.refused ≡ None → at ≡ end - length a.left.now → text ≡ take (length a.left.now - length s.left.now) a.left.now → good ≡ holds (with_begun text s.shares) automaton_ends → good ≡ false → BeginsAnew done
+  pub end_stuck : (text : List ℕ) (good : Bool) (at : ℕ) → leads i ≡ at_once (shares automaton_ends) new ∷ [] → s.refused ≡ None → at ≡ end - length a.left.now
+      → text ≡ take (length a.left.now - length s.left.now) a.left.now → good ≡ holds (with_begun text s.shares) automaton_ends → good ≡ false → BeginsAnew done
       → Reads names end from f (i ∷ []) a s → IsStuckBehind names end i done a.left.now s.left.now a.shares (Some (bad_share, at))
   end_stuck text good at is_end none place cut g missed anew x = λ le items b.
       let is = text_is text run le cut in
       let long = ap length (since run le) ∙ length-append (marks_text done) s.left.now in
       let there : (end - length s.left.now) - length (marks_text done) ≡ at = omega (arith, long, place) in
       subst (λ (z : Shared). RefusesAt names (left_at end (i ∷ items) s.left.now) z (bad_share, at)) (sym (behind_all run le anew b))
-      (shared_stop names end s.left.now s.shares i (at_once (shares automaton_ends) new) [] s.left.now (bad_share, at) items (with_begun (marks_text done) s.shares) (record { first = first_is is_end; word = refl; rest = refl; within = omega arith }) refl
-      (alone_missed (not (is_among (marks_text done) s.shares.texts)) (bad_share, (end - length s.left.now) - length (marks_text done)) (subst (λ (w : List ℕ). not (is_among w s.shares.texts) ≡ false) is (is_again good (is_among text s.shares.texts) g missed)) ∙ ap (λ (k : ℕ). Some (bad_share, k)) there))
+      (shared_stop names end s.left.now s.shares i (at_once (shares automaton_ends) new) [] s.left.now (bad_share, at) items (with_begun (marks_text done) s.shares)
+      (record { first = first_is is_end; word = refl; rest = refl; within = omega arith }) refl
+      (alone_missed (not (is_among (marks_text done) s.shares.texts)) (bad_share, (end - length s.left.now) - length (marks_text done))
+      (subst (λ (w : List ℕ). not (is_among w s.shares.texts) ≡ false) is (is_again good (is_among text s.shares.texts) g missed)) ∙ ap (λ (k : ℕ). Some (bad_share, k)) there))
     where
       run : Run names end from f (i ∷ []) a.left.now s.left.now a.shares s.shares
       run = read_run none x
 
-  pub end_stopped : (text : List ℕ) (t : Reading) (good : Bool) (e : CertError) (at : ℕ) → leads i ≡ at_once (shares automaton_ends) new ∷ [] → s.refused ≡ None → t.refused ≡ Some e → told e ≡ Some (bad_share, at) → at ≡ end - length a.left.now → text ≡ take (length a.left.now - length s.left.now) a.left.now → good ≡ holds (with_begun text s.shares) automaton_ends → good ≡ false → t.shares ≡ behind_end text s.shares → BeginsAnew done
+  pub end_stopped : (text : List ℕ) (t : Reading) (good : Bool) (e : CertError) (at : ℕ) → leads i ≡ at_once (shares automaton_ends) new ∷ [] → s.refused ≡ None
+      → t.refused ≡ Some e → told e ≡ Some (bad_share, at) → at ≡ end - length a.left.now → text ≡ take (length a.left.now - length s.left.now) a.left.now
+      → good ≡ holds (with_begun text s.shares) automaton_ends → good ≡ false → t.shares ≡ behind_end text s.shares → BeginsAnew done
       → Reads names end from f (i ∷ []) a s → Reads names end from (λ u. f u ++ closed (shares automaton_ends) ∷ []) new a t
   end_stopped text t good e at is_end none some tells place cut g missed known anew x =
-      stopped e (open_before x none) some (front_then a.shares.texts s.shares.texts t.shares.texts x.front (front_ended text s.shares t.shares known)) (subst (IsStopped names end from a.left.now a.shares) (sym tells) (λ le items. record {
+      stopped e (open_before x none) some (front_then a.shares.texts s.shares.texts t.shares.texts x.front (front_ended text s.shares t.shares known))
+      (subst (IsStopped names end from a.left.now a.shares) (sym tells) (λ le items. record {
         marks = done;
         item = i;
         more = [];

@@ -65,7 +65,9 @@ keeps_then s t v ms ns h k b =
     )
 
 -- the same up to a refusal
-pub stops_then : (names : NameTable) (s t : Shared) (ms ns : List Mark) (l : Left) (e : CertificateCause × ℕ) → Keeps s ms t → ((b : List ℕ) → PassShares (with_begun b t) ns × RefusesAt names l (behind_marks ns (with_begun b t)) e) → (b : List ℕ) → PassShares (with_begun b s) (ms ++ ns) × RefusesAt names l (behind_marks (ms ++ ns) (with_begun b s)) e
+pub stops_then : (names : NameTable) (s t : Shared) (ms ns : List Mark) (l : Left) (e : CertificateCause × ℕ) → Keeps s ms t
+    → ((b : List ℕ) → PassShares (with_begun b t) ns × RefusesAt names l (behind_marks ns (with_begun b t)) e) → (b : List ℕ)
+    → PassShares (with_begun b s) (ms ++ ns) × RefusesAt names l (behind_marks (ms ++ ns) (with_begun b s)) e
 stops_then names s t ms ns l e h k b =
     let z = behind_marks ms (with_begun b s) in
     let there : z ≡ with_begun z.begun t = same_begun z t (h b).1 in
@@ -75,7 +77,8 @@ stops_then names s t ms ns l e h k b =
     )
 
 module _ (names : NameTable) (end : ℕ) where
-  pub run_then : (from mid to : List Item) (f g : Naming → List Mark) (b r q : List ℕ) (s t v : Shared) → Run names end from f mid b r s t → Run names end mid g to r q t v → Run names end from (λ u. f u ++ g u) to b q s v
+  pub run_then : (from mid to : List Item) (f g : Naming → List Mark) (b r q : List ℕ) (s t v : Shared) → Run names end from f mid b r s t → Run names end mid g to r q t v
+      → Run names end from (λ u. f u ++ g u) to b q s v
   run_then from mid to f g b r q s t v x y = record {
     walks = λ le items.
         let first = x.walks le items in
@@ -87,15 +90,26 @@ module _ (names : NameTable) (end : ℕ) where
         keeps_then s t v (f (name_of names)) (g (name_of names)) (x.shares le) (y.shares (omega (arith, le, less)));
   }
 
-  pub stop_then : (from mid : List Item) (f : Naming → List Mark) (b r : List ℕ) (s t : Shared) (o : Option (CertificateCause × ℕ)) → Run names end from f mid b r s t → IsStopped names end mid r t o → IsStopped names end from b s o
+  pub stop_then : (from mid : List Item) (f : Naming → List Mark) (b r : List ℕ) (s t : Shared) (o : Option (CertificateCause × ℕ)) → Run names end from f mid b r s t
+      → IsStopped names end mid r t o → IsStopped names end from b s o
   stop_then from mid f b r s t None x y = tt
   stop_then from mid f b r s t (Some e) x y = λ le items.
       let first = x.walks le items in
       let less = walks_shorter names (f (name_of names)) (left_at end (from ++ items) b) (left_at end (mid ++ items) r) first in
       let there = y (omega (arith, le, less)) items in
-      record { marks = f (name_of names) ++ there.marks; item = there.item; more = there.more; rest = there.rest; walks = walks_then names (f (name_of names)) there.marks _ _ _ first there.walks; stops = stops_then names s t (f (name_of names)) there.marks (left_at end (there.item ∷ (there.more ++ items)) there.rest) e (x.shares le) there.stops }
+      record {
+        marks = f (name_of names) ++ there.marks;
+        item = there.item;
+        more = there.more;
+        rest = there.rest;
+        walks = walks_then names (f (name_of names)) there.marks _ _ _
+            first there.walks;
+        stops = stops_then names s t (f (name_of names)) there.marks
+            (left_at end (there.item ∷ (there.more ++ items)) there.rest) e (x.shares le) there.stops;
+      }
 
-  pub reads_on : (from mid to : List Item) (f g : Naming → List Mark) (b r q : List ℕ) (x y z : Shared) (s t u : Option CertError) → ReadsOn names end from f mid b r x y s t → ReadsOn names end mid g to r q y z t u → ReadsOn names end from (λ v. f v ++ g v) to b q x z s u
+  pub reads_on : (from mid to : List Item) (f g : Naming → List Mark) (b r q : List ℕ) (x y z : Shared) (s t u : Option CertError) → ReadsOn names end from f mid b r x y s t
+      → ReadsOn names end mid g to r q y z t u → ReadsOn names end from (λ v. f v ++ g v) to b q x z s u
   reads_on from mid to f g b r q x y z None None None h k = run_then from mid to f g b r q x y z h k
   reads_on from mid to f g b r q x y z None None (Some e) h k = stop_then from mid f b r x y (told e) h k
   reads_on from mid to f g b r q x y z None (Some d) None h k = absurd k
@@ -110,7 +124,8 @@ module _ (names : NameTable) (end : ℕ) where
 
   framed_run : (from to more : List Item) (f : Naming → List Mark) (b r : List ℕ) (s t : Shared) → Run names end from f to b r s t → Run names end (from ++ more) f (to ++ more) b r s t
   framed_run from to more f b r s t x = record {
-    walks = λ le items. subst (λ (l : Left). Walks names (f (name_of names)) l (left_at end ((to ++ more) ++ items) r)) (framed_walk from more items b) (subst (Walks names (f (name_of names)) (left_at end (from ++ (more ++ items)) b)) (framed_walk to more items r) (x.walks le (more ++ items)));
+    walks = λ le items. subst (λ (l : Left). Walks names (f (name_of names)) l (left_at end ((to ++ more) ++ items) r)) (framed_walk from more items b)
+        (subst (Walks names (f (name_of names)) (left_at end (from ++ (more ++ items)) b)) (framed_walk to more items r) (x.walks le (more ++ items)));
     found = x.found;
     shares = x.shares;
   }
@@ -125,18 +140,21 @@ module _ (names : NameTable) (end : ℕ) where
         item = there.item;
         more = there.more ++ more;
         rest = there.rest;
-        walks = subst (λ (l : Left). Walks names there.marks l (left_at end (there.item ∷ ((there.more ++ more) ++ items)) there.rest)) (framed_walk from more items b) (subst (λ (y : List Item). Walks names there.marks (left_at end (from ++ (more ++ items)) b) (left_at end y there.rest)) same there.walks);
+        walks = subst (λ (l : Left). Walks names there.marks l (left_at end (there.item ∷ ((there.more ++ more) ++ items)) there.rest)) (framed_walk from more items b)
+            (subst (λ (y : List Item). Walks names there.marks (left_at end (from ++ (more ++ items)) b) (left_at end y there.rest)) same there.walks);
         stops = λ k. ((there.stops k).0, subst (λ (y : List Item). RefusesAt names (left_at end y there.rest) (behind_marks there.marks (with_begun k s)) e) same (there.stops k).1);
       }
 
-  pub framed_on : (from to more : List Item) (f : Naming → List Mark) (b r : List ℕ) (x y : Shared) (s t : Option CertError) → ReadsOn names end from f to b r x y s t → ReadsOn names end (from ++ more) f (to ++ more) b r x y s t
+  pub framed_on : (from to more : List Item) (f : Naming → List Mark) (b r : List ℕ) (x y : Shared) (s t : Option CertError) → ReadsOn names end from f to b r x y s t
+      → ReadsOn names end (from ++ more) f (to ++ more) b r x y s t
   framed_on from to more f b r x y None None h = framed_run from to more f b r x y h
   framed_on from to more f b r x y None (Some e) h = framed_stop from more b x (told e) h
   framed_on from to more f b r x y (Some d) None h = absurd h
   framed_on from to more f b r x y (Some d) (Some e) h = h
 
   -- where the text is refused nothing is said of a value
-  pub any_on : (from to other : List Item) (f g : Naming → List Mark) (b r : List ℕ) (x y : Shared) (s t : Option CertError) (e : CertError) → t ≡ Some e → ReadsOn names end from f to b r x y s t → ReadsOn names end from g other b r x y s t
+  pub any_on : (from to other : List Item) (f g : Naming → List Mark) (b r : List ℕ) (x y : Shared) (s t : Option CertError) (e : CertError) → t ≡ Some e
+      → ReadsOn names end from f to b r x y s t → ReadsOn names end from g other b r x y s t
   any_on from to other f g b r x y None None e q h = absurd cc
   any_on from to other f g b r x y (Some d) None e q h = absurd h
   any_on from to other f g b r x y None (Some d) e q h = h
@@ -154,33 +172,57 @@ pub front_then : (s t u : List (List ℕ)) → IsFront s t → IsFront t u → I
 front_then s t u x y = (x.0 ++ y.0, y.1 ∙ ap (λ (w : List (List ℕ)). w ++ y.0) x.1 ∙ append_assoc s x.0 y.0)
 
 -- a part behind another
-pub then_reads : {names : NameTable} {end : ℕ} {from mid to : List Item} {f g : Naming → List Mark} {s t u : Reading} → Reads names end from f mid s t → Reads names end mid g to t u → Reads names end from (λ v. f v ++ g v) to s u
-then_reads {names} {end} {from} {mid} {to} {f} {g} {s} {t} {u} x y = record { front = front_then s.shares.texts t.shares.texts u.shares.texts x.front y.front; on = reads_on names end from mid to f g s.left.now t.left.now u.left.now s.shares t.shares u.shares s.refused t.refused u.refused x.on y.on }
+pub then_reads : {names : NameTable} {end : ℕ} {from mid to : List Item} {f g : Naming → List Mark} {s t u : Reading} → Reads names end from f mid s t
+    → Reads names end mid g to t u → Reads names end from (λ v. f v ++ g v) to s u
+then_reads {names} {end} {from} {mid} {to} {f} {g} {s} {t} {u} x y = record {
+  front = front_then s.shares.texts t.shares.texts u.shares.texts x.front y.front;
+  on = reads_on names end from mid to f g s.left.now t.left.now u.left.now s.shares t.shares u.shares s.refused t.refused u.refused x.on y.on;
+}
 
 -- items that stand behind all that is read
-pub framed : {names : NameTable} {end : ℕ} {from to : List Item} {f : Naming → List Mark} {s t : Reading} (more : List Item) → Reads names end from f to s t → Reads names end (from ++ more) f (to ++ more) s t
+pub framed : {names : NameTable} {end : ℕ} {from to : List Item} {f : Naming → List Mark} {s t : Reading} (more : List Item) → Reads names end from f to s t
+    → Reads names end (from ++ more) f (to ++ more) s t
 framed {names} {end} {from} {to} {f} {s} {t} more x = record { front = x.front; on = framed_on names end from to more f s.left.now t.left.now s.shares t.shares s.refused t.refused x.on }
 
 -- where the text is refused nothing is said of a value
-pub already : {names : NameTable} {end : ℕ} {from to other : List Item} {f g : Naming → List Mark} {s t : Reading} (e : CertError) → t.refused ≡ Some e → Reads names end from f to s t → Reads names end from g other s t
-already {names} {end} {from} {to} {other} {f} {g} {s} {t} e q x = record { front = x.front; on = any_on names end from to other f g s.left.now t.left.now s.shares t.shares s.refused t.refused e q x.on }
+pub already : {names : NameTable} {end : ℕ} {from to other : List Item} {f g : Naming → List Mark} {s t : Reading} (e : CertError) → t.refused ≡ Some e
+    → Reads names end from f to s t → Reads names end from g other s t
+already {names} {end} {from} {to} {other} {f} {g} {s} {t} e q x = record {
+  front = x.front;
+  on = any_on names end from to other f g s.left.now t.left.now s.shares t.shares
+      s.refused t.refused e q x.on;
+}
 
 -- what is refused stays so
 pub stays : {names : NameTable} {end : ℕ} {from to : List Item} {f : Naming → List Mark} {s : Reading} (e : CertError) → s.refused ≡ Some e → Reads names end from f to s s
 stays {names} {end} {from} {to} {f} {s} e q = record { front = front_same s.shares.texts s.shares.texts refl; on = stays_on names end from to f s.left.now s.shares s.refused e q }
 
 -- what is read, or refused, where nothing was refused
-pub went : {names : NameTable} {end : ℕ} {from to : List Item} {f : Naming → List Mark} {s t : Reading} → s.refused ≡ None → t.refused ≡ None → IsFront s.shares.texts t.shares.texts → Run names end from f to s.left.now t.left.now s.shares t.shares → Reads names end from f to s t
-went {names} {end} {from} {to} {f} {s} {t} e g k r = record { front = k; on = subst (λ (x : Option CertError). ReadsOn names end from f to s.left.now t.left.now s.shares t.shares x t.refused) (sym e) (subst (ReadsOn names end from f to s.left.now t.left.now s.shares t.shares None) (sym g) r) }
+pub went : {names : NameTable} {end : ℕ} {from to : List Item} {f : Naming → List Mark} {s t : Reading} → s.refused ≡ None → t.refused ≡ None
+    → IsFront s.shares.texts t.shares.texts → Run names end from f to s.left.now t.left.now s.shares t.shares → Reads names end from f to s t
+went {names} {end} {from} {to} {f} {s} {t} e g k r =
+    record {
+      front = k;
+      on = subst (λ (x : Option CertError). ReadsOn names end from f to s.left.now t.left.now s.shares t.shares x t.refused) (sym e)
+          (subst (ReadsOn names end from f to s.left.now t.left.now s.shares t.shares None) (sym g) r);
+    }
 
-pub stopped : {names : NameTable} {end : ℕ} {from to : List Item} {f : Naming → List Mark} {s t : Reading} (e : CertError) → s.refused ≡ None → t.refused ≡ Some e → IsFront s.shares.texts t.shares.texts → IsStopped names end from s.left.now s.shares (told e) → Reads names end from f to s t
-stopped {names} {end} {from} {to} {f} {s} {t} e g h k r = record { front = k; on = subst (λ (x : Option CertError). ReadsOn names end from f to s.left.now t.left.now s.shares t.shares x t.refused) (sym g) (subst (ReadsOn names end from f to s.left.now t.left.now s.shares t.shares None) (sym h) r) }
+pub stopped : {names : NameTable} {end : ℕ} {from to : List Item} {f : Naming → List Mark} {s t : Reading} (e : CertError) → s.refused ≡ None → t.refused ≡ Some e
+    → IsFront s.shares.texts t.shares.texts → IsStopped names end from s.left.now s.shares (told e) → Reads names end from f to s t
+stopped {names} {end} {from} {to} {f} {s} {t} e g h k r =
+    record {
+      front = k;
+      on = subst (λ (x : Option CertError). ReadsOn names end from f to s.left.now t.left.now s.shares t.shares x t.refused) (sym g)
+          (subst (ReadsOn names end from f to s.left.now t.left.now s.shares t.shares None) (sym h) r);
+    }
 
-as_on : (names : NameTable) (end : ℕ) (from to other : List Item) (f g : Naming → List Mark) (b r : List ℕ) (x y : Shared) (s t : Option CertError) → ((t ≡ None) → (to ≡ other) × ((u : Naming) → f u ≡ g u)) → ReadsOn names end from f to b r x y s t → ReadsOn names end from g other b r x y s t
+as_on : (names : NameTable) (end : ℕ) (from to other : List Item) (f g : Naming → List Mark) (b r : List ℕ) (x y : Shared) (s t : Option CertError)
+    → ((t ≡ None) → (to ≡ other) × ((u : Naming) → f u ≡ g u)) → ReadsOn names end from f to b r x y s t → ReadsOn names end from g other b r x y s t
 as_on names end from to other f g b r x y None None e h =
     let same = e refl in
     record {
-      walks = λ le items. subst (λ (o : List Item). Walks names (g (name_of names)) (left_at end (from ++ items) b) (left_at end (o ++ items) r)) same.0 (subst (λ (ms : List Mark). Walks names ms (left_at end (from ++ items) b) (left_at end (to ++ items) r)) (same.1 (name_of names)) (h.walks le items));
+      walks = λ le items. subst (λ (o : List Item). Walks names (g (name_of names)) (left_at end (from ++ items) b) (left_at end (o ++ items) r)) same.0
+          (subst (λ (ms : List Mark). Walks names ms (left_at end (from ++ items) b) (left_at end (to ++ items) r)) (same.1 (name_of names)) (h.walks le items));
       found = subst (AreFound names) (same.1 tagged) h.found;
       shares = λ le. subst (λ (ms : List Mark). Keeps x ms y) (same.1 (name_of names)) (h.shares le);
     }
@@ -189,14 +231,17 @@ as_on names end from to other f g b r x y None (Some d) e h = h
 as_on names end from to other f g b r x y (Some c) (Some d) e h = h
 
 -- other marks and items, where they are the same if nothing is refused
-pub as_reads : {names : NameTable} {end : ℕ} {from to other : List Item} {f g : Naming → List Mark} {s t : Reading} → ((t.refused ≡ None) → (to ≡ other) × ((u : Naming) → f u ≡ g u)) → Reads names end from f to s t → Reads names end from g other s t
+pub as_reads : {names : NameTable} {end : ℕ} {from to other : List Item} {f g : Naming → List Mark} {s t : Reading}
+    → ((t.refused ≡ None) → (to ≡ other) × ((u : Naming) → f u ≡ g u)) → Reads names end from f to s t → Reads names end from g other s t
 as_reads {names} {end} {from} {to} {other} {f} {g} {s} {t} e x = record { front = x.front; on = as_on names end from to other f g s.left.now t.left.now s.shares t.shares s.refused t.refused e x.on }
 
 -- other marks
-pub as_marks : {names : NameTable} {end : ℕ} {from to : List Item} {f g : Naming → List Mark} {s t : Reading} → ((t.refused ≡ None) → (u : Naming) → f u ≡ g u) → Reads names end from f to s t → Reads names end from g to s t
+pub as_marks : {names : NameTable} {end : ℕ} {from to : List Item} {f g : Naming → List Mark} {s t : Reading} → ((t.refused ≡ None) → (u : Naming) → f u ≡ g u)
+    → Reads names end from f to s t → Reads names end from g to s t
 as_marks e x = as_reads (λ none. (refl, e none)) x
 
-none_before : (names : NameTable) (end : ℕ) (from to : List Item) (f : Naming → List Mark) (b r : List ℕ) (x y : Shared) (s t : Option CertError) → t ≡ None → ReadsOn names end from f to b r x y s t → s ≡ None
+none_before : (names : NameTable) (end : ℕ) (from to : List Item) (f : Naming → List Mark) (b r : List ℕ) (x y : Shared) (s t : Option CertError) → t ≡ None
+    → ReadsOn names end from f to b r x y s t → s ≡ None
 none_before names end from to f b r x y None t e h = refl
 none_before names end from to f b r x y (Some d) None e h = absurd h
 none_before names end from to f b r x y (Some d) (Some c) e h = absurd cc
@@ -206,14 +251,17 @@ pub open_before : {names : NameTable} {end : ℕ} {from to : List Item} {f : Nam
 open_before {names} {end} {from} {to} {f} {s} {t} x e = none_before names end from to f s.left.now t.left.now s.shares t.shares s.refused t.refused e x.on
 
 -- no marks behind others
-pub then_nothing : {names : NameTable} {end : ℕ} {from mid to : List Item} {f : Naming → List Mark} {s t u : Reading} → Reads names end from f mid s t → Reads names end mid (λ v. []) to t u → Reads names end from f to s u
+pub then_nothing : {names : NameTable} {end : ℕ} {from mid to : List Item} {f : Naming → List Mark} {s t u : Reading} → Reads names end from f mid s t
+    → Reads names end mid (λ v. []) to t u → Reads names end from f to s u
 then_nothing {f = f} x y = as_marks (λ none v. append-nil (f v)) (then_reads x y)
 
 -- what is read where nothing is refused
-run_on : (names : NameTable) (end : ℕ) (from to : List Item) (f : Naming → List Mark) (b r : List ℕ) (x y : Shared) (s t : Option CertError) → t ≡ None → ReadsOn names end from f to b r x y s t → Run names end from f to b r x y
+run_on : (names : NameTable) (end : ℕ) (from to : List Item) (f : Naming → List Mark) (b r : List ℕ) (x y : Shared) (s t : Option CertError) → t ≡ None
+    → ReadsOn names end from f to b r x y s t → Run names end from f to b r x y
 run_on names end from to f b r x y None None e h = h
 run_on names end from to f b r x y (Some d) None e h = absurd h
 run_on names end from to f b r x y s (Some d) e h = absurd cc
 
-pub read_run : {names : NameTable} {end : ℕ} {from to : List Item} {f : Naming → List Mark} {s t : Reading} → t.refused ≡ None → Reads names end from f to s t → Run names end from f to s.left.now t.left.now s.shares t.shares
+pub read_run : {names : NameTable} {end : ℕ} {from to : List Item} {f : Naming → List Mark} {s t : Reading} → t.refused ≡ None → Reads names end from f to s t
+    → Run names end from f to s.left.now t.left.now s.shares t.shares
 read_run {names} {end} {from} {to} {f} {s} {t} e x = run_on names end from to f s.left.now t.left.now s.shares t.shares s.refused t.refused e x.on

@@ -29,7 +29,8 @@ step_passes : (names : NameTable) (l k : Left) (m : Mark) → StepsOver names l 
 step_passes names l k m s =
     passed_anywhere names l.at 0 (demands_of m)
     (ap (λ (n : Mark). verdict names l.at (demands_of n)) s.mark
-    ∙ judged_none _ (behind_lead l s.lead s.others) k (sym (ap (λ (x : Option Lead). step_lead names l x s.item s.others) s.first) ∙ sym (ap (λ (x : List Item). step_items names l x) s.items) ∙ s.goes))
+    ∙ judged_none _ (behind_lead l s.lead s.others) k (sym (ap (λ (x : Option Lead). step_lead names l x s.item s.others) s.first)
+    ∙ sym (ap (λ (x : List Item). step_items names l x) s.items) ∙ s.goes))
 
 pub walks_pass : (names : NameTable) (ms : List Mark) (l k : Left) → Walks names ms l k → Pass names ms
 walks_pass names [] l k w = tt
@@ -39,7 +40,8 @@ walks_pass names (m ∷ ms) l k w = (step_passes names l w.0 m w.1, walks_pass n
 pub start_at : (names : NameTable) (bytes : List ℕ) → At names bytes (left_at (length bytes) (opening ∷ []) bytes) nothing_shared
 start_at names bytes =
     let none : 0 ≡ length bytes - length bytes = omega arith in
-    subst (λ (n : ℕ). At names bytes (record { at = n; items = opening ∷ []; bytes = bytes }) nothing_shared) none (record { reached = record { front = []; moves = (refl, refl); place = refl; passed = tt }; passed = tt; is = refl })
+    subst (λ (n : ℕ). At names bytes (record { at = n; items = opening ∷ []; bytes = bytes }) nothing_shared) none
+    (record { reached = record { front = []; moves = (refl, refl); place = refl; passed = tt }; passed = tt; is = refl })
 
 -- along marks that pass
 pub walks_at : (names : NameTable) (bytes : List ℕ) (ms : List Mark) (l k : Left) (z : Shared) → At names bytes l z → Walks names ms l k → PassShares z ms → At names bytes k (behind_marks ms z)

@@ -1,5 +1,6 @@
 -- Shared automata and their texts, each once.
-use Rattle.std.proofs.Common.{◌≡◌, ◌<◌, ◌+◌, ℕ, suc, Bool, true, false, not, cond, List, [], ◌∷◌, ◌++◌, length, min, get_or, drop, map, decimal, codes, Some, None, refl, sym, ap, ◌∙◌, arith, nat_lt, add-one, drop-cons, length-append}
+use Rattle.std.proofs.Common.{◌≡◌, ◌<◌, ◌+◌, ℕ, suc, Bool, true, false, not, cond, List, [], ◌∷◌, ◌++◌, length, min, get_or, drop, map, decimal, codes, Some, None, refl, sym, ap}
+use Rattle.std.proofs.Common.{◌∙◌, arith, nat_lt, add-one, drop-cons, length-append}
 use Rattle.std.proofs.lemmas.Bool.{ltb-false}
 use Rattle.std.specs.Prelude.{if◌then◌else◌, position}
 use Rattle.std.specs.Global.{Vec}
@@ -42,7 +43,8 @@ counted_all text count refused h f = (h f).1 (omega arith) ∙ ap (λ (n : ℕ).
 
 -- the text of the next automaton
 pub texts_next : {A : Type 0} (all : List A → List (List ℕ)) (text : A → List ℕ) → ((x : A) (xs : List A) → all (x ∷ xs) ≡ text x ∷ all xs)
-    → (now after : List (List ℕ)) (xs : List A) (i : ℕ) (x : A) → i < length xs → x ≡ get_or xs i x → after ≡ with_text now (text x) → with_texts after (all (drop (i + 1) xs)) ≡ with_texts now (all (drop i xs))
+    → (now after : List (List ℕ)) (xs : List A) (i : ℕ) (x : A) → i < length xs → x ≡ get_or xs i x → after ≡ with_text now (text x) → with_texts after (all (drop (i + 1) xs))
+    ≡ with_texts now (all (drop i xs))
 texts_next {A} all text unfolds now after xs i x lt is e =
     let y = get_or xs i x in
     let shown : all (drop i xs) ≡ text x ∷ all (drop (i + 1) xs) = rw add-one (ap all (drop-cons xs i x lt) ∙ unfolds y (drop (suc i) xs) ∙ ap (λ (z : A). text z ∷ all (drop (suc i) xs)) (sym is)) in
@@ -89,7 +91,8 @@ not_there t ks e = place_is t ks ∙ by (nat_lt (position_or_len (is_text t) ks)
 -- ---- the text of the second version
 
 pub whole_text : (names : NameTable) (c : Certificate) (ts : List (List ℕ)) → ts ≡ texts_of names (shared_by names c)
-    → certificate_text second_version names c ≡ (codes "concon 2\nshared " ++ (decimal (length ts) ++ (codes "\n" ++ joined ts))) ++ (body_text names (by_number (λ a. place_among (automaton_text names a) ts)) c ++ codes "end\n")
+    → certificate_text second_version names c ≡ (codes "concon 2\nshared " ++ (decimal (length ts) ++ (codes "\n" ++ joined ts)))
+    ++ (body_text names (by_number (λ a. place_among (automaton_text names a) ts)) c ++ codes "end\n")
 whole_text names c ts e =
     ap (λ (n : ℕ). (codes "concon 2\nshared " ++ (decimal n ++ (codes "\n" ++ automata_text names shared))) ++ body) (sym (length-map shared (automaton_text names)))
     ∙ ap (λ (t : List ℕ). (codes "concon 2\nshared " ++ (decimal (length (texts_of names shared)) ++ (codes "\n" ++ t))) ++ body) (joined_texts names shared)

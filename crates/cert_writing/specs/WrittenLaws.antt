@@ -16,12 +16,22 @@ joined s t u a b e f = f ∙ ap (λ (w : List ℕ). w ++ b) e ∙ append_assoc s
 pub written_parts : (s : List ℕ) (sr : Bool) (t : List ℕ) (tr : Bool) (u : List ℕ) (ur : Bool) (a b : List ℕ) → IsWritten s sr a t tr → IsWritten t tr b u ur → IsWritten s sr (a ++ b) u ur
 written_parts s sr t false u ur a b x y = record {
   whole = λ h. ((x.whole refl).0, joined s t u a b (x.whole refl).1 (y.whole h).1);
-  front = record { front = a ++ y.front.front; rest = y.front.rest; parts = ap (λ (w : List ℕ). a ++ w) y.front.parts ∙ sym (append_assoc a y.front.front y.front.rest); grown = joined s t u a y.front.front (x.whole refl).1 y.front.grown };
+  front = record {
+    front = a ++ y.front.front;
+    rest = y.front.rest;
+    parts = ap (λ (w : List ℕ). a ++ w) y.front.parts ∙ sym (append_assoc a y.front.front y.front.rest);
+    grown = joined s t u a y.front.front (x.whole refl).1 y.front.grown;
+  };
   ended = λ h. absurd (false≢true (x.ended h).0);
 }
 written_parts s sr t true u ur a b x y = record {
   whole = λ h. absurd (false≢true (sym (y.whole h).0));
-  front = record { front = x.front.front; rest = x.front.rest ++ b; parts = ap (λ (w : List ℕ). w ++ b) x.front.parts ∙ append_assoc x.front.front x.front.rest b; grown = (y.ended refl).1 ∙ x.front.grown };
+  front = record {
+    front = x.front.front;
+    rest = x.front.rest ++ b;
+    parts = ap (λ (w : List ℕ). w ++ b) x.front.parts ∙ append_assoc x.front.front x.front.rest b;
+    grown = (y.ended refl).1 ∙ x.front.grown;
+  };
   ended = λ h. ((y.ended refl).0, (y.ended refl).1 ∙ (x.ended h).1);
 }
 

@@ -33,7 +33,9 @@ use Rattle.run_parts.proofs.LongTexts.{long_text}
 use Rattle.concon_run.specs.QueryRefusals.{QueryRefusal, long_query, no_query_text, IsQueryRefused, query_refusal_of}
 use Rattle.concon_run.specs.Run.{Run}
 use Rattle.concon_run.specs.Said.{Said, IsSaidIfMemory, Tells, TellsIfMemory, IsUnlessHindered}
-use Rattle.concon_run.specs.Query.{IsQuery, SpellsQuery, IsRefusedQuery, QueryOutcome, bad_file, bad_query, answer_found, over_budget, exhausted, Spells, HoldsNoAnswer, QueryComesTo, QueryMustComeTo, said_of_answer, said_of_question, QueryReply, queried, file_unread, query_unread, said_of_query, IsQueryReply, QueryCalmlyComesTo}
+use Rattle.concon_run.specs.Query.{IsQuery, SpellsQuery, IsRefusedQuery, QueryOutcome, bad_file, bad_query, answer_found, over_budget, exhausted, Spells, HoldsNoAnswer}
+use Rattle.concon_run.specs.Query.{QueryComesTo, QueryMustComeTo, said_of_answer, said_of_question, QueryReply, queried, file_unread, query_unread, said_of_query, IsQueryReply}
+use Rattle.concon_run.specs.Query.{QueryCalmlyComesTo}
 use Rattle.concon_run.specs.Querying.{EndsWith, BytesReply, QueryReplies, ending_outcome, query_reply}
 use Rattle.concon_run.specs.Files.{SystemAnswers, no_system_said}
 use Rattle.concon_run.specs.Refusals.{refused_said}
@@ -280,6 +282,7 @@ query_exactly systems k run file query budget outcome calm file_unread h told = 
 query_exactly systems k run file query budget outcome calm query_unread h told = absurd (calm.3 h.cause.0)
 
 -- the status of an answer
-pub answered_status : (names : NameTable) (vs : List (List ℕ)) (a : QueryAnswer) (s : Status) → IsUnlessHindered (said_of_answer names vs a).status s → IsUnlessHindered status.Yes s ⊎ IsUnlessHindered status.No s
+pub answered_status : (names : NameTable) (vs : List (List ℕ)) (a : QueryAnswer) (s : Status) → IsUnlessHindered (said_of_answer names vs a).status s
+    → IsUnlessHindered status.Yes s ⊎ IsUnlessHindered status.No s
 answered_status names vs (never_met e) s h = inl h
 answered_status names vs (met_by ts ds) s h = inr h

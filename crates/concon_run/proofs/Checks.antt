@@ -31,7 +31,8 @@ use Rattle.run_parts.proofs.LongTexts.{long_text}
 use Rattle.concon_run.specs.CertRefusals.{CertRefusal, long_certificate, no_certificate_text, cert_refusal_of}
 use Rattle.concon_run.specs.Run.{Run}
 use Rattle.concon_run.specs.Said.{Said, IsSaidIfMemory, Tells, TellsIfMemory}
-use Rattle.concon_run.specs.Check.{IsCheck, names_behind, names_judged, IsRefusedCertificate, CheckOutcome, no_system, no_certificate, IsTrueOf, CheckAnswer, checked, file_unread, cert_unread, said_of_check, said_of_outcome, IsCheckAnswer, CalmlyComesTo}
+use Rattle.concon_run.specs.Check.{IsCheck, names_behind, names_judged, IsRefusedCertificate, CheckOutcome, no_system, no_certificate, IsTrueOf, CheckAnswer, checked, file_unread}
+use Rattle.concon_run.specs.Check.{cert_unread, said_of_check, said_of_outcome, IsCheckAnswer, CalmlyComesTo}
 use Rattle.concon_run.specs.Checking.{CertificateAnswers, IsShownBy, check_answer}
 use Rattle.concon_run.specs.Files.{SystemAnswers, no_system_said}
 use Rattle.concon_run.specs.Refusals.{refused_said}
@@ -57,7 +58,8 @@ same_cert words file cert other others e f = cc
 no_certificate_beyond : (told : Option (List ℕ)) (names : NameTable) → IfSome told (λ bytes. most_cert_bytes < length bytes) → IsRefusedCertificate (told_or_any told) names long_certificate
 no_certificate_beyond told names l = long_text told most_cert_bytes l
 
-pub cert_not_read : {A : Type 0} (told : Option (List ℕ)) (failed : Type 0) (sys : System) (names : NameTable) (e : ReadAllError) → (IsErrOf {T = A} (Err e) reading.ReadFault → failed) → (IsTooLong e → IfSome told (λ bytes. most_cert_bytes < length bytes))
+pub cert_not_read : {A : Type 0} (told : Option (List ℕ)) (failed : Type 0) (sys : System) (names : NameTable) (e : ReadAllError)
+    → (IsErrOf {T = A} (Err e) reading.ReadFault → failed) → (IsTooLong e → IfSome told (λ bytes. most_cert_bytes < length bytes))
     → CertificateAnswers (told_or_any told) failed sys names (Err (no_verdict.CertUnread e))
 cert_not_read told failed sys names reading.ReadFault fault long = fault refl
 cert_not_read told failed sys names (reading.TooLong n) fault long = no_certificate_beyond told names (long tt)
@@ -92,12 +94,19 @@ module _ (cert : Bytes) (failed : Type 0) (sys : System) (names : NameTable) (by
   cert_refused (cert_causes.TooMany what at) h = (bytes, f, (short, h.1))
   cert_refused cert_causes.NoMemory h = tt
 
-  pub cert_rejected : (reason : reasons.Rejected) → BytesAnswers sys names bytes (Err (bytes_error.Rejected reason)) → CertificateAnswers cert failed sys names (Err (no_verdict.Rejected (Some names) reason))
+  pub cert_rejected : (reason : reasons.Rejected) → BytesAnswers sys names bytes (Err (bytes_error.Rejected reason))
+      → CertificateAnswers cert failed sys names (Err (no_verdict.Rejected (Some names) reason))
   cert_rejected reason h = (h.0, (bytes, f, short, h.1), h.2, named names h.0 (rejected_view reason) h.3)
 
-  pub body_rejected : (reason : reasons.Rejected) → BytesAnswers sys names bytes (Err (bytes_error.RejectedBehindSteps reason)) → CertificateAnswers cert failed sys names (Err (no_verdict.Rejected None reason))
-  body_rejected reason (steps, body, last, text, good, h) =
-      (simplified_certificate steps body, (bytes, f, short, text), inr (last, good, h), unnamed names (rejected_view reason) (of_body last body (rejected_view reason) (body_is_bare text.0 body text.1.spelt.0) h))
+  pub body_rejected : (reason : reasons.Rejected) → BytesAnswers sys names bytes (Err (bytes_error.RejectedBehindSteps reason))
+      → CertificateAnswers cert failed sys names (Err (no_verdict.Rejected None reason))
+  body_rejected reason (steps, body, last, text, good, h) = (
+    simplified_certificate steps body,
+    (bytes, f, short, text),
+    inr (last, good, h),
+    unnamed names (rejected_view reason)
+        (of_body last body (rejected_view reason) (body_is_bare text.0 body text.1.spelt.0) h),
+  )
 
   module _ (from : IsFromFile sys) where
     shown_by : (v : Verdict) → OnYes {E = BytesError} (Ok v) (IsConfluent sys) → OnYes {E = BytesError} (Ok v) (IsFromFile sys → IsFileConfluent sys)

@@ -16,7 +16,8 @@ use Rattle.concon_run.specs.Said.{Said, no_memory_said}
 use Rattle.concon_run.specs.Check.{IsCheck, no_system, no_certificate, rejected, shown, CheckAnswer, checked, file_unread, cert_unread, said_of_check, IsCheckAnswer, CheckComesTo, IsOfCheck}
 use Rattle.concon_run.specs.Prove.{IsProve, bad_file, found, over_budget, exhausted, ProveAnswer, searched, said_of_prove, IsProveAnswer, ProveComesTo, TookProof, ProofStandsBelow, IsOfProve}
 use Rattle.concon_run.specs.Prove as search
-use Rattle.concon_run.specs.Query.{IsQuery, bad_query, answer_found, said_of_answer, QueryReply, queried, query_unread, said_of_query, IsQueryReply, RunQueryComesTo, TookAnswer, AnswerStandsBelow, IsOfQuery}
+use Rattle.concon_run.specs.Query.{IsQuery, bad_query, answer_found, said_of_answer, QueryReply, queried, query_unread, said_of_query, IsQueryReply, RunQueryComesTo, TookAnswer}
+use Rattle.concon_run.specs.Query.{AnswerStandsBelow, IsOfQuery}
 use Rattle.concon_run.specs.Query as asking
 use Rattle.concon_run.specs.Selftest.{IsSelftest}
 use Rattle.query_space.specs.Items.{QueryAnswer, never_met, met_by}
@@ -75,7 +76,8 @@ prove_meant run file budget form (searched over_budget) h = inr (inl (file, budg
 prove_meant run file budget form (searched exhausted) h = inl (inl (file, budget, form, h.cause), refl)
 prove_meant run file budget form search.file_unread h = (file, h.cause, refl)
 
-query_meant : (run : Run) (file text : List ℕ) (budget : ℕ) → IsQuery run.words file text budget → (r : QueryReply) → IsQueryReply run.shelf file text budget r → IsMeant run (said_of_query file text r)
+query_meant : (run : Run) (file text : List ℕ) (budget : ℕ) → IsQuery run.words file text budget → (r : QueryReply) → IsQueryReply run.shelf file text budget r
+    → IsMeant run (said_of_query file text r)
 query_meant run file text budget form (queried (asking.bad_file refusal)) h = (refusal, file, inr (text, budget, form), h.cause)
 query_meant run file text budget form (queried (bad_query refusal)) h = (refusal, (file, text, budget, form, h.cause))
 query_meant run file text budget form (queried (answer_found names vs (never_met e))) h = inr (names, vs, never_met e, (file, text, budget, form, h.cause), refl, refl)

@@ -26,7 +26,8 @@ use Rattle.concon_run.proofs.Searches.{ArePriced, whole_priced, pruned_priced, p
 use Rattle.concon_run.proofs.Asking.{KnownQueries, query_exactly, answered_status}
 use Rattle.concon_run.proofs.OneCommand.{asked_for, told_to_it, nothing_asked}
 use Rattle.concon_run.proofs.Sound.{yes_is_sound, no_is_sound}
-use Rattle.concon_run.proofs.Meant.{usage_means, usage_exactly, file_refused_means, cert_refused_means, query_refused_means, rejected_means, yes_means, no_means, proved, undecided_means, read_fault_means, write_fault_means, no_memory_means, of_check, of_prove, of_query, query_proved}
+use Rattle.concon_run.proofs.Meant.{usage_means, usage_exactly, file_refused_means, cert_refused_means, query_refused_means, rejected_means, yes_means, no_means, proved}
+use Rattle.concon_run.proofs.Meant.{undecided_means, read_fault_means, write_fault_means, no_memory_means, of_check, of_prove, of_query, query_proved}
 
 pub known_systems : OneSystem → OneRefusal → NeverSystemAndRefusal → KnownSystems
 known_systems one once never = record { one = one; once = once; never = never }

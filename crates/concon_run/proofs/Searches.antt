@@ -26,7 +26,8 @@ use Rattle.concon_run.specs.Run.{Run}
 use Rattle.concon_run.specs.Said.{Said, IsSaidIfMemory, Tells, TellsIfMemory}
 use Rattle.concon_run.specs.Verdicts.{IsShown}
 use Rattle.concon_run.specs.Files.{SystemAnswers, no_system_said}
-use Rattle.concon_run.specs.Prove.{IsProve, SearchOutcome, bad_file, found, over_budget, exhausted, HoldsNone, SearchComesTo, Spaces, SearchMustComeTo, said_of_search, ProveAnswer, searched, file_unread, said_of_prove, IsProveAnswer, CalmlyMustComeTo}
+use Rattle.concon_run.specs.Prove.{IsProve, SearchOutcome, bad_file, found, over_budget, exhausted, HoldsNone, SearchComesTo, Spaces, SearchMustComeTo, said_of_search, ProveAnswer}
+use Rattle.concon_run.specs.Prove.{searched, file_unread, said_of_prove, IsProveAnswer, CalmlyMustComeTo}
 use Rattle.concon_run.specs.Proving.{SearchAnswers, outcome_of, prove_answer}
 use Rattle.concon_run.specs.Replies.{said_if_any}
 use Rattle.concon_run.specs.declared.files.NoSystem.{NoSystem}

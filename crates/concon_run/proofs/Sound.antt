@@ -59,7 +59,8 @@ module _ (run : Run) (rest : List ℕ) where
   prove_by_n file budget form (searched exhausted) h e = absurd (begins 77 78 _ rest e (λ q. omega (arith, q)))
   prove_by_n file budget form search.file_unread h e = absurd cc
 
-  query_by_n : (file text : List ℕ) (budget : ℕ) → IsQuery run.words file text budget → (r : QueryReply) → IsQueryReply run.shelf file text budget r → (said_of_query file text r).out ≡ 78 ∷ rest → NamesMet run
+  query_by_n : (file text : List ℕ) (budget : ℕ) → IsQuery run.words file text budget → (r : QueryReply) → IsQueryReply run.shelf file text budget r
+      → (said_of_query file text r).out ≡ 78 ∷ rest → NamesMet run
   query_by_n file text budget form (queried (asking.bad_file refusal)) h e = absurd cc
   query_by_n file text budget form (queried (bad_query refusal)) h e = absurd cc
   query_by_n file text budget form (queried (answer_found names vs (never_met evidence))) h e = absurd (begins 89 78 _ rest e (λ q. omega (arith, q)))
@@ -86,7 +87,8 @@ module _ (run : Run) (rest : List ℕ) where
   check_by_y file cert form file_unread h e = absurd cc
   check_by_y file cert form cert_unread h e = absurd cc
 
-  prove_by_y : (file : List ℕ) (budget : ℕ) → IsProve run.words file budget → (a : ProveAnswer) → IsProveAnswer run.shelf file budget a → (said_of_prove file a).out ≡ 89 ∷ rest → NamesConfluentSystem run
+  prove_by_y : (file : List ℕ) (budget : ℕ) → IsProve run.words file budget → (a : ProveAnswer) → IsProveAnswer run.shelf file budget a
+      → (said_of_prove file a).out ≡ 89 ∷ rest → NamesConfluentSystem run
   prove_by_y file budget form (searched (bad_file refusal)) h e = absurd cc
   prove_by_y file budget form (searched (found names (ortho_certificate pairs))) h e = (file, inr (budget, form), (h.right.0, names, h.right.1, h.right.2))
   prove_by_y file budget form (searched (found names (quasi_certificate measure pairs))) h e = (file, inr (budget, form), (h.right.0, names, h.right.1, h.right.2))
@@ -100,7 +102,8 @@ module _ (run : Run) (rest : List ℕ) where
   prove_by_y file budget form (searched exhausted) h e = absurd (begins 77 89 _ rest e (λ q. omega (arith, q)))
   prove_by_y file budget form search.file_unread h e = absurd cc
 
-  query_by_y : (file text : List ℕ) (budget : ℕ) → IsQuery run.words file text budget → (r : QueryReply) → IsQueryReply run.shelf file text budget r → (said_of_query file text r).out ≡ 89 ∷ rest → NamesNeverMet run
+  query_by_y : (file text : List ℕ) (budget : ℕ) → IsQuery run.words file text budget → (r : QueryReply) → IsQueryReply run.shelf file text budget r
+      → (said_of_query file text r).out ≡ 89 ∷ rest → NamesNeverMet run
   query_by_y file text budget form (queried (asking.bad_file refusal)) h e = absurd cc
   query_by_y file text budget form (queried (bad_query refusal)) h e = absurd cc
   query_by_y file text budget form (queried (answer_found names vs (never_met evidence))) h e =
@@ -111,7 +114,8 @@ module _ (run : Run) (rest : List ℕ) where
   query_by_y file text budget form asking.file_unread h e = absurd cc
   query_by_y file text budget form query_unread h e = absurd cc
 
-  answer_by_y : (command : Command) → IsCommand run.words command → (a : AnswerTo command) → IsAnswerTo run.shelf command a → (said_to command a).out ≡ 89 ∷ rest → NamesConfluentSystem run ⊎ NamesNeverMet run
+  answer_by_y : (command : Command) → IsCommand run.words command → (a : AnswerTo command) → IsAnswerTo run.shelf command a → (said_to command a).out ≡ 89 ∷ rest
+      → NamesConfluentSystem run ⊎ NamesNeverMet run
   answer_by_y (check file cert) form a h e = inl (check_by_y file cert form a h e)
   answer_by_y (prove file budget) form a h e = inl (prove_by_y file budget form a h e)
   answer_by_y (selftest n) form a h e = absurd (begins 115 89 _ rest e (λ q. omega (arith, q)))

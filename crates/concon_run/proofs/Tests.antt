@@ -75,7 +75,8 @@ never_refused never bytes sys names file (unread.TooDeep at) other h = never byt
 never_refused never bytes sys names file (unread.TooMany what limit at) other h = never bytes sys names (no_meaning (cause_of_count what)) at file h.0
 never_refused never bytes sys names file unread.NoMemory other h = other refl
 
-pub never_refused_cert : NeverBoth → (names : NameTable) (bytes : List ℕ) (c : math.Certificate) → IsCertificateText names bytes c → (e : CertError) → (e ≡ bad.NoMemory → ⊥) → IsRefusedAs names bytes e → ⊥
+pub never_refused_cert : NeverBoth → (names : NameTable) (bytes : List ℕ) (c : math.Certificate) → IsCertificateText names bytes c → (e : CertError) → (e ≡ bad.NoMemory → ⊥)
+    → IsRefusedAs names bytes e → ⊥
 never_refused_cert never names bytes c text (bad.CertSyntax at) other h = never names bytes c _ at text h
 never_refused_cert never names bytes c text (bad.UnknownName at) other h = never names bytes c _ at text h
 never_refused_cert never names bytes c text (bad.WrongArity at) other h = never names bytes c _ at text h
@@ -124,7 +125,8 @@ pub certificate_judged : (n : ℕ) (sys : System) (c : math.Certificate) → c �
 certificate_judged n sys c e = subst (CanBeJudged sys) (sym e) (entries_short 0 n)
 
 -- what is counted
-pub passed : (n : ℕ) (sys : System) (rules : List Rule) (found cert : math.Certificate) (t : Tested) → sys ≡ generated n → map rule_view rules ≡ sys.rules → cert ≡ found → found ≡ generated_certificate n
+pub passed : (n : ℕ) (sys : System) (rules : List Rule) (found cert : math.Certificate) (t : Tested) → sys ≡ generated n → map rule_view rules ≡ sys.rules → cert ≡ found
+    → found ≡ generated_certificate n
     → t.rules ≡ length rules → t.pairs ≡ pair_count cert → t.verdict ≡ verdict_of cert → t.steps ≡ 3 * n → IsPassed n t
 passed n sys rules found cert t e view same is counted entries shows spent =
     record {

@@ -22,7 +22,8 @@ use Rattle.concon_run.specs.declared.status.Status.TheVariants as status
 no_system_beyond : (told : Option (List ℕ)) → IfSome told (λ bytes. most_file_bytes < length bytes) → IsRefusedFile (told_or_any told) long_file
 no_system_beyond told l = long_text told most_file_bytes l
 
-pub file_unread : {A : Type 0} (told : Option (List ℕ)) (failed : Type 0) (e : ReadAllError) → (IsErrOf {T = A} (Err e) reading.ReadFault → failed) → (IsTooLong e → IfSome told (λ bytes. most_file_bytes < length bytes))
+pub file_unread : {A : Type 0} (told : Option (List ℕ)) (failed : Type 0) (e : ReadAllError) → (IsErrOf {T = A} (Err e) reading.ReadFault → failed)
+    → (IsTooLong e → IfSome told (λ bytes. most_file_bytes < length bytes))
     → SystemAnswers (told_or_any told) failed (Err (Unread e))
 file_unread told failed reading.ReadFault fault long = fault refl
 file_unread told failed (reading.TooLong n) fault long = no_system_beyond told (long tt)

@@ -19,7 +19,8 @@ use Rattle.query_text.specs.Query as text
 use Rattle.run_parts.specs.Bytes.{Bytes}
 use Rattle.concon_run.specs.Files.{no_system_answer}
 use Rattle.concon_run.specs.QueryRefusals.{long_query, query_refusal_of}
-use Rattle.concon_run.specs.Query.{QueryOutcome, bad_file, bad_query, answer_found, over_budget, exhausted, SpellsQuery, IsRefusedQuery, IsFirstAnswer, HoldsNoAnswer, QueryReply, queried, file_unread, query_unread}
+use Rattle.concon_run.specs.Query.{QueryOutcome, bad_file, bad_query, answer_found, over_budget, exhausted, SpellsQuery, IsRefusedQuery, IsFirstAnswer, HoldsNoAnswer, QueryReply}
+use Rattle.concon_run.specs.Query.{queried, file_unread, query_unread}
 use Rattle.concon_run.specs.declared.queries.NoReply.{NoReply}
 use Rattle.concon_run.specs.declared.queries.NoReply.TheVariants as why
 use Rattle.concon_run.specs.declared.queries.Queried.{Queried}

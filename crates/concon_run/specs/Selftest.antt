@@ -36,7 +36,8 @@ pair_count (simplified_certificate steps c) = 0
 abbrev pub tested_line : ℕ → Tested → List ℕ
 tested_line n t =
     codes "selftest "
-    ++ (decimal n ++ (codes " rules " ++ (decimal t.rules ++ (codes " pairs " ++ (decimal t.pairs ++ (codes " answer " ++ (verdict_word t.verdict ++ (codes " steps " ++ (decimal t.steps ++ codes "\n")))))))))
+    ++ (decimal n ++ (codes " rules " ++ (decimal t.rules
+    ++ (codes " pairs " ++ (decimal t.pairs ++ (codes " answer " ++ (verdict_word t.verdict ++ (codes " steps " ++ (decimal t.steps ++ codes "\n")))))))))
 
 -- what the test with this number has to count
 pub record IsPassed (n : ℕ) (t : Tested) : Type 0 where

@@ -41,7 +41,8 @@ long_there r rest from len k ts f h is kind e long =
       subst (λ (bs : List ℕ). longest < len_at Id bs) is (subst (λ (q : Kind). longest < len_at q rest) id far),
     )
 
-pub open_there : (bytes rest : List ℕ) (count at from : ℕ) (ts : List Token) → HasRead (reading bytes at count) ts → from ≡ behind_white bytes at → rest ≡ drop from bytes → true ≡ is_comment_at count rest
+pub open_there : (bytes rest : List ℕ) (count at from : ℕ) (ts : List Token) → HasRead (reading bytes at count) ts → from ≡ behind_white bytes at → rest ≡ drop from bytes
+    → true ≡ is_comment_at count rest
     → None ≡ comment_len rest → IsOpenComment bytes (length bytes)
 open_there bytes rest count at from ts h place is begins none = (
   count,
@@ -52,7 +53,8 @@ open_there bytes rest count at from ts h place is begins none = (
   refl,
 )
 
-no_next : (r : Reading) (cause : Option TokenCause) (behind at : ℕ) (ts : List Token) → HasRead r ts → HasRead (reading r.bytes behind r.count) ts → Last r.bytes cause r.count (behind_white r.bytes behind) at → HasNoNext r
+no_next : (r : Reading) (cause : Option TokenCause) (behind at : ℕ) (ts : List Token) → HasRead r ts → HasRead (reading r.bytes behind r.count) ts
+    → Last r.bytes cause r.count (behind_white r.bytes behind) at → HasNoNext r
 no_next r cause behind at ts h front last t new text on =
     let more = on ts h in
     no_more r.bytes cause at behind new.place front.pieces more.pieces t front.leads (subst (λ n. Last r.bytes cause n (behind_white r.bytes behind) at) front.counted last)
@@ -64,7 +66,8 @@ none_before_bad r from ts f h bad = no_next r (Some bad_byte) f.behind from ts h
 pub none_before_long : (r : Reading) (from : ℕ) (ts : List Token) → IsFront r from → HasRead r ts → IsLongId r.bytes from → HasNoNext r
 none_before_long r from ts f h long = no_next r (Some long_id) f.behind from ts h (f.reads ts h) (subst (λ n. Last r.bytes (Some long_id) r.count n from) f.begins (long.2, long.3, refl))
 
-pub none_before_open : (r : Reading) (rest : List ℕ) (at from : ℕ) (ts : List Token) → HasRead r ts → HasRead (reading r.bytes at r.count) ts → from ≡ behind_white r.bytes at → rest ≡ drop from r.bytes
+pub none_before_open : (r : Reading) (rest : List ℕ) (at from : ℕ) (ts : List Token) → HasRead r ts → HasRead (reading r.bytes at r.count) ts
+    → from ≡ behind_white r.bytes at → rest ≡ drop from r.bytes
     → true ≡ is_comment_at r.count rest → None ≡ comment_len rest → HasNoNext r
 none_before_open r rest at from ts h front place is begins none = no_next r (Some open_comment) at (length r.bytes) ts h front
     (subst (λ n. Last r.bytes (Some open_comment) r.count n (length r.bytes)) place (ap (is_comment_at r.count) (sym is) ∙ sym begins, ap comment_len (sym is) ∙ sym none, refl))

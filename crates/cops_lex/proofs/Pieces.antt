@@ -6,12 +6,14 @@ use Rattle.file_text.specs.Bytes.{white_len, comment_len}
 use Rattle.file_text.specs.Tokens.{kind_at, len_at, longest, open_after, is_comment_at, behind_white, Stands, StandsComment, Piece, token, comment, tokens_of, StandInTurn, opened}
 use Rattle.cops_lex.specs.Reading.{Reading, reading, HasRead, IsFront}
 
-leads_token : (bytes : List ℕ) (at count : ℕ) (ps : List Piece) (m : ℕ) (t : Token) → StandInTurn bytes at count ps m → Stands bytes m (opened count ps) t → StandInTurn bytes at count (ps ++ token t ∷ []) t.to
+leads_token : (bytes : List ℕ) (at count : ℕ) (ps : List Piece) (m : ℕ) (t : Token) → StandInTurn bytes at count ps m → Stands bytes m (opened count ps) t
+    → StandInTurn bytes at count (ps ++ token t ∷ []) t.to
 leads_token bytes at count [] m t l s = (subst (λ n. Stands bytes n count t) (sym l) s, refl)
 leads_token bytes at count (token u ∷ ps) m t l s = (l.0, leads_token bytes u.to (open_after count u.kind) ps m t l.1 s)
 leads_token bytes at count (comment to ∷ ps) m t l s = (l.0, leads_token bytes to count ps m t l.1 s)
 
-leads_comment : (bytes : List ℕ) (at count : ℕ) (ps : List Piece) (m to : ℕ) → StandInTurn bytes at count ps m → StandsComment bytes m (opened count ps) to → StandInTurn bytes at count (ps ++ comment to ∷ []) to
+leads_comment : (bytes : List ℕ) (at count : ℕ) (ps : List Piece) (m to : ℕ) → StandInTurn bytes at count ps m → StandsComment bytes m (opened count ps) to
+    → StandInTurn bytes at count (ps ++ comment to ∷ []) to
 leads_comment bytes at count [] m to l s = (subst (λ n. StandsComment bytes n count to) (sym l) s, refl)
 leads_comment bytes at count (token u ∷ ps) m to l s = (l.0, leads_comment bytes u.to (open_after count u.kind) ps m to l.1 s)
 leads_comment bytes at count (comment k ∷ ps) m to l s = (l.0, leads_comment bytes k count ps m to l.1 s)
@@ -36,7 +38,8 @@ opened_comment count [] to = refl
 opened_comment count (token u ∷ ps) to = opened_comment (open_after count u.kind) ps to
 opened_comment count (comment k ∷ ps) to = opened_comment count ps to
 
-read_token : (bytes : List ℕ) (ts : List Token) (count at : ℕ) (t : Token) → HasRead (reading bytes at count) ts → Stands bytes at count t → HasRead (reading bytes t.to (open_after count t.kind)) (ts ++ t ∷ [])
+read_token : (bytes : List ℕ) (ts : List Token) (count at : ℕ) (t : Token) → HasRead (reading bytes at count) ts → Stands bytes at count t
+    → HasRead (reading bytes t.to (open_after count t.kind)) (ts ++ t ∷ [])
 read_token bytes ts count at t h s = record {
   pieces = h.pieces ++ token t ∷ [];
   leads = leads_token bytes 0 0 h.pieces at t h.leads (subst (λ n. Stands bytes at n t) h.counted s);

@@ -70,7 +70,8 @@ comment_start bytes = go (closing_len 0 bytes)
 abbrev choice : Bool → ℕ → List ℕ → Option ℕ
 choice b count bs = cond b (Some 1) (option_map (λ k. suc k) (closing_len count bs))
 
-closing_here : (bytes : List ℕ) (n count : ℕ) → n < length bytes → closing_len count (drop n bytes) ≡ choice (eqb (count_after count (get_or bytes n 0)) 0) (count_after count (get_or bytes n 0)) (drop (n + 1) bytes)
+closing_here : (bytes : List ℕ) (n count : ℕ) → n < length bytes
+    → closing_len count (drop n bytes) ≡ choice (eqb (count_after count (get_or bytes n 0)) 0) (count_after count (get_or bytes n 0)) (drop (n + 1) bytes)
 unfolding closing_len
 closing_here bytes n count lt = ap (closing_len count) (drop_more bytes n 0 lt)
 

@@ -1,5 +1,6 @@
 -- Whether a name is used, by a symbol or by a variable; sets of names that grow.
-use Rattle.std.proofs.Common.{◌≡◌, ℕ, suc, Bool, true, false, ◌||◌, List, [], ◌∷◌, ◌++◌, map, Option, None, Some, option_map, is_some, refl, sym, ap, ◌∙◌, if◌then◌else◌, zero, ◌+◌, ◌<◌, length, drop, get_or, add-one, arith}
+use Rattle.std.proofs.Common.{◌≡◌, ℕ, suc, Bool, true, false, ◌||◌, List, [], ◌∷◌, ◌++◌, map, Option, None, Some, option_map, is_some, refl, sym, ap, ◌∙◌, if◌then◌else◌, zero, ◌+◌}
+use Rattle.std.proofs.Common.{◌<◌, length, drop, get_or, add-one, arith}
 use Rattle.std.specs.Str.{bytes_eq}
 use Rattle.std.proofs.lemmas.Slice.Eq.{bytes_eq-Decides}
 use Rattle.std.proofs.Math.Bool.{or_assoc}

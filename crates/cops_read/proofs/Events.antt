@@ -1,5 +1,6 @@
 -- The first refusal among the events of a file is the one that is found part by part.
-use Rattle.std.proofs.Common.{◌≡◌, ℕ, suc, ◌+◌, ◌≤◌, Bool, true, false, List, [], ◌∷◌, ◌++◌, length, Option, Some, None, refl, sym, ap, ap₂, subst, ◌∙◌, arith, append_assoc, append-nil, length-append, eq-eqb, ne_eqb}
+use Rattle.std.proofs.Common.{◌≡◌, ℕ, suc, ◌+◌, ◌≤◌, Bool, true, false, List, [], ◌∷◌, ◌++◌, length, Option, Some, None, refl, sym, ap, ap₂, subst, ◌∙◌, arith, append_assoc}
+use Rattle.std.proofs.Common.{append-nil, length-append, eq-eqb, ne_eqb}
 use Rattle.std.specs.Prelude.{◌==◌, ◌&&◌, if◌then◌else◌, option_map}
 use Rattle.std.specs.Option.{option_or}
 use Rattle.file_text.specs.Syntax.{Phrase, Phrases, word, call, none, more, count, ConditionTree, Guard, RuleTree, conditions_of, FileTree, has_type}
@@ -97,7 +98,8 @@ module _ (block : Names) where
       others = λ r names h. rw h refl;
     }
 
-    clear : (table : Table) (names : Names) (u : Use) (l : Option MeaningCause) (b : Bool) → u.spot.node.brackets ≡ true → option_or l (if b then variable_cause names u else symbol_cause table u) ≡ None → b ≡ false
+    clear : (table : Table) (names : Names) (u : Use) (l : Option MeaningCause) (b : Bool) → u.spot.node.brackets ≡ true
+        → option_or l (if b then variable_cause names u else symbol_cause table u) ≡ None → b ≡ false
     clear table names u (Some c) b e h = cc
     clear table names u None true e h = let h' = rw e at h in cc
     clear table names u None false e h = refl
@@ -146,7 +148,8 @@ module _ (block : Names) where
           (λ table names. first_or (cause_at block table names u) f.at None) (λ table names. terms_refusal block table names side (suc depth) 1 (suc before) ts)
           (λ table. with_symbol table f.text (count ts)) (λ table. with_all_symbols block table ts) (λ names. names) (λ names. with_all_variables block names ts)
           (part_head u refl) (part_terms side (suc depth) 1 (suc before) ts) in
-          part_as side.rule _ _ (λ table names. option_or (first_or (cause_at block table names u) f.at None) (terms_refusal block (with_symbol table f.text (count ts)) names side (suc depth) 1 (suc before) ts))
+          part_as side.rule _ _ (λ table names. option_or (first_or (cause_at block table names u) f.at None)
+          (terms_refusal block (with_symbol table f.text (count ts)) names side (suc depth) 1 (suc before) ts))
           (λ table names. term_refusal block table names side depth argument before (call f ts)) (λ table. with_symbols block table (call f ts)) (λ names. with_variables block names (call f ts)) refl
           (λ table names.
           sym (first_or_or (cause_at block table names u) f.at None (terms_refusal block (with_symbol table f.text (count ts)) names side (suc depth) 1 (suc before) ts))
@@ -170,11 +173,13 @@ module _ (block : Names) where
           part_as side.rule (first ++ later) (uses_from side (suc before) (spots_of_all depth argument (more t ts)))
           (λ table names. option_or (term_refusal block table names side depth argument before t)
           (terms_refusal block (with_symbols block table t) (with_variables block names t) side depth (suc argument) (before + nodes t) ts))
-          (λ table names. terms_refusal block table names side depth argument before (more t ts)) (λ table. with_all_symbols block table (more t ts)) (λ names. with_all_variables block names (more t ts)) split
+          (λ table names. terms_refusal block table names side depth argument before (more t ts)) (λ table. with_all_symbols block table (more t ts))
+          (λ names. with_all_variables block names (more t ts)) split
           (λ table names. ap (λ (a : ℕ). option_or (term_refusal block table names side depth argument before t)
           (terms_refusal block (with_symbols block table t) (with_variables block names t) side depth a (before + nodes t) ts)) (let e : suc argument ≡ argument + 1 = omega arith in e)) whole
 
-    part_side : (side : Side) (p : Phrase) → IsPart side.rule (term_events side p) (λ table names. side_refusal block table names side p) (λ table. with_symbols block table p) (λ names. with_variables block names p)
+    part_side : (side : Side) (p : Phrase) → IsPart side.rule (term_events side p) (λ table names. side_refusal block table names side p) (λ table. with_symbols block table p)
+        (λ names. with_variables block names p)
     part_side side p = part_term side 1 0 0 p
 
     part_conditions : (rule number : ℕ) (cs : List ConditionTree) → IsPart rule (condition_events rule number cs)
@@ -184,7 +189,8 @@ module _ (block : Names) where
         let side = side_of rule number false in
         let right = part_then rule (term_events side c.right) (condition_events rule (suc number) cs)
         (λ table names. side_refusal block table names side c.right) (λ table names. conditions_refusal block table names rule (suc number) cs)
-        (λ table. with_symbols block table c.right) (λ table. with_all_symbols block table (sides cs)) (λ names. with_variables block names c.right) (λ names. with_all_variables block names (sides cs))
+        (λ table. with_symbols block table c.right) (λ table. with_all_symbols block table (sides cs)) (λ names. with_variables block names c.right)
+        (λ names. with_all_variables block names (sides cs))
         (part_side side c.right) (part_conditions rule (suc number) cs) in
         let whole = part_then rule (term_events side c.left) (term_events side c.right ++ condition_events rule (suc number) cs)
         (λ table names. side_refusal block table names side c.left)
@@ -194,7 +200,8 @@ module _ (block : Names) where
         part_as rule _ (condition_events rule number (c ∷ cs))
         (λ table names. option_or (side_refusal block table names side c.left) (option_or (side_refusal block (with_symbols block table c.left) (with_variables block names c.left) side c.right)
         (conditions_refusal block (with_symbols block (with_symbols block table c.left) c.right) (with_variables block (with_variables block names c.left) c.right) rule (suc number) cs)))
-        (λ table names. conditions_refusal block table names rule number (c ∷ cs)) (λ table. with_all_symbols block table (sides (c ∷ cs))) (λ names. with_all_variables block names (sides (c ∷ cs))) refl
+        (λ table names. conditions_refusal block table names rule number (c ∷ cs)) (λ table. with_all_symbols block table (sides (c ∷ cs)))
+        (λ names. with_all_variables block names (sides (c ∷ cs))) refl
         (λ table names. sym (or_assoc (side_refusal block table names side c.left) (side_refusal block (with_symbols block table c.left) (with_variables block names c.left) side c.right) _)
         ∙ ap (λ (k : ℕ). option_or (condition_refusal block table names rule number c)
         (conditions_refusal block (with_symbols block (with_symbols block table c.left) c.right) (with_variables block (with_variables block names c.left) c.right) rule k cs))
@@ -242,7 +249,8 @@ module _ (block : Names) where
         let here : first_refusal block typed front (rule_events number r) ≡ rule_refusal block typed table number r = rw none_yet at (p.refusal front) in
         let later : List Event = front ++ rule_events number r in
         let still : (k : ℕ) → suc number ≤ k → variables_used block k [] later ≡ [] = λ k l.
-        variables_after k [] front (rule_events number r) ∙ ap (λ (x : Names). variables_used block k x (rule_events number r)) (new k (omega arith)) ∙ p.others k [] (ne_eqb number k (λ e. omega arith)) in
+        variables_after k [] front (rule_events number r) ∙ ap (λ (x : Names). variables_used block k x (rule_events number r)) (new k (omega arith))
+        ∙ p.others k [] (ne_eqb number k (λ e. omega arith)) in
         refusal_after front (rule_events number r) (rules_events (suc number) rs)
         ∙ or_same (first_refusal block typed front (rule_events number r)) (rule_refusal block typed table number r) (first_refusal block typed later (rules_events (suc number) rs))
         (rules_refusal block typed (with_all_symbols block table (phrases_of_rule r)) (number + 1) rs) here

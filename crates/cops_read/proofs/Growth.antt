@@ -6,7 +6,8 @@ use Rattle.file_text.specs.Syntax.{Phrase, Phrases, word, call, none, more, coun
 use Rattle.rewriting.specs.Prelude.{Term, var, app, Terms, nil, cons, Condition, Rule}
 use Rattle.cops_names.specs.NameTable.{number_of}
 use Rattle.cops_names.specs.NameLists.{is_among, with_name}
-use Rattle.cops_read.specs.Meaning.{with_symbol, phrases_of_rule, with_variables, with_all_variables, with_symbols, with_all_symbols, with_rule_symbols, IsVariableOf, IsSymbolOf, IsTermOf, AreTermsOf, AreConditionsOf, IsRuleOf, AreRulesOf}
+use Rattle.cops_read.specs.Meaning.{with_symbol, phrases_of_rule, with_variables, with_all_variables, with_symbols, with_all_symbols, with_rule_symbols, IsVariableOf, IsSymbolOf}
+use Rattle.cops_read.specs.Meaning.{IsTermOf, AreTermsOf, AreConditionsOf, IsRuleOf, AreRulesOf}
 use Rattle.cops_names.proofs.Lists.{Extends, extends_refl, extends_trans, extends_one, extends_position, extends_get}
 
 extends_or : {A : Type 0} (b : Bool) (xs ys : List A) → Extends xs ys → Extends xs (if b then xs else ys)

@@ -10,7 +10,8 @@ use Rattle.file_text.specs.Syntax.{Phrase, Phrases, word, call, none, more, coun
 use Rattle.rewriting.specs.Prelude.{Term, var, app, Terms, nil, cons, Condition, Rule, System, system_of}
 use Rattle.cops_names.specs.NameTable.{NameTable, number_of}
 use Rattle.cops_names.specs.NameLists.{is_among, with_name}
-use Rattle.cops_read.specs.Meaning.{with_symbol, sides, phrases_of_rule, variables_of, with_variables, with_all_variables, with_symbols, with_all_symbols, with_rule_symbols, rule_variables, IsSymbolOf, IsTermOf, AreTermsOf, AreConditionsOf, IsRuleOf, AreRulesOf}
+use Rattle.cops_read.specs.Meaning.{with_symbol, sides, phrases_of_rule, variables_of, with_variables, with_all_variables, with_symbols, with_all_symbols, with_rule_symbols}
+use Rattle.cops_read.specs.Meaning.{rule_variables, IsSymbolOf, IsTermOf, AreTermsOf, AreConditionsOf, IsRuleOf, AreRulesOf}
 use Rattle.cops_read.specs.Uses.{Side, side_of, Use}
 use Rattle.cops_read.specs.Refusals.{known_symbol_cause, arity_in, symbol_cause, refusal_of}
 use Rattle.cops_read.specs.Steps.{nodes, term_refusal, terms_refusal}
@@ -30,7 +31,8 @@ record IsThere (table : List (List ℕ × ℕ)) (name : List ℕ) (n : ℕ) : Ty
   pub number : number_of table name ≡ Some symbol
   pub arity : option_map (λ s. s.1) (slice_get table symbol) ≡ Some n
 
-same_arity : (table : List (List ℕ × ℕ)) (u : Use) (f : ℕ) (o : Option ℕ) → o ≡ option_map (λ s. s.1) (slice_get table f) → (o ≡ None → ⊥) → known_symbol_cause table u o ≡ None → o ≡ Some u.spot.node.arguments
+same_arity : (table : List (List ℕ × ℕ)) (u : Use) (f : ℕ) (o : Option ℕ) → o ≡ option_map (λ s. s.1) (slice_get table f) → (o ≡ None → ⊥) → known_symbol_cause table u o ≡ None
+    → o ≡ Some u.spot.node.arguments
 same_arity table u f None e some h = absurd (some refl)
 same_arity table u f (Some n) e some h = let same : n ≡ u.spot.node.arguments = grind (arith, nat_tests) in ap Some same
 
@@ -68,14 +70,19 @@ module _ (block : List (List ℕ)) (symbols : List (List ℕ × ℕ)) where
   of_symbol table name n b e h = symbol_grows block table symbols name n h.symbol e (b, h.number, h.arity)
 
   mutual
-    term_meant : (variables : List (List ℕ)) (table : List (List ℕ × ℕ)) (names : List (List ℕ)) (side : Side) (depth argument before : ℕ) (p : Phrase) → term_refusal block table names side depth argument before p ≡ None
+    term_meant : (variables : List (List ℕ)) (table : List (List ℕ × ℕ)) (names : List (List ℕ)) (side : Side) (depth argument before : ℕ) (p : Phrase)
+        → term_refusal block table names side depth argument before p ≡ None
         → Extends (with_symbols block table p) symbols → Extends (with_variables block names p) variables → IsMeant variables p
     term_meant variables table names side depth argument before (word f) h e g = by (is_among block f.text) refl e g
       where
-        by : (b : Bool) → is_among block f.text ≡ b → Extends (if b then table else with_symbol table f.text 0) symbols → Extends (if b then with_name names f.text else names) variables → IsMeant variables (word f)
+        by : (b : Bool) → is_among block f.text ≡ b → Extends (if b then table else with_symbol table f.text 0) symbols
+            → Extends (if b then with_name names f.text else names) variables → IsMeant variables (word f)
         by true b e g =
             let place = place_with names (with_name names f.text) f.text refl in
-            record { term = var (position_or_len (bytes_eq f.text) names); is = (b, extends_position (bytes_eq f.text) (with_name names f.text) variables (position_or_len (bytes_eq f.text) names) g place) }
+            record {
+              term = var (position_or_len (bytes_eq f.text) names);
+              is = (b, extends_position (bytes_eq f.text) (with_name names f.text) variables (position_or_len (bytes_eq f.text) names) g place);
+            }
         by false b e g =
             let u = head_use block side depth argument before (word f) in
             let s = symbol_there table u (as_symbol block table names u (no_cause _ _ _ h) b) in
@@ -89,7 +96,8 @@ module _ (block : List (List ℕ)) (symbols : List (List ℕ × ℕ)) where
         let m = terms_meant variables (with_symbol table f.text (count ts)) names side (depth + 1) 1 (before + 1) ts (no_later _ f.at _ h) e g in
         record { term = app s.symbol m.terms; is = (of_symbol (with_symbol table f.text (count ts)) f.text (count ts) b grown s, m.are) }
 
-    terms_meant : (variables : List (List ℕ)) (table : List (List ℕ × ℕ)) (names : List (List ℕ)) (side : Side) (depth argument before : ℕ) (ps : Phrases) → terms_refusal block table names side depth argument before ps ≡ None
+    terms_meant : (variables : List (List ℕ)) (table : List (List ℕ × ℕ)) (names : List (List ℕ)) (side : Side) (depth argument before : ℕ) (ps : Phrases)
+        → terms_refusal block table names side depth argument before ps ≡ None
         → Extends (with_all_symbols block table ps) symbols → Extends (with_all_variables block names ps) variables → AreMeant variables ps
     terms_meant variables table names side depth argument before none h e g = record { terms = nil; are = tt }
     terms_meant variables table names side depth argument before (more p ps) h e g =
@@ -103,7 +111,8 @@ module _ (block : List (List ℕ)) (symbols : List (List ℕ × ℕ)) where
     pub conditions : List Condition
     pub are : AreConditionsOf block symbols names cs conditions
 
-  conditions_meant : (variables : List (List ℕ)) (table : List (List ℕ × ℕ)) (names : List (List ℕ)) (rule number : ℕ) (cs : List ConditionTree) → conditions_refusal block table names rule number cs ≡ None
+  conditions_meant : (variables : List (List ℕ)) (table : List (List ℕ × ℕ)) (names : List (List ℕ)) (rule number : ℕ) (cs : List ConditionTree)
+      → conditions_refusal block table names rule number cs ≡ None
       → Extends (with_all_symbols block table (sides cs)) symbols → Extends (with_all_variables block names (sides cs)) variables → ConditionsMeant variables cs
   conditions_meant variables table names rule number [] h e g = record { conditions = []; are = tt }
   conditions_meant variables table names rule number (c ∷ cs) h e g =
@@ -116,7 +125,8 @@ module _ (block : List (List ℕ)) (symbols : List (List ℕ × ℕ)) where
       let left = term_meant variables table names side 1 0 0 c.left (none_first (side_refusal block table names side c.left) _ here)
       (extends_trans _ _ _ (symbols_extend block middle c.right) later) (extends_trans _ _ _ (variables_extend block between c.right) later_names) in
       let right = term_meant variables middle between side 1 0 0 c.right (none_then (side_refusal block table names side c.left) _ here) later later_names in
-      let rest = conditions_meant variables (with_symbols block middle c.right) (with_variables block between c.right) rule (number + 1) cs (none_then (condition_refusal block table names rule number c) _ h) e g in
+      let rest = conditions_meant variables (with_symbols block middle c.right) (with_variables block between c.right) rule (number + 1) cs
+      (none_then (condition_refusal block table names rule number c) _ h) e g in
       record { conditions = record { left = left.term; right = right.term } ∷ rest.conditions; are = (left.is, right.is, rest.are) }
 
   record RuleMeant (t : RuleTree) : Type 0 where

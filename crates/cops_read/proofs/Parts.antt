@@ -73,7 +73,8 @@ module _ (block : List (List ℕ)) (typed : Bool) (table : List (List ℕ × ℕ
   abbrev next_refusal : Option (MeaningCause × ℕ)
   next_refusal = option_or (side_refusal block first_symbols first_names at_right t.right) late_refusal
 
-  module _ (names : List (List ℕ)) (middle : List (List ℕ × ℕ)) (between : List (List ℕ)) (l : math.Term) (none_yet : names ≡ []) (first : IsSideRead block table names at_left t.left middle between l) where
+  module _ (names : List (List ℕ)) (middle : List (List ℕ × ℕ)) (between : List (List ℕ)) (l : math.Term) (none_yet : names ≡ [])
+      (first : IsSideRead block table names at_left t.left middle between l) where
     first_read : IsSideRead block table [] at_left t.left middle between l
     first_read = subst (λ (v : List (List ℕ)). IsSideRead block table v at_left t.left middle between l) none_yet first
 

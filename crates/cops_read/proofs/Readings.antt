@@ -14,7 +14,8 @@ use Rattle.cops_read.specs.Answers.{IsRefusedFor, ReadAnswers}
 use Rattle.cops_read.specs.Steps.{Tells, read_error_of}
 use Rattle.cops_read.specs.RuleSteps.{FileAnswers}
 use Rattle.cops_read.specs.declared.errors.ReadError.{ReadError}
-use Rattle.cops_read.specs.declared.errors.ReadError.TheVariants.{BadByte, IdTooLong, CommentNotClosed, Syntax, UnknownBlock, RepeatedBlock, ConditionTypeOther, MissingRules, ConditionsWithoutType, VariableWithArguments, ArityDiffers, LeftVariable, TooDeep, TooMany, NoMemory}
+use Rattle.cops_read.specs.declared.errors.ReadError.TheVariants.{BadByte, IdTooLong, CommentNotClosed, Syntax, UnknownBlock, RepeatedBlock, ConditionTypeOther, MissingRules}
+use Rattle.cops_read.specs.declared.errors.ReadError.TheVariants.{ConditionsWithoutType, VariableWithArguments, ArityDiffers, LeftVariable, TooDeep, TooMany, NoMemory}
 
 -- a text without a tree
 pub no_tree : (bytes : List ℕ) (e : TextError SyntaxRefusal) → IsCauseOf bytes e → IsRefusedFor bytes (read_error_of e)

@@ -9,7 +9,8 @@ use Rattle.cops_syntax.specs.declared.tree.RuleText.{RuleText}
 use Rattle.term_core.specs.RuleView.{rule_view, condition_view}
 use Rattle.term_core.specs.declared.systems.Cond.{Cond}
 use Rattle.term_core.specs.declared.systems.Rule.{Rule}
-use Rattle.cops_read.specs.Meaning.{sides, phrases_of_rule, with_symbols, with_all_symbols, with_variables, with_all_variables, with_rule_symbols, rule_variables, AreConditionsOf, IsRuleOf, AreRulesOf}
+use Rattle.cops_read.specs.Meaning.{sides, phrases_of_rule, with_symbols, with_all_symbols, with_variables, with_all_variables, with_rule_symbols, rule_variables, AreConditionsOf}
+use Rattle.cops_read.specs.Meaning.{IsRuleOf, AreRulesOf}
 use Rattle.cops_read.specs.Refusals.{MeaningCause}
 use Rattle.cops_read.specs.Steps.{Tells}
 use Rattle.cops_read.specs.RuleSteps.{condition_refusal, conditions_refusal, rule_refusal, rules_refusal, IsConditionRead, AreConditionsRead, IsRuleRead, AreNumbersOf, AreRulesRead}
@@ -62,7 +63,8 @@ rules_length (r ∷ rs) [] h = absurd h
 rules_length (r ∷ rs) (t ∷ ts) h = ap suc (rules_length rs ts h.1)
 
 module _ (block : List (List ℕ)) where
-  pub conditions_end : (table : List (List ℕ × ℕ)) (names : List (List ℕ)) (cs : List ConditionTree) (ds : List Cond) (c : ConditionTree) (d : Cond) → AreConditionsOf block table names cs (map condition_view ds)
+  pub conditions_end : (table : List (List ℕ × ℕ)) (names : List (List ℕ)) (cs : List ConditionTree) (ds : List Cond) (c : ConditionTree) (d : Cond)
+      → AreConditionsOf block table names cs (map condition_view ds)
       → AreConditionsOf block table names (c ∷ []) (condition_view d ∷ []) → AreConditionsOf block table names (cs ++ c ∷ []) (map condition_view (ds ++ d ∷ []))
   conditions_end table names [] [] c d h g = g
   conditions_end table names [] (e ∷ es) c d h g = absurd h
@@ -70,7 +72,8 @@ module _ (block : List (List ℕ)) where
   conditions_end table names (b ∷ bs) (e ∷ es) c d h g = (h.0, h.1, conditions_end table names bs es c d h.2 g)
 
   -- what a loop over conditions keeps
-  pub record Conditions (table : List (List ℕ × ℕ)) (names : List (List ℕ)) (rule : ℕ) (cs : List ConditionTree) (i : ℕ) (now : List (List ℕ × ℕ)) (later : List (List ℕ)) (ds : List Cond) : Type 0 where
+  pub record Conditions (table : List (List ℕ × ℕ)) (names : List (List ℕ)) (rule : ℕ) (cs : List ConditionTree) (i : ℕ) (now : List (List ℕ × ℕ)) (later : List (List ℕ))
+      (ds : List Cond) : Type 0 where
     pub refusal : conditions_refusal block now later rule (i + 1) (drop i cs) ≡ conditions_refusal block table names rule 1 cs
     pub symbols : with_all_symbols block now (sides (drop i cs)) ≡ with_all_symbols block table (sides cs)
     pub variables : with_all_variables block later (sides (drop i cs)) ≡ with_all_variables block names (sides cs)
@@ -78,7 +81,8 @@ module _ (block : List (List ℕ)) where
 
   module _ (table : List (List ℕ × ℕ)) (names : List (List ℕ)) (rule : ℕ) (cs : List ConditionTree) where
     module _ (i : ℕ) (now : List (List ℕ × ℕ)) (later : List (List ℕ)) (ds : List Cond) (h : Conditions table names rule cs i now later ds) where
-      pub conditions_fail : (P : ConditionTree → Type 0) (n : IsNext P cs i) (e : ReadError) → Tells e (condition_refusal block now later rule (i + 1) n.item) → Tells e (conditions_refusal block table names rule 1 cs)
+      pub conditions_fail : (P : ConditionTree → Type 0) (n : IsNext P cs i) (e : ReadError) → Tells e (condition_refusal block now later rule (i + 1) n.item)
+          → Tells e (conditions_refusal block table names rule 1 cs)
       conditions_fail P n e t =
           let whole = ap (conditions_refusal block now later rule (i + 1)) n.later in
           subst (Tells e) (sym whole ∙ h.refusal) (tells_here (condition_refusal block now later rule (i + 1) n.item) _ e t)
@@ -90,8 +94,10 @@ module _ (block : List (List ℕ)) where
           let c = n.item in
           let middle = with_symbols block now c.left in
           let between = with_variables block later c.left in
-          let grown : Extends now after = subst (λ (x : List (List ℕ × ℕ)). Extends now x) (sym r.symbols) (extends_trans _ _ _ (symbols_extend block now c.left) (symbols_extend block middle c.right)) in
-          let grown_names : Extends later latest = subst (λ (x : List (List ℕ)). Extends later x) (sym r.variables) (extends_trans _ _ _ (variables_extend block later c.left) (variables_extend block between c.right)) in
+          let grown : Extends now after = subst (λ (x : List (List ℕ × ℕ)). Extends now x) (sym r.symbols)
+          (extends_trans _ _ _ (symbols_extend block now c.left) (symbols_extend block middle c.right)) in
+          let grown_names : Extends later latest = subst (λ (x : List (List ℕ)). Extends later x) (sym r.variables)
+          (extends_trans _ _ _ (variables_extend block later c.left) (variables_extend block between c.right)) in
           let number : suc i + 1 ≡ (i + 1) + 1 = omega arith in
           let further : Option (MeaningCause × ℕ) = conditions_refusal block (with_symbols block middle c.right) (with_variables block between c.right) rule ((i + 1) + 1) left in
           let refusal : further ≡ conditions_refusal block table names rule 1 cs =
@@ -100,7 +106,8 @@ module _ (block : List (List ℕ)) where
             refusal = ap₂ (λ (x : List (List ℕ × ℕ)) (v : List (List ℕ)). conditions_refusal block x v rule (suc i + 1) left) r.symbols r.variables
                 ∙ ap (λ (k : ℕ). conditions_refusal block (with_symbols block middle c.right) (with_variables block between c.right) rule k left) number ∙ refusal;
             symbols = ap (λ (x : List (List ℕ × ℕ)). with_all_symbols block x (sides left)) r.symbols ∙ sym (ap (λ (x : List ConditionTree). with_all_symbols block now (sides x)) n.later) ∙ h.symbols;
-            variables = ap (λ (x : List (List ℕ)). with_all_variables block x (sides left)) r.variables ∙ sym (ap (λ (x : List ConditionTree). with_all_variables block later (sides x)) n.later) ∙ h.variables;
+            variables = ap (λ (x : List (List ℕ)). with_all_variables block x (sides left)) r.variables
+                ∙ sym (ap (λ (x : List ConditionTree). with_all_variables block later (sides x)) n.later) ∙ h.variables;
             mean = subst (λ (x : List ConditionTree). AreConditionsOf block after latest x (map condition_view (ds ++ d ∷ []))) (sym n.front)
                 (conditions_end after latest (take i cs) ds c d (conditions_grow block now later after latest (take i cs) (map condition_view ds) grown grown_names h.mean) (r.left, r.right, tt));
           }

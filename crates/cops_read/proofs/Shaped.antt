@@ -1,5 +1,6 @@
 -- Names and the shapes that are marked for them.
-use Rattle.std.proofs.Common.{◌≡◌, ℕ, ◌+◌, ◌<◌, ◌⊎◌, inl, inr, Bool, true, false, List, [], ◌∷◌, ◌++◌, length, map, take, get_or, set, refl, sym, ap, subst, ◌∙◌, Bor, get_or-set_same, get_or-set_other}
+use Rattle.std.proofs.Common.{◌≡◌, ℕ, ◌+◌, ◌<◌, ◌⊎◌, inl, inr, Bool, true, false, List, [], ◌∷◌, ◌++◌, length, map, take, get_or, set, refl, sym, ap, subst, ◌∙◌, Bor}
+use Rattle.std.proofs.Common.{get_or-set_same, get_or-set_other}
 use Rattle.std.proofs.lemmas.List.{take_more, map_push}
 use Rattle.std.proofs.lemmas.Bool.{cases_eq}
 use Rattle.std.proofs.lemmas.Slice.Eq.{bytes_eq-Decides}
@@ -35,7 +36,8 @@ shown_push shapes [] name h s = (s, tt)
 shown_push shapes (n ∷ ns) name h s = (h.0, shown_push shapes ns name h.1 s)
 
 -- the shape of one more name is marked
-pub shown_next : (shapes : List Bool) (i n : ℕ) (names : List (Bor (List ℕ))) (d : Bor (List ℕ)) (name : List ℕ) → n < length names → i < length shapes → name ≡ (get_or names n d).now → i ≡ shape_of name
+pub shown_next : (shapes : List Bool) (i n : ℕ) (names : List (Bor (List ℕ))) (d : Bor (List ℕ)) (name : List ℕ) → n < length names → i < length shapes
+    → name ≡ (get_or names n d).now → i ≡ shape_of name
     → AreShown shapes (map (λ k. k.now) (take n names)) → AreShown (set shapes i true) (map (λ k. k.now) (take (n + 1) names))
 shown_next shapes i n names d name less within is at h =
     let last : get_or (set shapes i true) (shape_of name) false ≡ true = ap (λ (k : ℕ). get_or (set shapes i true) k false) (sym at) ∙ get_or-set_same shapes i true false within in

@@ -4,7 +4,8 @@ use Rattle.std.specs.Option.{option_or}
 use Rattle.cops_read.specs.Refusals.{MeaningCause, first_or}
 use Rattle.cops_read.specs.Steps.{Tells}
 use Rattle.cops_read.specs.declared.errors.ReadError.{ReadError}
-use Rattle.cops_read.specs.declared.errors.ReadError.TheVariants.{BadByte, IdTooLong, CommentNotClosed, Syntax, UnknownBlock, RepeatedBlock, ConditionTypeOther, MissingRules, ConditionsWithoutType, VariableWithArguments, ArityDiffers, LeftVariable, TooDeep, TooMany, NoMemory}
+use Rattle.cops_read.specs.declared.errors.ReadError.TheVariants.{BadByte, IdTooLong, CommentNotClosed, Syntax, UnknownBlock, RepeatedBlock, ConditionTypeOther, MissingRules}
+use Rattle.cops_read.specs.declared.errors.ReadError.TheVariants.{ConditionsWithoutType, VariableWithArguments, ArityDiffers, LeftVariable, TooDeep, TooMany, NoMemory}
 use Rattle.cops_read.proofs.Firsts.{first_stays}
 
 -- what is told goes on where the refusal stays

@@ -93,7 +93,11 @@ module _ (block : List (List ℕ)) (table : List (List ℕ × ℕ)) (names : Lis
         accepted = ap (λ (c : Option MeaningCause). first_or c g.at None) (cause_of_symbol (use_at side depth argument before (head_of (word g))) l h.0 h.2.accepted);
         symbols = whole ∙ (rw b refl);
         variables = r.variables ∙ (rw b refl);
-        means = (symbol_grows block middle after g.text 0 f (subst (λ (x : List (List ℕ × ℕ)). Extends middle x) (sym r.symbols) (all_symbols_extend block middle none)) (h.0, h.2.number, h.2.arity), refl);
+        means = (
+          symbol_grows block middle after g.text 0 f (subst (λ (x : List (List ℕ × ℕ)). Extends middle x) (sym r.symbols) (all_symbols_extend block middle none))
+              (h.0, h.2.number, h.2.arity),
+          refl,
+        );
         end = let e = r.end in omega arith;
       }
   symbol_read (call g ts) middle after later f us next l h r =
@@ -103,7 +107,11 @@ module _ (block : List (List ℕ)) (table : List (List ℕ × ℕ)) (names : Lis
         accepted = ap (λ (c : Option MeaningCause). first_or c g.at (terms_refusal block (with_symbol table g.text (count ts)) names side (depth + 1) 1 (before + 1) ts)) cause ∙ refused;
         symbols = r.symbols ∙ ap (λ (x : List (List ℕ × ℕ)). with_all_symbols block x ts) h.2.added;
         variables = r.variables;
-        means = (symbol_grows block middle after g.text (count ts) f (subst (λ (x : List (List ℕ × ℕ)). Extends middle x) (sym r.symbols) (all_symbols_extend block middle ts)) (h.0, h.2.number, h.2.arity), r.mean);
+        means = (
+          symbol_grows block middle after g.text (count ts) f (subst (λ (x : List (List ℕ × ℕ)). Extends middle x) (sym r.symbols) (all_symbols_extend block middle ts))
+              (h.0, h.2.number, h.2.arity),
+          r.mean,
+        );
         end = let e = r.end in omega arith;
       }
 
@@ -115,7 +123,8 @@ module _ (block : List (List ℕ)) (table : List (List ℕ × ℕ)) (names : Lis
       let l' = subst (λ (m : Node). limit_cause (use_at side depth argument before m) ≡ None) same l in
       let h' = subst (λ (m : Node). IsHead block table names (use_at side depth argument before m) middle between (Symbol f)) same h in
       let h'' = subst (λ (x : List (List ℕ)). IsHead block table names (use_at side depth argument before (head_of p)) middle x (Symbol f)) h'.1 h' in
-      let r' = subst (λ (x : List (List ℕ)). AreRead block middle x (arguments_of p) (before + 1) (terms_refusal block middle x side (depth + 1) 1 (before + 1) (arguments_of p)) after later (views terms.items) next) h'.1 r in
+      let r' = subst (λ (x : List (List ℕ)). AreRead block middle x (arguments_of p) (before + 1) (terms_refusal block middle x side (depth + 1) 1 (before + 1) (arguments_of p))
+      after later (views terms.items) next) h'.1 r in
       subst (λ (t : math.Term). IsRead block table names p before (term_refusal block table names side depth argument before p) after later t next) (sym (view-Fun f terms))
       (symbol_read p middle after later f (views terms.items) next l' h'' r')
 
@@ -156,7 +165,8 @@ module _ (block : List (List ℕ)) where
           let grown : Extends now after = subst (λ (x : List (List ℕ × ℕ)). Extends now x) (sym r.symbols) (symbols_extend block now n.phrase) in
           let grown_names : Extends later latest = subst (λ (x : List (List ℕ)). Extends later x) (sym r.variables) (variables_extend block later n.phrase) in
           let place : suc i + 1 ≡ (i + 1) + 1 = omega arith in
-          let further : Option (MeaningCause × ℕ) = terms_refusal block (with_symbols block now n.phrase) (with_variables block later n.phrase) side depth ((i + 1) + 1) (before + nodes n.phrase) left in
+          let further : Option (MeaningCause × ℕ) = terms_refusal block (with_symbols block now n.phrase) (with_variables block later n.phrase) side depth ((i + 1) + 1)
+          (before + nodes n.phrase) left in
           let refusal : further ≡ terms_refusal block table names side depth 1 start ps =
           ap (λ (o : Option (MeaningCause × ℕ)). option_or o further) (sym r.accepted) ∙ sym (ap (terms_refusal block now later side depth (i + 1) before) n.later) ∙ h.refusal in
           let count_left = ap all_nodes n.later in

@@ -9,7 +9,8 @@ use Rattle.rewriting.specs.Prelude.{Term, var, app, Terms, nil, cons, size, size
 use Rattle.rewriting.specs.Rules as rules
 use Rattle.cops_names.specs.NameTable.{NameTable, number_of}
 use Rattle.cops_names.specs.NameLists.{is_among, with_name}
-use Rattle.cops_read.specs.Meaning.{with_symbol, sides, phrases_of_rule, variables_of, with_variables, with_all_variables, with_symbols, with_all_symbols, with_rule_symbols, rule_variables, IsTermOf, AreTermsOf, AreConditionsOf, IsRuleOf, AreRulesOf}
+use Rattle.cops_read.specs.Meaning.{with_symbol, sides, phrases_of_rule, variables_of, with_variables, with_all_variables, with_symbols, with_all_symbols, with_rule_symbols}
+use Rattle.cops_read.specs.Meaning.{rule_variables, IsTermOf, AreTermsOf, AreConditionsOf, IsRuleOf, AreRulesOf}
 use Rattle.cops_read.specs.Uses.{Side, side_of, Use}
 use Rattle.cops_read.specs.Refusals.{limit_cause, variable_cause, symbol_cause, known_symbol_cause, arity_in, cause_at}
 use Rattle.cops_read.specs.Steps.{nodes, all_nodes, use_at, term_refusal, terms_refusal}
@@ -27,7 +28,13 @@ pub record IsWithin (u : Use) : Type 0 where
   pub number : u.number ≤ 2000
 
 pub is_within : (u : Use) → limit_cause u ≡ None → IsWithin u
-is_within u h = record { rules = grind (arith, nat_tests); conditions = grind (arith, nat_tests); arguments = grind (arith, nat_tests); depth = grind (arith, nat_tests); number = grind (arith, nat_tests) }
+is_within u h = record {
+  rules = grind (arith, nat_tests);
+  conditions = grind (arith, nat_tests);
+  arguments = grind (arith, nat_tests);
+  depth = grind (arith, nat_tests);
+  number = grind (arith, nat_tests);
+}
 
 few_variables : (names : List (List ℕ)) (u : Use) → variable_cause names u ≡ None → is_among names u.spot.node.name.text ≡ false → length names < 100
 few_variables names u h b = grind (arith, nat_tests)
@@ -118,7 +125,8 @@ module _ (block : List (List ℕ)) where
   few_arguments table names side depth argument before (more t ts) h l =
       let w = head_within table names side depth argument before t (none_first _ _ h) in
       let here = w.arguments in
-      let rest = few_arguments (with_symbols block table t) (with_variables block names t) side depth (argument + 1) (before + nodes t) ts (none_then (term_refusal block table names side depth argument before t) _ h) (omega arith) in
+      let rest = few_arguments (with_symbols block table t) (with_variables block names t) side depth (argument + 1) (before + nodes t) ts
+      (none_then (term_refusal block table names side depth argument before t) _ h) (omega arith) in
       omega arith
 
   mutual
@@ -139,7 +147,8 @@ module _ (block : List (List ℕ)) where
         all_symbols_kept (with_symbol table f.text (count ts)) names side (depth + 1) 1 (before + 1) ts (no_later (cause_at block table names u) f.at _ h)
         (symbol_kept table u (as_symbol table names u cause (no_brackets table names u cause refl)) (omega arith) t)
 
-    all_symbols_kept : (table : List (List ℕ × ℕ)) (names : List (List ℕ)) (side : Side) (depth argument before : ℕ) (ps : Phrases) → terms_refusal block table names side depth argument before ps ≡ None
+    all_symbols_kept : (table : List (List ℕ × ℕ)) (names : List (List ℕ)) (side : Side) (depth argument before : ℕ) (ps : Phrases)
+        → terms_refusal block table names side depth argument before ps ≡ None
         → IsTable table → IsTable (with_all_symbols block table ps)
     all_symbols_kept table names side depth argument before none h t = t
     all_symbols_kept table names side depth argument before (more p ps) h t =
@@ -157,7 +166,8 @@ module _ (block : List (List ℕ)) where
     variables_kept table names side depth argument before (call f ts) h few =
         all_variables_kept (with_symbol table f.text (count ts)) names side (depth + 1) 1 (before + 1) ts (no_later _ f.at _ h) few
 
-    all_variables_kept : (table : List (List ℕ × ℕ)) (names : List (List ℕ)) (side : Side) (depth argument before : ℕ) (ps : Phrases) → terms_refusal block table names side depth argument before ps ≡ None
+    all_variables_kept : (table : List (List ℕ × ℕ)) (names : List (List ℕ)) (side : Side) (depth argument before : ℕ) (ps : Phrases)
+        → terms_refusal block table names side depth argument before ps ≡ None
         → length names ≤ 100 → length (with_all_variables block names ps) ≤ 100
     all_variables_kept table names side depth argument before none h few = few
     all_variables_kept table names side depth argument before (more p ps) h few =
@@ -180,7 +190,8 @@ module _ (block : List (List ℕ)) where
       all_nodes_is (more p ps) (cons t ts) h = let a = nodes_is p t h.0 in let b = all_nodes_is ps ts h.1 in omega arith
 
     mutual
-      term_small : (table : List (List ℕ × ℕ)) (names : List (List ℕ)) (side : Side) (level argument before : ℕ) (p : Phrase) (t : Term) → term_refusal block table names side level argument before p ≡ None
+      term_small : (table : List (List ℕ × ℕ)) (names : List (List ℕ)) (side : Side) (level argument before : ℕ) (p : Phrase) (t : Term)
+          → term_refusal block table names side level argument before p ≡ None
           → IsTermOf block symbols variables p t → (before + size t ≤ 2000) × (level + depth t ≤ 201)
       term_small table names side level argument before (word f) (var x) h m = let w = head_within table names side level argument before (word f) h in (omega arith, omega arith)
       term_small table names side level argument before (word f) (app k us) h m =
@@ -191,10 +202,12 @@ module _ (block : List (List ℕ)) where
       term_small table names side level argument before (call f ts) (var x) h m = absurd m
       term_small table names side level argument before (call f ts) (app k us) h m =
           let w = head_within table names side level argument before (call f ts) h in
-          let rest = terms_small (with_symbol table f.text (count ts)) names side (level + 1) 1 (before + 1) ts us (no_later (cause_at block table names (head_use side level argument before (call f ts))) f.at _ h) m.1 (omega arith) (omega arith) in
+          let rest = terms_small (with_symbol table f.text (count ts)) names side (level + 1) 1 (before + 1) ts us
+          (no_later (cause_at block table names (head_use side level argument before (call f ts))) f.at _ h) m.1 (omega arith) (omega arith) in
           (omega arith, omega arith)
 
-      terms_small : (table : List (List ℕ × ℕ)) (names : List (List ℕ)) (side : Side) (level argument before : ℕ) (ps : Phrases) (ts : Terms) → terms_refusal block table names side level argument before ps ≡ None
+      terms_small : (table : List (List ℕ × ℕ)) (names : List (List ℕ)) (side : Side) (level argument before : ℕ) (ps : Phrases) (ts : Terms)
+          → terms_refusal block table names side level argument before ps ≡ None
           → AreTermsOf block symbols variables ps ts → before ≤ 2000 → level ≤ 201 → (before + size_all ts ≤ 2000) × (level + depth_all ts ≤ 201)
       terms_small table names side level argument before none nil h m b l = (omega arith, omega arith)
       terms_small table names side level argument before none (cons t ts) h m b l = absurd m
@@ -202,19 +215,23 @@ module _ (block : List (List ℕ)) where
       terms_small table names side level argument before (more p ps) (cons t ts) h m b l =
           let first = term_small table names side level argument before p t (none_first _ _ h) m.0 in
           let same = nodes_is p t m.0 in
-          let rest = terms_small (with_symbols block table p) (with_variables block names p) side level (argument + 1) (before + nodes p) ps ts (none_then (term_refusal block table names side level argument before p) _ h) m.1 (omega arith) (omega arith) in
+          let rest = terms_small (with_symbols block table p) (with_variables block names p) side level (argument + 1) (before + nodes p) ps ts
+          (none_then (term_refusal block table names side level argument before p) _ h) m.1 (omega arith) (omega arith) in
           (omega arith, omega arith)
 
-    side_small : (table : List (List ℕ × ℕ)) (names : List (List ℕ)) (side : Side) (p : Phrase) (t : Term) → side_refusal block table names side p ≡ None → IsTermOf block symbols variables p t → IsSmall t
+    side_small : (table : List (List ℕ × ℕ)) (names : List (List ℕ)) (side : Side) (p : Phrase) (t : Term) → side_refusal block table names side p ≡ None
+        → IsTermOf block symbols variables p t → IsSmall t
     side_small table names side p t h m = let s = term_small table names side 1 0 0 p t h m in record { nodes = omega arith; levels = omega arith }
 
-    left_side : (table : List (List ℕ × ℕ)) (names : List (List ℕ)) (number : ℕ) (p : Phrase) (t : Term) → side_refusal block table names (side_of number 0 true) p ≡ None → IsTermOf block symbols variables p t → IsVariable t → ⊥
+    left_side : (table : List (List ℕ × ℕ)) (names : List (List ℕ)) (number : ℕ) (p : Phrase) (t : Term) → side_refusal block table names (side_of number 0 true) p ≡ None
+        → IsTermOf block symbols variables p t → IsVariable t → ⊥
     left_side table names number (word f) (var x) h m v =
         no_left names (head_use (side_of number 0 true) 1 0 0 (word f)) (as_variable table names (head_use (side_of number 0 true) 1 0 0 (word f)) (no_cause _ _ _ h) m.0) refl refl
     left_side table names number (call f ts) (var x) h m v = m
     left_side table names number p (app k us) h m v = v
 
-    conditions_small : (table : List (List ℕ × ℕ)) (names : List (List ℕ)) (rule number : ℕ) (cs : List ConditionTree) (ds : List Condition) → conditions_refusal block table names rule number cs ≡ None
+    conditions_small : (table : List (List ℕ × ℕ)) (names : List (List ℕ)) (rule number : ℕ) (cs : List ConditionTree) (ds : List Condition)
+        → conditions_refusal block table names rule number cs ≡ None
         → AreConditionsOf block symbols variables cs ds → Each IsSmall (rules.sides ds)
     conditions_small table names rule number [] [] h m = tt
     conditions_small table names rule number [] (d ∷ ds) h m = absurd m
@@ -224,7 +241,8 @@ module _ (block : List (List ℕ)) where
           side_small table names (side_of rule number false) c.left d.left (none_first _ _ here) m.0,
           (
             side_small (with_symbols block table c.left) (with_variables block names c.left) (side_of rule number false) c.right d.right (none_then _ _ here) m.1,
-            conditions_small (with_symbols block (with_symbols block table c.left) c.right) (with_variables block (with_variables block names c.left) c.right) rule (number + 1) cs ds (none_then _ _ h) m.2,
+            conditions_small (with_symbols block (with_symbols block table c.left) c.right) (with_variables block (with_variables block names c.left) c.right) rule
+                (number + 1) cs ds (none_then _ _ h) m.2,
           ),
         )
 
@@ -237,7 +255,8 @@ module _ (block : List (List ℕ)) where
         let here = none_first (condition_refusal block table names rule number c) _ h in
         let w = head_within table names (side_of rule number false) 1 0 0 c.left (none_first _ _ here) in
         let few = w.conditions in
-        let rest = few_conditions (with_symbols block (with_symbols block table c.left) c.right) (with_variables block (with_variables block names c.left) c.right) rule (number + 1) cs ds (none_then (condition_refusal block table names rule number c) _ h) m.2 (omega arith) in
+        let rest = few_conditions (with_symbols block (with_symbols block table c.left) c.right) (with_variables block (with_variables block names c.left) c.right) rule
+        (number + 1) cs ds (none_then (condition_refusal block table names rule number c) _ h) m.2 (omega arith) in
         omega arith
 
     no_conditions : (typed : Bool) (guard : Option Guard) (ds : List Condition) → bar_refusal typed (option_map (λ g. g.at) guard) ≡ None
@@ -265,7 +284,8 @@ module _ (block : List (List ℕ)) where
       let side = side_of rule number false in
       let left = variables_kept table names side 1 0 0 c.left (none_first _ _ here) t in
       let right = variables_kept (with_symbols block table c.left) (with_variables block names c.left) side 1 0 0 c.right (none_then _ _ here) left in
-      conditions_variables (with_symbols block (with_symbols block table c.left) c.right) (with_variables block (with_variables block names c.left) c.right) rule (number + 1) cs (none_then _ _ h) right
+      conditions_variables (with_symbols block (with_symbols block table c.left) c.right) (with_variables block (with_variables block names c.left) c.right) rule
+      (number + 1) cs (none_then _ _ h) right
 
   module _ (typed : Bool) (table : List (List ℕ × ℕ)) (number : ℕ) (t : RuleTree) (h : rule_refusal block typed table number t ≡ None) where
     pub left_accepted : side_refusal block table [] (side_of number 0 true) t.left ≡ None
@@ -276,9 +296,11 @@ module _ (block : List (List ℕ)) where
 
     late : option_or (bar_refusal typed (option_map (λ g. g.at) t.guard))
         (conditions_refusal block (with_symbols block (with_symbols block table t.left) t.right) (with_variables block (with_variables block [] t.left) t.right) number 1 (conditions_of t)) ≡ None
-    late = none_then (side_refusal block (with_symbols block table t.left) (with_variables block [] t.left) (side_of number 0 false) t.right) _ (none_then (side_refusal block table [] (side_of number 0 true) t.left) _ h)
+    late = none_then (side_refusal block (with_symbols block table t.left) (with_variables block [] t.left) (side_of number 0 false) t.right) _
+        (none_then (side_refusal block table [] (side_of number 0 true) t.left) _ h)
 
-    pub conditions_accepted : conditions_refusal block (with_symbols block (with_symbols block table t.left) t.right) (with_variables block (with_variables block [] t.left) t.right) number 1 (conditions_of t) ≡ None
+    pub conditions_accepted : conditions_refusal block (with_symbols block (with_symbols block table t.left) t.right)
+        (with_variables block (with_variables block [] t.left) t.right) number 1 (conditions_of t) ≡ None
     conditions_accepted = none_then (bar_refusal typed (option_map (λ (g : Guard). g.at) t.guard)) _ late
 
     rule_table : IsTable table → IsTable (with_all_symbols block table (phrases_of_rule t))
@@ -289,7 +311,8 @@ module _ (block : List (List ℕ)) where
 
     rule_few : length (rule_variables block t) ≤ 100
     rule_few =
-        conditions_variables (with_symbols block (with_symbols block table t.left) t.right) (with_variables block (with_variables block [] t.left) t.right) number 1 (conditions_of t) conditions_accepted
+        conditions_variables (with_symbols block (with_symbols block table t.left) t.right) (with_variables block (with_variables block [] t.left) t.right) number 1
+        (conditions_of t) conditions_accepted
         (variables_kept (with_symbols block table t.left) (with_variables block [] t.left) (side_of number 0 false) 1 0 0 t.right right_accepted
         (variables_kept table [] (side_of number 0 true) 1 0 0 t.left left_accepted (omega arith)))
 

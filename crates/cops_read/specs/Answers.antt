@@ -11,7 +11,8 @@ use Rattle.cops_read.specs.File.{IsFile, FileCause, no_tokens, no_tree, no_meani
 use Rattle.cops_read.specs.Refusals.{conditions_without_type, too_deep, variable_with_arguments, left_variable, arity_differs}
 pub use Rattle.cops_read.specs.Counts.{cause_of_count, most_of}
 use Rattle.cops_read.specs.declared.errors.ReadError.{ReadError}
-use Rattle.cops_read.specs.declared.errors.ReadError.TheVariants.{BadByte, IdTooLong, CommentNotClosed, Syntax, UnknownBlock, RepeatedBlock, ConditionTypeOther, MissingRules, ConditionsWithoutType, VariableWithArguments, ArityDiffers, LeftVariable, TooDeep, TooMany, NoMemory}
+use Rattle.cops_read.specs.declared.errors.ReadError.TheVariants.{BadByte, IdTooLong, CommentNotClosed, Syntax, UnknownBlock, RepeatedBlock, ConditionTypeOther, MissingRules}
+use Rattle.cops_read.specs.declared.errors.ReadError.TheVariants.{ConditionsWithoutType, VariableWithArguments, ArityDiffers, LeftVariable, TooDeep, TooMany, NoMemory}
 
 -- the error tells why the text spells no system, and where; memory may be refused at any text
 abbrev pub IsRefusedFor : List ℕ → ReadError → Type 0

@@ -10,7 +10,8 @@ use Rattle.term_core.specs.Prelude.{view, rule_view, condition_view}
 use Rattle.term_core.specs.declared.terms.Term.{Term}
 use Rattle.term_core.specs.declared.systems.Cond.{Cond}
 use Rattle.term_core.specs.declared.systems.Rule.{Rule}
-use Rattle.cops_read.specs.Meaning.{sides, phrases_of_rule, with_symbols, with_all_symbols, with_variables, with_all_variables, with_rule_symbols, rule_variables, IsTermOf, AreConditionsOf, IsRuleOf, AreRulesOf}
+use Rattle.cops_read.specs.Meaning.{sides, phrases_of_rule, with_symbols, with_all_symbols, with_variables, with_all_variables, with_rule_symbols, rule_variables, IsTermOf}
+use Rattle.cops_read.specs.Meaning.{AreConditionsOf, IsRuleOf, AreRulesOf}
 use Rattle.cops_read.specs.Uses.{Side, side_of}
 use Rattle.cops_names.specs.NameTable.{NameTable}
 use Rattle.cops_read.specs.File.{IsSystemOf, IsJoinedFile, IsMeant}
@@ -73,7 +74,8 @@ module _ (block : List (List ℕ)) where
   SideAnswers table names side p after later (Err e) = Tells e (side_refusal table names side p)
 
   -- the same of a condition
-  pub record IsConditionRead (table : List (List ℕ × ℕ)) (names : List (List ℕ)) (rule number : ℕ) (c : ConditionTree) (after : List (List ℕ × ℕ)) (later : List (List ℕ)) (d : rules.Condition) : Type 0 where
+  pub record IsConditionRead (table : List (List ℕ × ℕ)) (names : List (List ℕ)) (rule number : ℕ) (c : ConditionTree) (after : List (List ℕ × ℕ)) (later : List (List ℕ))
+      (d : rules.Condition) : Type 0 where
     pub accepted : condition_refusal table names rule number c ≡ None
     pub symbols : after ≡ with_symbols block (with_symbols block table c.left) c.right
     pub variables : later ≡ with_variables block (with_variables block names c.left) c.right
@@ -85,7 +87,8 @@ module _ (block : List (List ℕ)) where
   ConditionAnswers table names rule number c after later (Err e) = Tells e (condition_refusal table names rule number c)
 
   -- the same of conditions, from the first on
-  pub record AreConditionsRead (table : List (List ℕ × ℕ)) (names : List (List ℕ)) (rule : ℕ) (cs : List ConditionTree) (after : List (List ℕ × ℕ)) (later : List (List ℕ)) (ds : List rules.Condition) : Type 0 where
+  pub record AreConditionsRead (table : List (List ℕ × ℕ)) (names : List (List ℕ)) (rule : ℕ) (cs : List ConditionTree) (after : List (List ℕ × ℕ)) (later : List (List ℕ))
+      (ds : List rules.Condition) : Type 0 where
     pub accepted : conditions_refusal table names rule 1 cs ≡ None
     pub symbols : after ≡ with_all_symbols block table (sides cs)
     pub variables : later ≡ with_all_variables block names (sides cs)

@@ -15,7 +15,8 @@ use Rattle.cops_syntax.specs.declared.reader.TextError.TheVariants as text
 use Rattle.cops_syntax.specs.declared.blocks.SyntaxRefusal.{SyntaxRefusal}
 use Rattle.cops_syntax.specs.declared.blocks.SyntaxRefusal.TheVariants as syntax
 use Rattle.cops_read.specs.declared.errors.ReadError.{ReadError}
-use Rattle.cops_read.specs.declared.errors.ReadError.TheVariants.{BadByte, IdTooLong, CommentNotClosed, Syntax, UnknownBlock, RepeatedBlock, ConditionTypeOther, MissingRules, ConditionsWithoutType, VariableWithArguments, ArityDiffers, LeftVariable, TooDeep, TooMany, NoMemory}
+use Rattle.cops_read.specs.declared.errors.ReadError.TheVariants.{BadByte, IdTooLong, CommentNotClosed, Syntax, UnknownBlock, RepeatedBlock, ConditionTypeOther, MissingRules}
+use Rattle.cops_read.specs.declared.errors.ReadError.TheVariants.{ConditionsWithoutType, VariableWithArguments, ArityDiffers, LeftVariable, TooDeep, TooMany, NoMemory}
 
 -- the error tells this refusal, or want of memory
 abbrev pub Tells : ReadError → Option (MeaningCause × ℕ) → Type 0
@@ -67,7 +68,8 @@ module _ (block : List (List ℕ)) where
         (terms_refusal (with_symbols block table t) (with_variables block names t) side depth (argument + 1) (before + nodes t) ts)
 
   -- a phrase was read: what it adds to the symbols and the variables, what it means, and the identifiers up to its end
-  pub record IsRead (table : List (List ℕ × ℕ)) (names : List (List ℕ)) (p : Phrase) (before : ℕ) (refusal : Option (MeaningCause × ℕ)) (after : List (List ℕ × ℕ)) (later : List (List ℕ)) (t : math.Term) (next : ℕ) : Type 0 where
+  pub record IsRead (table : List (List ℕ × ℕ)) (names : List (List ℕ)) (p : Phrase) (before : ℕ) (refusal : Option (MeaningCause × ℕ)) (after : List (List ℕ × ℕ))
+      (later : List (List ℕ)) (t : math.Term) (next : ℕ) : Type 0 where
     pub accepted : refusal ≡ None
     pub symbols : after ≡ with_symbols block table p
     pub variables : later ≡ with_variables block names p
@@ -80,7 +82,8 @@ module _ (block : List (List ℕ)) where
   TermAnswers table names side depth argument before p after later (Err e) = Tells e (term_refusal table names side depth argument before p)
 
   -- the same of a list of phrases
-  pub record AreRead (table : List (List ℕ × ℕ)) (names : List (List ℕ)) (ps : Phrases) (before : ℕ) (refusal : Option (MeaningCause × ℕ)) (after : List (List ℕ × ℕ)) (later : List (List ℕ)) (ts : math.Terms) (next : ℕ) : Type 0 where
+  pub record AreRead (table : List (List ℕ × ℕ)) (names : List (List ℕ)) (ps : Phrases) (before : ℕ) (refusal : Option (MeaningCause × ℕ)) (after : List (List ℕ × ℕ))
+      (later : List (List ℕ)) (ts : math.Terms) (next : ℕ) : Type 0 where
     pub accepted : refusal ≡ None
     pub symbols : after ≡ with_all_symbols block table ps
     pub variables : later ≡ with_all_variables block names ps

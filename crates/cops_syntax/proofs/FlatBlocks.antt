@@ -252,7 +252,8 @@ close_step_of bs at s rs p (o ∷ os) (machine.first g) e = inner_step_of bs at 
 close_step_of bs at s rs p (o ∷ os) (machine.bare f) e = inner_step_of bs at s rs p (o ∷ os) (machine.bare f) right_paren
 close_step_of bs at s rs p (o ∷ os) (machine.done t) e = inner_step_of bs at s rs p (o ∷ os) (machine.done t) right_paren
 
-rule_step_of : (bs : List Block) (at : ℕ) (s : lists.Stage) (r : machine.Reading) (w : Word) → rules_in bs ≡ None → lists.rule_step (holding bs s) (reading_of r) w ≡ mapped (machine.step_rules bs at r w)
+rule_step_of : (bs : List Block) (at : ℕ) (s : lists.Stage) (r : machine.Reading) (w : Word) → rules_in bs ≡ None
+    → lists.rule_step (holding bs s) (reading_of r) w ≡ mapped (machine.step_rules bs at r w)
 rule_step_of bs at s r right_paren e = close_step_of bs at s r.rules r.part r.opens r.last e
 rule_step_of bs at s r (id f) e = other_step_of bs at s r.rules r.part r.opens r.last (id f) refl
 rule_step_of bs at s r left_paren e = other_step_of bs at s r.rules r.part r.opens r.last left_paren refl

@@ -88,7 +88,12 @@ raised-last os g ts t =
 -- ---- behind a term
 
 guard_conditions : (at : ℕ) (cs : List ConditionTree) (c : ConditionTree) (l r : Phrase)
-    → rule_of record { left = l; right = r; guard = Some (machine.guard_with at cs c) } ≡ record { left = flat l; right = flat r; bar = Some at; conditions = map condition_of cs ++ condition_of c ∷ [] }
+    → rule_of record { left = l; right = r; guard = Some (machine.guard_with at cs c) } ≡ record {
+      left = flat l;
+      right = flat r;
+      bar = Some at;
+      conditions = map condition_of cs ++ condition_of c ∷ [];
+    }
 guard_conditions at [] c l r = refl
 guard_conditions at (d ∷ ds) c l r =
     ap (λ (cs : List lists.Condition). record { left = flat l; right = flat r; bar = Some at; conditions = condition_of d ∷ cs }) (map_push condition_of ds c)
@@ -123,7 +128,8 @@ next_of (machine.condition_right l r at cs s) t comma =
 next_of (machine.condition_right l r at cs s) t _ = refl
 
 began : (rs : List RuleTree) (f : Name) (o : Option RuleTree)
-    → option_map (λ qs. lists.reading qs lists.left_side [] [] (lists.bare f)) (option_map rules_of (option_map (λ r. rs ++ r ∷ []) o)) ≡ option_map reading_of (option_map (λ r. machine.reading (rs ++ r ∷ []) machine.left [] (machine.bare f)) o)
+    → option_map (λ qs. lists.reading qs lists.left_side [] [] (lists.bare f)) (option_map rules_of (option_map (λ r. rs ++ r ∷ []) o)) ≡ option_map reading_of
+    (option_map (λ r. machine.reading (rs ++ r ∷ []) machine.left [] (machine.bare f)) o)
 began rs f None = refl
 began rs f (Some r) = refl
 
@@ -136,7 +142,8 @@ sign_of : (rs : List RuleTree) (p : machine.Part) (t : Phrase) (os : List ℕ) (
     → lists.next_side (read rs p (flat t) os l) w ≡ option_map reading_of (option_map (λ q. machine.reading rs q [] machine.want) (machine.next_part p t w))
 sign_of rs p t os l w = ap (option_map (λ q. lists.reading (rules_of rs) q [] [] lists.want)) (next_of p t w) ∙ led rs (machine.next_part p t w)
 
-behind_side_of : (rs : List RuleTree) (p : machine.Part) (t : Phrase) (os : List ℕ) (l : lists.Last) (w : Word) → lists.behind_side (read rs p (flat t) os l) w ≡ option_map reading_of (machine.behind_side rs p t w)
+behind_side_of : (rs : List RuleTree) (p : machine.Part) (t : Phrase) (os : List ℕ) (l : lists.Last) (w : Word)
+    → lists.behind_side (read rs p (flat t) os l) w ≡ option_map reading_of (machine.behind_side rs p t w)
 behind_side_of rs p t os l (id f) = ap (option_map (λ qs. lists.reading qs lists.left_side [] [] (lists.bare f))) (end_rule_of rs p t os l) ∙ began rs f (machine.ended p t)
 behind_side_of rs p t os l left_paren = sign_of rs p t os l left_paren
 behind_side_of rs p t os l right_paren = sign_of rs p t os l right_paren

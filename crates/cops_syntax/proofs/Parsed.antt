@@ -121,7 +121,8 @@ file_err c (Err d) e = let same : c ≡ d = cc in ap (λ (x : SyntaxCause). Err 
 read_to : (ws : List Word) (s : State) (r : Result syntax.FileTree SyntaxCause) → goes true (outside []) ws ≡ Some s → finish s ≡ r → read_file ws ≡ numbered (length ws) (λ file. Ok file) r
 read_to ws s r e is = ap (finished (length ws)) (goes_run 0 ws (outside []) s e) ∙ ap (numbered (length ws) (λ (file : syntax.FileTree). Ok file)) is
 
-pub follows_end : (b : Blocks) (r : Result FileText SyntaxRefusal) → ended_file r ≡ lists.finish (blocks_view b) → (ws : List Word) → Follow ws (blocks_view b) → EndAnswers SpellFile AreRefusedFor ws r
+pub follows_end : (b : Blocks) (r : Result FileText SyntaxRefusal) → ended_file r ≡ lists.finish (blocks_view b) → (ws : List Word) → Follow ws (blocks_view b)
+    → EndAnswers SpellFile AreRefusedFor ws r
 follows_end b r e ws led = go r (e ∙ ap (λ (c : lists.Blocks). lists.finish c) f.shows ∙ finish_of f.state)
   where
     f : Followed ws (blocks_view b)

@@ -43,7 +43,8 @@ room_of ns place n r e =
     let lt : place < length ns = omega (arith, r.within, length-map ns node_view) in
     omega (arith, r.room, counted ns place n lt, ap (λ (m : Node). m.arguments) e, length-map ns node_view)
 
-pub raised_of : (ns : List Node) (place : ℕ) (n m : Node) → IsRaisable (map node_view ns) place → n ≡ get_or ns place n → node_view m ≡ one_more (node_view n) → map node_view (set ns place m) ≡ raised (map node_view ns) place
+pub raised_of : (ns : List Node) (place : ℕ) (n m : Node) → IsRaisable (map node_view ns) place → n ≡ get_or ns place n → node_view m ≡ one_more (node_view n)
+    → map node_view (set ns place m) ≡ raised (map node_view ns) place
 raised_of ns place n m r e f =
     raised_set ns place n m (omega (arith, r.within, length-map ns node_view)) (f ∙ ap (λ (k : Node). one_more (node_view k)) e)
 

@@ -35,7 +35,8 @@ all_spelled : {R : Type 0} (taken : R → List Word → Type 0) (bytes : List �
 all_spelled taken bytes r b i end = subst (λ (bs : List ℕ). Spells bs i.tokens) i.text (end i.tokens i.read)
 
 module _ {R T C : Type 0} (taken : R → List Word → Type 0) (spells : List Word → T → Type 0) (refuses : List Word → C → ℕ → Type 0) (bytes : List ℕ) where
-  module _ (old new : Reading) (t : Token) (before after : R) (w : Word) (o : Option C) (i : IsReadUpTo taken bytes old before) (on : ReadsOn old t new) (text : new.bytes ≡ old.bytes) (is : w ≡ word_of bytes t)
+  module _ (old new : Reading) (t : Token) (before after : R) (w : Word) (o : Option C) (i : IsReadUpTo taken bytes old before) (on : ReadsOn old t new)
+      (text : new.bytes ≡ old.bytes) (is : w ≡ word_of bytes t)
       (answer : (ws : List Word) → taken before ws → TakeAnswers (taken after) refuses ws w o) where
     answered : TakeAnswers (taken after) refuses (words_of bytes i.tokens) (word_of bytes t) o
     answered = subst (λ (v : Word). TakeAnswers (taken after) refuses (words_of bytes i.tokens) v o) is (answer (words_of bytes i.tokens) i.words)
@@ -72,6 +73,7 @@ module _ {R T C : Type 0} (taken : R → List Word → Type 0) (spells : List Wo
       tokens = i.tokens;
       spelled = all_spelled taken bytes last b i end;
       number = length i.tokens;
-      refused = subst (refuses (words_of bytes i.tokens) cause) (length-map i.tokens (word_of bytes)) (subst (EndAnswers spells refuses (words_of bytes i.tokens)) err (answer (words_of bytes i.tokens) i.words));
+      refused = subst (refuses (words_of bytes i.tokens) cause) (length-map i.tokens (word_of bytes))
+          (subst (EndAnswers spells refuses (words_of bytes i.tokens)) err (answer (words_of bytes i.tokens) i.words));
       place = sym (place_end bytes i.tokens);
     }

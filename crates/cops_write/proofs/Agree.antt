@@ -183,7 +183,8 @@ module _ (block other : Names) where
     neither : (n : List ℕ) → is_among block n ≡ false → is_among block n ≡ is_among other n
     neither n h = h ∙ sym (false_from_ne_true (is_among other n) (λ (e : is_among other n ≡ true). let both : true ≡ false = sym (within n e) ∙ h in cc))
 
-    word_covered : (names : Names) (x : List ℕ) → is_among block x ≡ true → ((n : List ℕ) → is_among (if is_among block x then with_name names x else names) n ≡ true → is_among other n ≡ true) → is_among other x ≡ true
+    word_covered : (names : Names) (x : List ℕ) → is_among block x ≡ true → ((n : List ℕ) → is_among (if is_among block x then with_name names x else names) n ≡ true
+        → is_among other n ≡ true) → is_among other x ≡ true
     word_covered names x h cover = cover x (rw h (added names x))
 
     mutual
@@ -193,18 +194,21 @@ module _ (block other : Names) where
       agree names vars (call f ts) (var x) h cover = absurd h
       agree names vars (call f ts) (app g us) h cover = (neither f.text h.0.0, agree_all names vars ts us h.1 cover)
 
-      agree_all : (names vars : Names) (ps : Phrases) (ts : Terms) → AreTermsOf block table vars ps ts → ((n : List ℕ) → is_among (with_all_variables block names ps) n ≡ true → is_among other n ≡ true) → AgreeAll ps
+      agree_all : (names vars : Names) (ps : Phrases) (ts : Terms) → AreTermsOf block table vars ps ts
+          → ((n : List ℕ) → is_among (with_all_variables block names ps) n ≡ true → is_among other n ≡ true) → AgreeAll ps
       agree_all names vars none nil h cover = tt
       agree_all names vars none (cons t ts) h cover = absurd h
       agree_all names vars (more p ps) nil h cover = absurd h
       agree_all names vars (more p ps) (cons t ts) h cover =
           (agree names vars p t h.0 (λ n e. cover n (phrases_kept block (with_variables block names p) ps n e)), agree_all (with_variables block names p) vars ps ts h.1 cover)
 
-    pub rules_agree : (ts : List RuleTree) (rs : List Rule) → AreRulesOf block table ts rs → ((n : List ℕ) → is_among (joined (map (rule_variables block) ts)) n ≡ true → is_among other n ≡ true) → RulesAgree ts
+    pub rules_agree : (ts : List RuleTree) (rs : List Rule) → AreRulesOf block table ts rs
+        → ((n : List ℕ) → is_among (joined (map (rule_variables block) ts)) n ≡ true → is_among other n ≡ true) → RulesAgree ts
     rules_agree [] [] h cover = tt
     rules_agree [] (r ∷ rs) h cover = absurd h
     rules_agree (t ∷ ts) [] h cover = absurd h
     rules_agree (t ∷ ts) (r ∷ rs) h cover = (
-      agree_all [] (rule_variables block t) (phrases_of_rule t) (terms_of_rule r) (terms_are block table t r h.0) (λ n e. cover n (in_left (rule_variables block t) (joined (map (rule_variables block) ts)) n e)),
+      agree_all [] (rule_variables block t) (phrases_of_rule t) (terms_of_rule r) (terms_are block table t r h.0)
+          (λ n e. cover n (in_left (rule_variables block t) (joined (map (rule_variables block) ts)) n e)),
       rules_agree ts rs h.1 (λ n e. cover n (in_right (rule_variables block t) (joined (map (rule_variables block) ts)) n e)),
     )

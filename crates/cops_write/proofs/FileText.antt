@@ -4,7 +4,8 @@ use Rattle.file_text.specs.declared.Kind.TheVariants.{Id, LeftParen, RightParen}
 use Rattle.file_text.specs.declared.ConditionType.{ConditionType}
 use Rattle.file_text.specs.declared.ConditionType.TheVariants.{Oriented}
 use Rattle.file_text.specs.Syntax.{Name, RuleTree, FileTree}
-use Rattle.file_text.specs.Grammar.{Word, id, left_paren, right_paren, spelled_rules, Block, condition_type, variables, rules, spelled_block, spelled_blocks, type_in, variables_in, rules_in, are_distinct, SpellTree}
+use Rattle.file_text.specs.Grammar.{Word, id, left_paren, right_paren, spelled_rules, Block, condition_type, variables, rules, spelled_block, spelled_blocks, type_in, variables_in}
+use Rattle.file_text.specs.Grammar.{rules_in, are_distinct, SpellTree}
 use Rattle.file_text.specs.Texts.{words_of, IsText}
 use Rattle.file_text.proofs.Names.{IsName, ends_id, condition_type_name, oriented_name, variables_name, rules_name}
 use Rattle.file_text.proofs.Lexemes.{Lexeme, lexeme, Reads, reads_end, reads_white, reads_id, reads_block, reads_closing_bracket, spelled}
@@ -133,7 +134,8 @@ last_block rs ws e =
       at = n.name.at;
       trees = p.trees;
       split = o.split ∙ ap (λ (w : List Word). left_paren ∷ w) (n.split ∙ titled n.name (codes "RULES") n.rest n.same
-          ∙ ap (λ (w : List Word). id (record { at = n.name.at; text = codes "RULES" }) ∷ w) (p.split ∙ ap (λ (w : List Word). spelled_rules p.trees ++ w) (c.split ∙ ap (λ (w : List Word). right_paren ∷ w) (no_words c.rest c.left))));
+          ∙ ap (λ (w : List Word). id (record { at = n.name.at; text = codes "RULES" }) ∷ w)
+          (p.split ∙ ap (λ (w : List Word). spelled_rules p.trees ++ w) (c.split ∙ ap (λ (w : List Word). right_paren ∷ w) (no_words c.rest c.left))));
       alike = p.alike;
     }
 
@@ -174,7 +176,8 @@ blocks_behind (x ∷ xs) rs ws e =
     record {
       blocks = variables n.name.at p.names ∷ rules b.at b.trees ∷ [];
       split = o.split ∙ ap (λ (w : List Word). left_paren ∷ w) (n.split ∙ titled n.name (codes "VAR") n.rest n.same
-          ∙ ap (λ (w : List Word). id (record { at = n.name.at; text = codes "VAR" }) ∷ w) (p.split ∙ ap (λ (w : List Word). ids ++ w) (c.split ∙ ap (λ (w : List Word). right_paren ∷ w) (b.split ∙ sym (append-nil last)))
+          ∙ ap (λ (w : List Word). id (record { at = n.name.at; text = codes "VAR" }) ∷ w)
+          (p.split ∙ ap (λ (w : List Word). ids ++ w) (c.split ∙ ap (λ (w : List Word). right_paren ∷ w) (b.split ∙ sym (append-nil last)))
           ∙ sym (append_assoc ids (right_paren ∷ []) (last ++ []))));
       trees = b.trees;
       alike = b.alike;

@@ -6,7 +6,8 @@ use Rattle.file_text.specs.Syntax.{Name, Phrase, Phrases, word, call, none, more
 use Rattle.rewriting.specs.Prelude.{Term, var, app, Terms, nil, cons, Condition, Rule, terms_of_rule}
 use Rattle.cops_names.specs.NameTable.{number_of}
 use Rattle.cops_names.specs.NameLists.{name_index, is_among, with_name}
-use Rattle.cops_read.specs.Meaning.{with_symbol, sides, phrases_of_rule, with_variables, with_all_variables, with_symbols, with_all_symbols, rule_variables, with_rule_symbols, IsSymbolOf, IsTermOf, AreTermsOf, AreConditionsOf, IsRuleOf, AreRulesOf}
+use Rattle.cops_read.specs.Meaning.{with_symbol, sides, phrases_of_rule, with_variables, with_all_variables, with_symbols, with_all_symbols, rule_variables, with_rule_symbols}
+use Rattle.cops_read.specs.Meaning.{IsSymbolOf, IsTermOf, AreTermsOf, AreConditionsOf, IsRuleOf, AreRulesOf}
 use Rattle.cops_read.proofs.Sound.{terms_are}
 use Rattle.cops_write.proofs.Trees.{Alike, AreAlike, ConditionsAlike, GuardsAlike, RulesAlike}
 use Rattle.cops_write.proofs.Agree.{Names, Agree, AgreeAll, RulesAgree}
@@ -60,7 +61,8 @@ module _ (block other : Names) where
       means_all (more p ps) (more q qs) nil l a h = absurd h
       means_all (more p ps) (more q qs) (cons t ts) l a h = (means p q t l.0 a.0 h.0, means_all ps qs ts l.1 a.1 h.1)
 
-    conditions_mean : (cs ds : List ConditionTree) (es : List Condition) → ConditionsAlike cs ds → AgreeAll block other (sides cs) → AreConditionsOf block table vars cs es → AreConditionsOf other table vars ds es
+    conditions_mean : (cs ds : List ConditionTree) (es : List Condition) → ConditionsAlike cs ds → AgreeAll block other (sides cs) → AreConditionsOf block table vars cs es
+        → AreConditionsOf other table vars ds es
     conditions_mean [] [] [] l a h = tt
     conditions_mean [] [] (e ∷ es) l a h = absurd h
     conditions_mean [] (d ∷ ds) es l a h = absurd l
@@ -117,7 +119,8 @@ module _ (block other : Names) where
         → rule_variables block t ≡ rule_variables other u
     same_rule_variables t u r l a h = same_variables_all table (rule_variables block t) [] (phrases_of_rule t) (phrases_of_rule u) (terms_of_rule r) l a (terms_are block table t r h)
 
-    pub same_lists : (ts us : List RuleTree) (rs : List Rule) → RulesAlike ts us → RulesAgree block other ts → AreRulesOf block table ts rs → map (rule_variables block) ts ≡ map (rule_variables other) us
+    pub same_lists : (ts us : List RuleTree) (rs : List Rule) → RulesAlike ts us → RulesAgree block other ts → AreRulesOf block table ts rs
+        → map (rule_variables block) ts ≡ map (rule_variables other) us
     same_lists [] [] rs l a h = refl
     same_lists [] (u ∷ us) rs l a h = absurd l
     same_lists (t ∷ ts) [] rs l a h = absurd l
@@ -136,7 +139,8 @@ module _ (block other : Names) where
         (same_symbols_all table (rule_variables block t) now (phrases_of_rule t) (phrases_of_rule u) (terms_of_rule r) (rule_phrases_alike t u l.0 l.1 l.2) a.0 (terms_are block table t r h.0))
         ∙ same_table (with_all_symbols other now (phrases_of_rule u)) ts us rs l.3 a.1 h.1
 
-    rule_means : (t u : RuleTree) (r : Rule) → Alike t.left u.left → Alike t.right u.right → GuardsAlike t.guard u.guard → AgreeAll block other (phrases_of_rule t) → IsRuleOf block table t r → IsRuleOf other table u r
+    rule_means : (t u : RuleTree) (r : Rule) → Alike t.left u.left → Alike t.right u.right → GuardsAlike t.guard u.guard → AgreeAll block other (phrases_of_rule t)
+        → IsRuleOf block table t r → IsRuleOf other table u r
     rule_means t u r l m g a h =
         let vars = rule_variables block t in
         let same : vars ≡ rule_variables other u = same_rule_variables t u r (rule_phrases_alike t u l m g) a h in

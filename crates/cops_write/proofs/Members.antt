@@ -10,11 +10,13 @@ use Rattle.cops_write.proofs.Growing.{Leads, begins, goes_on, first_and_others}
 
 -- behind the first argument come the others
 pub arguments_begin : (names : NameTable) (rule : ℕ) {a b c : List ℕ} (args : List Term) (first : Term) → 1 ≤ length args → first ≡ get_or args 0 first
-    → Grows a (codes "(") b → Grows b (term_text names rule (view first)) c → Leads a (arguments_text names rule (views args)) c (further_text names rule (views (take (length args - 1) (drop 1 args))))
+    → Grows a (codes "(") b → Grows b (term_text names rule (view first)) c → Leads a (arguments_text names rule (views args)) c
+    (further_text names rule (views (take (length args - 1) (drop 1 args))))
 arguments_begin names rule {a} {b} {c} args first some is h k =
     let rest = take (length args - 1) (drop 1 args) in
     let left = further_text names rule (views rest) in
-    subst (λ (xs : List Term). Leads a (arguments_text names rule (views xs)) c left) (sym (first_and_others args first some is)) (goes_on left (begins (term_text names rule (view first) ++ left) h) k)
+    subst (λ (xs : List Term). Leads a (arguments_text names rule (views xs)) c left) (sym (first_and_others args first some is))
+    (goes_on left (begins (term_text names rule (view first) ++ left) h) k)
 
 -- behind the first condition come the others
 pub conditions_begin : (names : NameTable) (rule : ℕ) {a b c : List ℕ} (conds : List Cond) (first : Cond) → 1 ≤ length conds → first ≡ get_or conds 0 first

@@ -4,10 +4,12 @@ use Rattle.file_text.specs.declared.Kind.{Kind}
 use Rattle.file_text.specs.declared.Kind.TheVariants.{Id, LeftParen, RightParen, Comma, Bar, Arrow, Equal}
 use Rattle.file_text.specs.declared.Token.{Token}
 use Rattle.file_text.specs.Syntax.{Name, Phrase, Phrases, word, call, none, more, ConditionTree, Guard, RuleTree}
-use Rattle.file_text.specs.Grammar.{Word, id, left_paren, right_paren, comma, bar, arrow, equal, spelled, spelled_further, spelled_condition, spelled_others, spelled_guard, spelled_rule, spelled_rules}
+use Rattle.file_text.specs.Grammar.{Word, id, left_paren, right_paren, comma, bar, arrow, equal, spelled, spelled_further, spelled_condition, spelled_others, spelled_guard}
+use Rattle.file_text.specs.Grammar.{spelled_rule, spelled_rules}
 use Rattle.file_text.specs.Texts.{word_of_kind, word_of, words_of}
 use Rattle.file_text.proofs.Lexemes.{Lexeme, lexeme, lexeme_of, lexemes_of}
-use Rattle.cops_write.proofs.Trees.{text_tokens, arguments_tokens, further_tokens, condition_tokens, others_tokens, guarded_tokens, rules_tokens, Alike, AreAlike, ConditionsAlike, GuardsAlike, RulesAlike}
+use Rattle.cops_write.proofs.Trees.{text_tokens, arguments_tokens, further_tokens, condition_tokens, others_tokens, guarded_tokens, rules_tokens, Alike, AreAlike, ConditionsAlike}
+use Rattle.cops_write.proofs.Trees.{GuardsAlike, RulesAlike}
 
 abbrev nowhere : List ℕ → Name
 nowhere s = record { at = 0; text = s }
@@ -172,7 +174,8 @@ mutual
       record {
         phrases = more a.phrase b.phrases;
         rest = b.rest;
-        split = o.split ∙ ap (λ (w : List Word). comma ∷ w) (a.split ∙ ap (λ (w : List Word). spelled a.phrase ++ w) b.split ∙ sym (append_assoc (spelled a.phrase) (spelled_further b.phrases) (right_paren ∷ b.rest)));
+        split = o.split ∙ ap (λ (w : List Word). comma ∷ w) (a.split ∙ ap (λ (w : List Word). spelled a.phrase ++ w) b.split
+            ∙ sym (append_assoc (spelled a.phrase) (spelled_further b.phrases) (right_paren ∷ b.rest)));
         left = b.left;
         alike = (a.alike, b.alike);
       }
@@ -215,7 +218,8 @@ placed_others (c ∷ cs) ws ls e =
     record {
       trees = a.tree ∷ b.trees;
       rest = b.rest;
-      split = o.split ∙ ap (λ (w : List Word). comma ∷ w) (a.split ∙ ap (λ (w : List Word). spelled_condition a.tree ++ w) b.split ∙ sym (append_assoc (spelled_condition a.tree) (spelled_others b.trees) b.rest));
+      split = o.split ∙ ap (λ (w : List Word). comma ∷ w) (a.split ∙ ap (λ (w : List Word). spelled_condition a.tree ++ w) b.split
+          ∙ sym (append_assoc (spelled_condition a.tree) (spelled_others b.trees) b.rest));
       left = b.left;
       alike = (a.alike.0, a.alike.1, b.alike);
     }
@@ -236,7 +240,8 @@ placed_guard (Some g) ws ls e =
     record {
       guard = Some record { at = o.at; first = a.tree; others = b.trees };
       rest = b.rest;
-      split = o.split ∙ ap (λ (w : List Word). bar o.at ∷ w) (a.split ∙ ap (λ (w : List Word). spelled_condition a.tree ++ w) b.split ∙ sym (append_assoc (spelled_condition a.tree) (spelled_others b.trees) b.rest));
+      split = o.split ∙ ap (λ (w : List Word). bar o.at ∷ w) (a.split ∙ ap (λ (w : List Word). spelled_condition a.tree ++ w) b.split
+          ∙ sym (append_assoc (spelled_condition a.tree) (spelled_others b.trees) b.rest));
       left = b.left;
       alike = (a.alike.0, a.alike.1, b.alike);
     }
@@ -262,7 +267,9 @@ placed_rules (r ∷ rs) ws ls e =
       trees = t ∷ c.trees;
       rest = c.rest;
       split = a.split
-          ∙ ap (λ (w : List Word). spelled a.phrase ++ w) (o.split ∙ ap (λ (w : List Word). arrow ∷ w) (b.split ∙ ap (λ (w : List Word). spelled b.phrase ++ w) g.split ∙ sym (append_assoc (spelled b.phrase) (spelled_guard g.guard) g.rest)))
+          ∙ ap (λ (w : List Word). spelled a.phrase ++ w)
+          (o.split ∙ ap (λ (w : List Word). arrow ∷ w) (b.split ∙ ap (λ (w : List Word). spelled b.phrase ++ w) g.split
+          ∙ sym (append_assoc (spelled b.phrase) (spelled_guard g.guard) g.rest)))
           ∙ sym (append_assoc (spelled a.phrase) (arrow ∷ (spelled b.phrase ++ spelled_guard g.guard)) g.rest)
           ∙ ap (λ (w : List Word). spelled_rule t ++ w) c.split
           ∙ sym (append_assoc (spelled_rule t) (spelled_rules c.trees) c.rest);

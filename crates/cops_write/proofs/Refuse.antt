@@ -7,7 +7,8 @@ use Rattle.cops_names.specs.NameTable.{number_of}
 use Rattle.cops_names.specs.NameLists.{is_among, with_name}
 use Rattle.cops_read.specs.Meaning.{with_symbol, sides, phrases_of_rule}
 use Rattle.cops_read.specs.Uses.{Spot, spots, spots_of_all, Side, side_of, Use, Event, use_of, bar_at, uses_from, term_events, condition_events, guard_events, rule_events, rules_events}
-use Rattle.cops_read.specs.Refusals.{MeaningCause, limit_cause, variable_cause, symbol_cause, known_symbol_cause, arity_in, arity_differs, variable_with_arguments, left_variable, too_many_variables, first_or, symbols_used, variables_used, cause_at, event_cause, first_refusal}
+use Rattle.cops_read.specs.Refusals.{MeaningCause, limit_cause, variable_cause, symbol_cause, known_symbol_cause, arity_in, arity_differs, variable_with_arguments, left_variable}
+use Rattle.cops_read.specs.Refusals.{too_many_variables, first_or, symbols_used, variables_used, cause_at, event_cause, first_refusal}
 use Rattle.cops_write.proofs.Trees.{Alike, AreAlike, ConditionsAlike, GuardsAlike, RulesAlike}
 use Rattle.cops_write.proofs.Agree.{Names, Agree, AgreeAll, RulesAgree}
 use Rattle.cops_write.proofs.SameText.{has_guard, some_guard}
@@ -92,13 +93,15 @@ module _ (block other : Names) (oriented : Bool) where
   term_alike : (side : Side) (p q : Phrase) → Alike p q → Agree block other p → EventsAlike (term_events side p) (term_events side q)
   term_alike side p q l a = uses_alike side 1 (spots 1 0 p) (spots 1 0 q) (spots_alike 1 0 p q l a)
 
-  conditions_alike : (rule number : ℕ) (cs ds : List ConditionTree) → ConditionsAlike cs ds → AgreeAll block other (sides cs) → EventsAlike (condition_events rule number cs) (condition_events rule number ds)
+  conditions_alike : (rule number : ℕ) (cs ds : List ConditionTree) → ConditionsAlike cs ds → AgreeAll block other (sides cs)
+      → EventsAlike (condition_events rule number cs) (condition_events rule number ds)
   conditions_alike rule number [] [] l a = tt
   conditions_alike rule number [] (d ∷ ds) l a = absurd l
   conditions_alike rule number (c ∷ cs) [] l a = absurd l
   conditions_alike rule number (c ∷ cs) (d ∷ ds) l a =
       let side = side_of rule number false in
-      events_then (term_events side c.left) (term_events side d.left) (term_events side c.right ++ condition_events rule (suc number) cs) (term_events side d.right ++ condition_events rule (suc number) ds)
+      events_then (term_events side c.left) (term_events side d.left) (term_events side c.right ++ condition_events rule (suc number) cs)
+      (term_events side d.right ++ condition_events rule (suc number) ds)
       (term_alike side c.left d.left l.0 a.0)
       (events_then (term_events side c.right) (term_events side d.right) (condition_events rule (suc number) cs) (condition_events rule (suc number) ds)
       (term_alike side c.right d.right l.1 a.1.0) (conditions_alike rule (suc number) cs ds l.2 a.1.1))
@@ -117,7 +120,8 @@ module _ (block other : Names) (oriented : Bool) where
   or_right true b h = refl
   or_right false b h = h
 
-  pub events_alike : (number : ℕ) (ts us : List RuleTree) → RulesAlike ts us → RulesAgree block other ts → (some_guard ts ≡ true → oriented ≡ true) → EventsAlike (rules_events number ts) (rules_events number us)
+  pub events_alike : (number : ℕ) (ts us : List RuleTree) → RulesAlike ts us → RulesAgree block other ts → (some_guard ts ≡ true → oriented ≡ true)
+      → EventsAlike (rules_events number ts) (rules_events number us)
   events_alike number [] [] l a o = tt
   events_alike number [] (u ∷ us) l a o = absurd l
   events_alike number (t ∷ ts) [] l a o = absurd l
@@ -142,7 +146,8 @@ module _ (block other : Names) (oriented : Bool) where
       let next : (if is_among block u.spot.node.name.text then now else with_symbol now u.spot.node.name.text u.spot.node.arguments)
       ≡ (if is_among other v.spot.node.name.text then now else with_symbol now v.spot.node.name.text v.spot.node.arguments) =
       ap₂ (λ (b : Bool) (w : List (List ℕ × ℕ)). if b then now else w) s.told (ap₂ (with_symbol now) s.text s.arguments) in
-      ap (λ (w : List (List ℕ × ℕ)). symbols_used block w es) next ∙ symbols_same (if is_among other v.spot.node.name.text then now else with_symbol now v.spot.node.name.text v.spot.node.arguments) es fs h.1
+      ap (λ (w : List (List ℕ × ℕ)). symbols_used block w es) next
+      ∙ symbols_same (if is_among other v.spot.node.name.text then now else with_symbol now v.spot.node.name.text v.spot.node.arguments) es fs h.1
   symbols_same now (use_of u ∷ es) (bar_at at ∷ fs) h = absurd h
   symbols_same now (bar_at at ∷ es) (use_of v ∷ fs) h = absurd h
   symbols_same now (bar_at at ∷ es) (bar_at place ∷ fs) h = symbols_same now es fs h.1
@@ -220,7 +225,8 @@ module _ (block other : Names) (oriented : Bool) where
       (subst (λ (w : List (List ℕ × ℕ)). cause_at block w (variables_used block u.side.rule [] front) u ≡ None) table h) in
       let now = symbols_used other [] gone in
       let vars = variables_used other v.side.rule [] gone in
-      cause_fine (limit_cause u) (limit_cause v) (variable_cause vars u) (variable_cause vars v) (symbol_cause now u) (symbol_cause now v) (is_among block u.spot.node.name.text) (is_among other v.spot.node.name.text)
+      cause_fine (limit_cause u) (limit_cause v) (variable_cause vars u) (variable_cause vars v) (symbol_cause now u) (symbol_cause now v) (is_among block u.spot.node.name.text)
+      (is_among other v.spot.node.name.text)
       (same_limits u v l) l.spot.told (variable_fine vars u v l) (same_symbol_cause now u v l) here
 
   first_fine : (c : Option MeaningCause) (at : ℕ) (rest : Option (MeaningCause × ℕ)) → first_or c at rest ≡ None → (c ≡ None) × (rest ≡ None)
@@ -231,14 +237,16 @@ module _ (block other : Names) (oriented : Bool) where
   fine_first None at rest h k = k
   fine_first (Some c) at rest h k = absurd cc
 
-  pub not_refused : (before : Bool) (front gone es fs : List Event) → EventsAlike front gone → EventsAlike es fs → first_refusal block before front es ≡ None → first_refusal other oriented gone fs ≡ None
+  pub not_refused : (before : Bool) (front gone es fs : List Event) → EventsAlike front gone → EventsAlike es fs → first_refusal block before front es ≡ None
+      → first_refusal other oriented gone fs ≡ None
   not_refused before front gone [] [] k l h = refl
   not_refused before front gone [] (f ∷ fs) k l h = absurd l
   not_refused before front gone (e ∷ es) [] k l h = absurd l
   not_refused before front gone (use_of u ∷ es) (bar_at at ∷ fs) k l h = absurd l
   not_refused before front gone (bar_at at ∷ es) (use_of v ∷ fs) k l h = absurd l
   not_refused before front gone (use_of u ∷ es) (use_of v ∷ fs) k l h =
-      let both = first_fine (cause_at block (symbols_used block [] front) (variables_used block u.side.rule [] front) u) u.spot.node.name.at (first_refusal block before (front ++ use_of u ∷ []) es) h in
+      let both = first_fine (cause_at block (symbols_used block [] front) (variables_used block u.side.rule [] front) u) u.spot.node.name.at
+      (first_refusal block before (front ++ use_of u ∷ []) es) h in
       fine_first (cause_at other (symbols_used other [] gone) (variables_used other v.side.rule [] gone) v) v.spot.node.name.at (first_refusal other oriented (gone ++ use_of v ∷ []) fs)
       (use_fine front gone u v k l.0 both.0)
       (not_refused before (front ++ use_of u ∷ []) (gone ++ use_of v ∷ []) es fs (events_then front gone (use_of u ∷ []) (use_of v ∷ []) k (l.0, tt)) l.1 both.1)

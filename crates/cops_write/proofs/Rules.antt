@@ -32,7 +32,8 @@ variables_are r h = (counts_first _ h.numbered (subst (λ (n : ℕ). n < 2 ^ 31)
 
 -- the names of a rule's variables, and of the rules behind it
 pub names_behind : (names : NameTable) (set : List (List ℕ)) (number : ℕ) (rs : List Rule) (i : ℕ) (r : Rule) → i < length rs → r ≡ get_or rs i r
-    → with_names set (names_from names number (map rule_view (drop i rs))) ≡ with_names (with_names set (rule_names names number (rule_view r))) (names_from names (suc number) (map rule_view (drop (i + 1) rs)))
+    → with_names set (names_from names number (map rule_view (drop i rs))) ≡ with_names (with_names set (rule_names names number (rule_view r)))
+    (names_from names (suc number) (map rule_view (drop (i + 1) rs)))
 names_behind names set number rs i r lt is =
     ap (λ (w : List Rule). with_names set (names_from names number (map rule_view w))) (rules_left rs i r lt is)
     ∙ with_both set (rule_names names number (rule_view r)) (names_from names (suc number) (map rule_view (drop (i + 1) rs)))

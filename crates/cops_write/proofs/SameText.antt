@@ -1,5 +1,6 @@
 -- The text of a system is that of the tree that means it.
-use Rattle.std.proofs.Common.{◌≡◌, ℕ, zero, suc, ◌<◌, ◌≤◌, Bool, true, false, List, [], ◌∷◌, ◌++◌, map, length, get_or, take, Option, None, Some, refl, sym, ap, ap₂, ◌∙◌, arith, append_assoc, append-nil, length-append, lt-ltb}
+use Rattle.std.proofs.Common.{◌≡◌, ℕ, zero, suc, ◌<◌, ◌≤◌, Bool, true, false, List, [], ◌∷◌, ◌++◌, map, length, get_or, take, Option, None, Some, refl, sym, ap, ap₂, ◌∙◌, arith}
+use Rattle.std.proofs.Common.{append_assoc, append-nil, length-append, lt-ltb}
 use Rattle.std.specs.Prelude.{◌||◌, nat_lt, option_map, slice_get, unwrap_or, codes}
 use Rattle.std.specs.Option.{option_and_then}
 use Rattle.std.specs.Str.{bytes_eq}
@@ -15,7 +16,8 @@ use Rattle.cops_names.specs.NameTable.{NameTable, variable_at, number_of}
 use Rattle.cops_names.specs.NameLists.{name_index}
 use Rattle.cops_read.specs.Meaning.{rule_variables, IsTermOf, AreTermsOf, AreConditionsOf, IsRuleOf, AreRulesOf}
 use Rattle.cops_read.proofs.Sound.{upto, variables_are}
-use Rattle.cops_write.specs.Text.{symbol_text, variable_text, term_text, arguments_text, further_text, condition_text, conditions_text, others_text, rule_text, rules_text, rule_names, names_from, has_conditions}
+use Rattle.cops_write.specs.Text.{symbol_text, variable_text, term_text, arguments_text, further_text, condition_text, conditions_text, others_text, rule_text, rules_text}
+use Rattle.cops_write.specs.Text.{rule_names, names_from, has_conditions}
 use Rattle.cops_write.proofs.Trees.{text, arguments, further, condition, others, guarded, rule, rules}
 
 -- what is found in a list stands there
@@ -137,7 +139,8 @@ abbrev pub joined : List (List (List ℕ)) → List (List ℕ)
 joined [] = []
 joined (v ∷ vs) = v ++ joined vs
 
-front_names : (names : NameTable) (number : ℕ) (v : List (List ℕ)) → ((x : ℕ) → variable_at names number x ≡ slice_get v x) → (n : ℕ) → n ≤ length v → map (variable_text names number) (upto n) ≡ take n v
+front_names : (names : NameTable) (number : ℕ) (v : List (List ℕ)) → ((x : ℕ) → variable_at names number x ≡ slice_get v x) → (n : ℕ) → n ≤ length v
+    → map (variable_text names number) (upto n) ≡ take n v
 front_names names number v there zero le = refl
 front_names names number v there (suc n) le =
     let here : slice_get v n ≡ Some (get_or v n []) = slice_get_read v (length v) n (get_or v n []) refl (omega arith) (default_differs v n (omega arith)) in
@@ -183,7 +186,8 @@ pub same_guards : (block : List (List ℕ)) (table : List (List ℕ × ℕ)) (ts
 same_guards block table [] [] h = refl
 same_guards block table [] (r ∷ rs) h = absurd h
 same_guards block table (t ∷ ts) [] h = absurd h
-same_guards block table (t ∷ ts) (r ∷ rs) h = ap₂ (λ (a b : Bool). a || b) (guard_told block table (rule_variables block t) t.guard t.left t.right r.conditions h.0.conditions) (same_guards block table ts rs h.1)
+same_guards block table (t ∷ ts) (r ∷ rs) h = ap₂ (λ (a b : Bool). a || b) (guard_told block table (rule_variables block t) t.guard t.left t.right r.conditions h.0.conditions)
+    (same_guards block table ts rs h.1)
 
 listed_behind : (vs : List (List (List ℕ))) (names : NameTable) (front : List (List (List ℕ))) (number : ℕ) → number ≡ suc (length front) → names.variables ≡ front ++ vs → AreListed names number vs
 listed_behind [] names front number is e = tt

@@ -3,7 +3,8 @@ use Rattle.std.proofs.Common.{◌≡◌, ℕ, ◌+◌, ◌<◌, true, List, [], 
 use Rattle.file_text.specs.Syntax.{Phrase, Phrases, word, call, none, more, ConditionTree, Guard, RuleTree}
 use Rattle.file_text.proofs.Names.{ends_id}
 use Rattle.file_text.proofs.Lexemes.{Lexeme, Reads, reads_id, reads_white, reads_comma, reads_bar, reads_arrow, reads_equal, reads_inner_bracket, reads_closing_bracket}
-use Rattle.cops_write.proofs.Trees.{text, arguments, further, condition, others, guarded, rules, text_tokens, arguments_tokens, further_tokens, condition_tokens, others_tokens, guarded_tokens, rules_tokens, HasNames, HaveNames, ConditionsHaveNames, GuardHasNames, RulesHaveNames}
+use Rattle.cops_write.proofs.Trees.{text, arguments, further, condition, others, guarded, rules, text_tokens, arguments_tokens, further_tokens, condition_tokens, others_tokens}
+use Rattle.cops_write.proofs.Trees.{guarded_tokens, rules_tokens, HasNames, HaveNames, ConditionsHaveNames, GuardHasNames, RulesHaveNames}
 
 further_ends : (ts : Phrases) (k : List ℕ) → ends_id (further ts k) ≡ true
 further_ends none k = refl

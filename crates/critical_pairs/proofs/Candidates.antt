@@ -1,5 +1,6 @@
 -- The inner rules between two candidates at a place have other roots, so their runs clash.
-use Rattle.std.proofs.Common.{ℕ, zero, suc, ◌≡◌, ◌≢◌, ◌+◌, ◌-◌, ◌<◌, ◌≤◌, ◌⊎◌, inl, inr, Bool, true, false, List, [], ◌∷◌, ◌++◌, length, get_or, slice_get, None, Some, refl, sym, ap, ◌∙◌, subst, subst₂, arith}
+use Rattle.std.proofs.Common.{ℕ, zero, suc, ◌≡◌, ◌≢◌, ◌+◌, ◌-◌, ◌<◌, ◌≤◌, ◌⊎◌, inl, inr, Bool, true, false, List, [], ◌∷◌, ◌++◌, length, get_or, slice_get, None, Some, refl, sym}
+use Rattle.std.proofs.Common.{ap, ◌∙◌, subst, subst₂, arith}
 use Rattle.std.proofs.lemmas.Bool.{cases_lt, eqb-false}
 use Rattle.std.proofs.lemmas.Option.{slice_get_within, slice_get-get_or}
 use Rattle.std.proofs.lemmas.List.{get_or_past, get_or_default}
@@ -111,7 +112,8 @@ module _ (sys : System) (f : ℕ) where
       go false h = h
 
 -- a run of a rule with another root clashes at once
-roots_clash : (sys : System) (j : ℕ) (p : Position) (f i : ℕ) → IsSystem sys → IsRootAt sys j (p, f) → ((inner : Rule) → rule_at sys i ≡ Some inner → ((p ≢ []) ⊎ (i < j)) → has_root f inner.left ≡ false) → DoesClash sys (i, (p, j))
+roots_clash : (sys : System) (j : ℕ) (p : Position) (f i : ℕ) → IsSystem sys → IsRootAt sys j (p, f)
+    → ((inner : Rule) → rule_at sys i ≡ Some inner → ((p ≢ []) ⊎ (i < j)) → has_root f inner.left ≡ false) → DoesClash sys (i, (p, j))
 roots_clash sys j p f i h at other inner outer part place =
     let k = numbered_rule sys i inner h place.is_inner in
     let l = numbered_rule sys j outer h place.is_outer in
@@ -121,7 +123,8 @@ roots_clash sys j p f i h at other inner outer part place =
   where
     run : (g : ℕ) (ts : Terms) → f ≢ g → Fits (app g ts) → Fits (app f at.arguments) → IsOutcomeOf (app g ts) (app f at.arguments) clash
     run g ts d a b =
-        heads_clash g f (apply_all even ts) (apply_all odd at.arguments) (λ e. d (sym e)) (renamed_fits even (λ x. (refl, refl)) (app g ts) a) (renamed_fits odd (λ x. (refl, refl)) (app f at.arguments) b)
+        heads_clash g f (apply_all even ts) (apply_all odd at.arguments) (λ e. d (sym e)) (renamed_fits even (λ x. (refl, refl)) (app g ts) a)
+        (renamed_fits odd (λ x. (refl, refl)) (app f at.arguments) b)
 
     differ : (g : ℕ) × (ts : Terms) × (inner.left ≡ app g ts) × (f ≢ g) → app f at.arguments ≡ part → Fits inner.left → Fits part → IsOutcomeOf inner.left part clash
     differ (g, ts, e, d) s a b = subst₂ (λ x y. IsOutcomeOf x y clash) (sym e) s (run g ts d (subst Fits e a) (subst Fits (sym s) b))
@@ -156,10 +159,12 @@ module _ (sys : System) (h : IsSystem sys) (j : ℕ) (p : Position) (f : ℕ) (a
       (subst (λ x. DoesPass sys x ((b, (p, j)) ∷ triples_behind j p b most)) (sym (at_split j p a b most low high))
       (pass_all sys (triples_at j p a (b - suc a)) ((b, (p, j)) ∷ triples_behind j p b most) (between (DoesClash sys) j p a (b - suc a) (λ i l k. gap i l k low high))))
     where
-      gap : (i : ℕ) → done (rules_with_root sys f) most c < i → i ≤ done (rules_with_root sys f) most c + (b - suc (done (rules_with_root sys f) most c)) → done (rules_with_root sys f) most c < b → b ≤ most → DoesClash sys (i, (p, j))
+      gap : (i : ℕ) → done (rules_with_root sys f) most c < i → i ≤ done (rules_with_root sys f) most c + (b - suc (done (rules_with_root sys f) most c))
+          → done (rules_with_root sys f) most c < b → b ≤ most → DoesClash sys (i, (p, j))
       gap i l k low high =
           let less : i < b = omega (arith, l, k, low) in
-          roots_clash sys j p f i h at (λ r q u. none_between sys f most c i r q l (omega (arith, less, high)) (λ d s. (let same : b ≡ d = (let k : Some b ≡ Some d = sym e ∙ s in cc) in omega (arith, less, same))))
+          roots_clash sys j p f i h at (λ r q u. none_between sys f most c i r q l (omega (arith, less, high))
+          (λ d s. (let same : b ≡ d = (let k : Some b ≡ Some d = sym e ∙ s in cc) in omega (arith, less, same))))
 
   -- past the last one that counts
   pub past_candidates : (c : ℕ) → CandidateAnswers (rules_with_root sys f) p j c None → (t : Triple) → IsAmong t (triples_behind j p (done (rules_with_root sys f) most c) most) → DoesClash sys t

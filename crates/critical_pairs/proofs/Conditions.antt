@@ -23,12 +23,14 @@ fit_right [] ds h = h
 fit_right (c ∷ cs) ds h = fit_right cs ds h.1.1
 
 -- the instances of all conditions fit, so those of one do
-pub one_fits : (m : Substitution) (cs : List Cond) (i : ℕ) (c : Cond) → i < length cs → c ≡ get_or cs i c → Each Fits (sides (conditions_under m (map condition_view cs))) → Fits (apply m (view c.left)) × Fits (apply m (view c.right))
+pub one_fits : (m : Substitution) (cs : List Cond) (i : ℕ) (c : Cond) → i < length cs → c ≡ get_or cs i c → Each Fits (sides (conditions_under m (map condition_view cs)))
+    → Fits (apply m (view c.left)) × Fits (apply m (view c.right))
 one_fits m [] i c h e f = absurd (omega arith)
 one_fits m (d ∷ cs) zero c h e f = (subst (λ z. Fits (apply m (view z.left))) (sym e) f.0, subst (λ z. Fits (apply m (view z.right))) (sym e) f.1.0)
 one_fits m (d ∷ cs) (suc i) c h e f = one_fits m cs i c (omega arith) e f.1.1
 
 -- the instances of some conditions, and then of others, from none on
-pub both_added : (m : Substitution) (cs ds start middle end : List math.Condition) → start ≡ [] → (middle ≡ start ++ conditions_under m cs) × Each Fits (sides (conditions_under m cs)) → (end ≡ middle ++ conditions_under m ds) × Each Fits (sides (conditions_under m ds))
+pub both_added : (m : Substitution) (cs ds start middle end : List math.Condition) → start ≡ []
+    → (middle ≡ start ++ conditions_under m cs) × Each Fits (sides (conditions_under m cs)) → (end ≡ middle ++ conditions_under m ds) × Each Fits (sides (conditions_under m ds))
     → (end ≡ conditions_under m cs ++ conditions_under m ds) × Each Fits (sides (conditions_under m cs ++ conditions_under m ds))
 both_added m cs ds start middle end e h k = (k.0 ∙ ap (λ z. z ++ conditions_under m ds) (h.0 ∙ ap (λ z. z ++ conditions_under m cs) e), fit_append _ _ h.1 k.1)

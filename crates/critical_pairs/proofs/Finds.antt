@@ -38,7 +38,8 @@ module _ (sys : System) (c : Cursor) (i : ℕ) (s : StandsBefore sys c i) (t : N
   refused_here NoMemory h = tt
 
 -- what is offered, or refused, where a search went on from the cursor b to c
-module _ (sys : System) (h : IsSystem sys) (b c : Cursor) (n : ℕ) (before : Search) (e : record { system = sys; rest = rest_of sys b; offered = n } ≡ before) (is : IsCursor sys c) (passes : DoesPass sys (rest_of sys b) (rest_of sys c)) where
+module _ (sys : System) (h : IsSystem sys) (b c : Cursor) (n : ℕ) (before : Search) (e : record { system = sys; rest = rest_of sys b; offered = n } ≡ before) (is : IsCursor sys c)
+    (passes : DoesPass sys (rest_of sys b) (rest_of sys c)) where
   -- behind the triple there
   on : (d : Cursor) → d.outer ≡ c.outer → d.places ≡ c.places → d.place ≡ c.place → d.candidate ≡ suc c.candidate → (t : Triple) → StandsAt sys c t → DoesPass sys (rest_of sys b) (t ∷ rest_of sys d)
   on d o ps k i t at =

@@ -92,7 +92,8 @@ module _ (m : Substitution) (t part : Term) (p : Position) (there : Some part �
 
 -- a pair fits where its parts do
 module _ (m : Substitution) (p : Position) (inner outer : Rule) (pair : CriticalPair) (made : IsMade m p inner outer pair) where
-  pub whole_fits : Fits (apply m outer.left) × Fits pair.left → Fits (apply m outer.right) → Each Fits (sides (conditions_under m inner.conditions)) → Each Fits (sides (conditions_under m outer.conditions)) → DoesPairFit pair
+  pub whole_fits : Fits (apply m outer.left) × Fits pair.left → Fits (apply m outer.right) → Each Fits (sides (conditions_under m inner.conditions))
+      → Each Fits (sides (conditions_under m outer.conditions)) → DoesPairFit pair
   whole_fits both right cs ds =
       record {
         source = subst Fits (sym made.source) both.0;

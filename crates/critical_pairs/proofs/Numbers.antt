@@ -52,7 +52,8 @@ same_or_not m k = go (in_order m k)
     go (inr (inr h)) = inr (λ e. absurd (omega (arith, h, e)))
 
 -- the next rule has an origin
-module _ (e sys : System) (os : List (Option ℕ)) (are : AreOrigins e sys os) (now : List (Option ℕ)) (n k : ℕ) (there : number_at os (suc n) ≡ Some (suc k)) (inside : k < length now) (h : AreFirstNumbers os now n) where
+module _ (e sys : System) (os : List (Option ℕ)) (are : AreOrigins e sys os) (now : List (Option ℕ)) (n k : ℕ) (there : number_at os (suc n) ≡ Some (suc k))
+    (inside : k < length now) (h : AreFirstNumbers os now n) where
   sound_next : (i m : ℕ) → (m ≡ suc k) ⊎ (m ≡ suc k → ⊥) → number_at (set now k (Some (suc n))) m ≡ Some i → number_at os i ≡ Some m
   sound_next i m (inl same) g =
       let two : Some (suc n) ≡ Some i = sym (set_there now k (Some (suc n)) m inside same) ∙ g in
@@ -68,7 +69,8 @@ module _ (e sys : System) (os : List (Option ℕ)) (are : AreOrigins e sys os) (
   pub one_more_number : AreFirstNumbers os (set now k (Some (suc n))) (suc n)
   one_more_number = record { sound = λ i m. sound_next i m (same_or_not m (suc k)); whole = λ i m small. whole_next i m (le_or_next i n small) (same_or_not m (suc k)) }
 
-pub next_noted : (e sys : System) (os : List (Option ℕ)) → AreOrigins e sys os → (now : List (Option ℕ)) (n next : ℕ) (o : Option ℕ) → next ≡ suc n → get_or os n None ≡ o → length now ≡ length e.rules → AreFirstNumbers os now n
+pub next_noted : (e sys : System) (os : List (Option ℕ)) → AreOrigins e sys os → (now : List (Option ℕ)) (n next : ℕ) (o : Option ℕ) → next ≡ suc n → get_or os n None ≡ o
+    → length now ≡ length e.rules → AreFirstNumbers os now n
     → (length (noted now o next) ≡ length e.rules) × AreFirstNumbers os (noted now o next) next
 next_noted e sys os are now n next None is at long h = (long, subst (AreFirstNumbers os now) (sym is) (no_origin os now n at h))
 next_noted e sys os are now n next (Some zero) is at long h = (let low = (rule_inside e sys os are (suc n) zero at).0 in absurd (omega (arith, low)))
@@ -76,10 +78,12 @@ next_noted e sys os are now n next (Some (suc k)) is at long h =
     let high = (rule_inside e sys os are (suc n) (suc k) at).1 in
     let one : suc k - 1 ≡ k = omega arith in (
       length-set now (suc k - 1) (Some next) ∙ long,
-      subst (λ y. AreFirstNumbers os (set now y (Some next)) next) (sym one) (subst (λ y. AreFirstNumbers os (set now k (Some y)) y) (sym is) (one_more_number e sys os are now n k at (omega (arith, high, long)) h)),
+      subst (λ y. AreFirstNumbers os (set now y (Some next)) next) (sym one)
+          (subst (λ y. AreFirstNumbers os (set now k (Some y)) y) (sym is) (one_more_number e sys os are now n k at (omega (arith, high, long)) h)),
     )
 
-pub number_fits : (e sys : System) (os : List (Option ℕ)) → AreOrigins e sys os → (now : List (Option ℕ)) (n : ℕ) (o : Option ℕ) → get_or os n None ≡ o → length now ≡ length e.rules → IfSome o (λ m. (0 < m) × (m ≤ length now))
+pub number_fits : (e sys : System) (os : List (Option ℕ)) → AreOrigins e sys os → (now : List (Option ℕ)) (n : ℕ) (o : Option ℕ) → get_or os n None ≡ o
+    → length now ≡ length e.rules → IfSome o (λ m. (0 < m) × (m ≤ length now))
 number_fits e sys os are now n None at long = tt
 number_fits e sys os are now n (Some m) at long = (let r = rule_inside e sys os are (suc n) m at in (r.0, subst (λ z. m ≤ z) (sym long) r.1))
 

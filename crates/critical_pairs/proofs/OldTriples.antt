@@ -80,7 +80,10 @@ module _ (e sys : System) (os now : List (Option ℕ)) (are : AreOrigins e sys o
       go : IsEarlierOverlap (triple o) (triple r) → IsEarlierOverlap (triple p) (triple q)
       go (inl less) = inl (lower_now e sys os are p.outer q.outer o.outer r.outer less (outer_origin o p k) (outer_origin r q l))
       go (inr (same, inl before)) =
-          inr (one_number e sys os are p.outer q.outer o.outer r.outer same (outer_origin o p k) (outer_origin r q l), inl (subst₂ IsBefore (sym (with_those o p k).position) (sym (with_those r q l).position) before))
+          inr (
+            one_number e sys os are p.outer q.outer o.outer r.outer same (outer_origin o p k) (outer_origin r q l),
+            inl (subst₂ IsBefore (sym (with_those o p k).position) (sym (with_those r q l).position) before),
+          )
       go (inr (same, inr (there, less))) =
           inr (
             one_number e sys os are p.outer q.outer o.outer r.outer same (outer_origin o p k) (outer_origin r q l),
@@ -92,7 +95,8 @@ module _ (e sys : System) (os now : List (Option ℕ)) (are : AreOrigins e sys o
     Kept = flat_map (renumbered now) known
 
     -- at a place of two old rules
-    module _ (i : ℕ) (p : Position) (j : ℕ) (inner outer : Rule) (part : Term) (place : IsPlace sys i p j inner outer part) (a b : ℕ) (ga : number_at os i ≡ Some a) (gb : number_at os j ≡ Some b) where
+    module _ (i : ℕ) (p : Position) (j : ℕ) (inner outer : Rule) (part : Term) (place : IsPlace sys i p j inner outer part) (a b : ℕ) (ga : number_at os i ≡ Some a)
+        (gb : number_at os j ≡ Some b) where
       was_place : IsPlace e a p b inner outer part
       was_place =
           record {
@@ -120,7 +124,8 @@ module _ (e sys : System) (os now : List (Option ℕ)) (are : AreOrigins e sys o
       found_there : IsOutcomeOf inner.left part clash ⊎ ((q : Overlap) × IsAmong q Kept × (triple q ≡ (i, (p, j))))
       found_there = go (have.are.whole a p b inner outer part was_place tt)
         where
-          go : IsOutcomeOf inner.left part clash ⊎ ((o : Overlap) × IsAmong o known × (triple o ≡ (a, (p, b)))) → IsOutcomeOf inner.left part clash ⊎ ((q : Overlap) × IsAmong q Kept × (triple q ≡ (i, (p, j))))
+          go : IsOutcomeOf inner.left part clash ⊎ ((o : Overlap) × IsAmong o known × (triple o ≡ (a, (p, b))))
+              → IsOutcomeOf inner.left part clash ⊎ ((q : Overlap) × IsAmong q Kept × (triple q ≡ (i, (p, j))))
           go (inl c) = inl c
           go (inr (o, m, t)) = inr (now_there o m t)
 
@@ -129,7 +134,8 @@ module _ (e sys : System) (os now : List (Option ℕ)) (are : AreOrigins e sys o
         record {
           each = λ q m. one q (among_of_flat (renumbered now) known q m);
           sorted = sorted_flat (renumbered now) ComesBefore ComesBefore still_before known (λ o m. one_sorted o (number_at now o.inner) (number_at now o.outer)) have.are.sorted;
-          whole = λ i p j inner outer part place old. (let a = some_is (number_at os i) old.0.0 in let b = some_is (number_at os j) old.0.1 in found_there i p j inner outer part place a.0 b.0 a.1 b.1);
+          whole = λ i p j inner outer part place old. (let a = some_is (number_at os i) old.0.0 in let b = some_is (number_at os j) old.0.1 in
+              found_there i p j inner outer part place a.0 b.0 a.1 b.1);
         }
       where
         one : (q : Overlap) → (o : Overlap) × IsAmong o known × IsAmong q (renumbered now o) → IsOverlapOf sys q × (IsOld os (triple q) × IsAmong (triple q) (all_triples sys))
@@ -186,7 +192,8 @@ module _ (sys : System) (os : List (Option ℕ)) where
         behind o q before e never (inl s) = never s
         behind o q before e never (inr m) = earlier_not_both t (triple o) (before_one IsEarlierOverlap t (triple o) ts order.0 m) (subst (IsEarlierOverlap (triple o)) e before)
 
-        go : {A : Type 0} (qs : List Overlap) → Ahead sys os (t ∷ ts) qs → ((o : Overlap) (rest : List Overlap) → qs ≡ o ∷ rest → triple o ≡ t → ⊥) → A ⊎ ((q : Overlap) × IsAmong q qs × (triple q ≡ t)) → A
+        go : {A : Type 0} (qs : List Overlap) → Ahead sys os (t ∷ ts) qs → ((o : Overlap) (rest : List Overlap) → qs ≡ o ∷ rest → triple o ≡ t → ⊥)
+            → A ⊎ ((q : Overlap) × IsAmong q qs × (triple q ≡ t)) → A
         go qs h none (inl a) = a
         go [] h none (inr (q, m, e)) = absurd m
         go (o ∷ qs) h none (inr (q, inl s, e)) = absurd (none o qs refl (ap triple (sym s) ∙ e))

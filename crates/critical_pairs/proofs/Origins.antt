@@ -13,7 +13,8 @@ above n e (None ∷ os) (r ∷ rs) (suc k) m h g = above n e os rs k m h g
 above n e (Some l ∷ os) (r ∷ rs) zero m (a, s, h) g = let same : l ≡ m = cc in omega (arith, a, same)
 above n e (Some l ∷ os) (r ∷ rs) (suc k) m (a, s, h) g = let b = above l e os rs k m h g in omega (arith, a, b)
 
-same_rule : (n : ℕ) (e : System) (os : List (Option ℕ)) (rs : List Rule) (k m : ℕ) → AreOriginsFrom n e os rs → get_or os k None ≡ Some m → (r : Rule) × (rule_at e m ≡ Some r) × (slice_get rs k ≡ Some r)
+same_rule : (n : ℕ) (e : System) (os : List (Option ℕ)) (rs : List Rule) (k m : ℕ) → AreOriginsFrom n e os rs → get_or os k None ≡ Some m
+    → (r : Rule) × (rule_at e m ≡ Some r) × (slice_get rs k ≡ Some r)
 same_rule n e [] [] k m h g = absurd (cc)
 same_rule n e [] (r ∷ rs) k m h g = absurd h
 same_rule n e (o ∷ os) [] k m h g = absurd h

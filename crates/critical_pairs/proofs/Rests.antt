@@ -58,7 +58,8 @@ module _ (sys : System) (h : IsSystem sys) (c d : Cursor) (i : ℕ) (is : IsCurs
   pub next_there : d.outer ≡ c.outer → d.places ≡ c.places → d.place ≡ c.place → d.candidate ≡ suc c.candidate → DoesPass sys (rest_of sys c) ((i, (s.at.0, c.outer)) ∷ rest_of sys d)
   next_there o ps k n =
       subst (λ z. DoesPass sys (rest_of sys c) ((i, (s.at.0, c.outer)) ∷ z)) (sym same)
-      (on_to_candidate sys h c.outer c.place c.candidate (map place_view c.places.items) s.at s.is_place root (triples_from (length sys.rules) c.outer (drop c.outer sys.rules)) i (s.is_candidate, s.counts))
+      (on_to_candidate sys h c.outer c.place c.candidate (map place_view c.places.items) s.at s.is_place root
+      (triples_from (length sys.rules) c.outer (drop c.outer sys.rules)) i (s.is_candidate, s.counts))
     where
       same : rest_of sys d ≡ rest_of_places sys c.outer (drop c.place (map place_view c.places.items)) (suc c.candidate) ++ triples_from (length sys.rules) c.outer (drop c.outer sys.rules)
       same =
@@ -82,7 +83,8 @@ entered sys c d r is past e n =
     let ends = triples_from (length sys.rules) c.outer (drop c.outer sys.rules) in
     ap (λ z. rest_of_places sys c.outer z c.candidate ++ ends) (drop_all c.place (map place_view c.places.items) (subst (λ z. z ≤ c.place) (sym (length_map c.places.items)) past))
     ∙ (ap (λ z. triples_from (length sys.rules) c.outer z) (drop_at sys.rules c.outer r e)
-    ∙ (ap (λ z. z ++ triples_from (length sys.rules) (suc c.outer) (drop (suc c.outer) sys.rules)) (sym (none_done sys (suc c.outer) (places_of r.left) ∙ places_triples c.outer (length sys.rules) r.left)) ∙ sym there))
+    ∙ (ap (λ z. z ++ triples_from (length sys.rules) (suc c.outer) (drop (suc c.outer) sys.rules))
+    (sym (none_done sys (suc c.outer) (places_of r.left) ∙ places_triples c.outer (length sys.rules) r.left)) ∙ sym there))
   where
     length_map : (ps : List _) → length (map place_view ps) ≡ length ps
     length_map [] = refl
@@ -107,9 +109,11 @@ view_at (y ∷ ys) zero x h e = ap (λ z. Some (place_view z)) (sym e)
 view_at (y ∷ ys) (suc k) x h e = view_at ys k x (omega arith) e
 
 -- within one outer rule
-module _ (sys : System) (h : IsSystem sys) (b c d : Cursor) (is : IsCursor sys b) (o : c.outer ≡ b.outer) (ps : c.places ≡ b.places) (x : Program.Place) (l : c.place < length c.places.items) (e : x ≡ get_or c.places.items c.place x) where
+module _ (sys : System) (h : IsSystem sys) (b c d : Cursor) (is : IsCursor sys b) (o : c.outer ≡ b.outer) (ps : c.places ≡ b.places) (x : Program.Place)
+    (l : c.place < length c.places.items) (e : x ≡ get_or c.places.items c.place x) where
   here_root : IsRootAt sys c.outer (place_view x)
-  here_root = subst (λ z. IsRootAt sys z (place_view x)) (sym o) (is.places (place_view x) (subst (λ z. IsAmong (place_view x) (map place_view z.items)) ps (place_among _ c.place _ (view_at c.places.items c.place x l e))))
+  here_root = subst (λ z. IsRootAt sys z (place_view x)) (sym o)
+      (is.places (place_view x) (subst (λ z. IsAmong (place_view x) (map place_view z.items)) ps (place_among _ c.place _ (view_at c.places.items c.place x l e))))
 
   pub stands_here : (i : ℕ) → CandidateAnswers (rules_with_root sys x.root) x.pos.items c.outer c.candidate (Some i) → StandsBefore sys c i
   stands_here i a =
@@ -120,12 +124,15 @@ module _ (sys : System) (h : IsSystem sys) (b c d : Cursor) (is : IsCursor sys b
         counts = a.1;
       }
 
-  pub past_here : CandidateAnswers (rules_with_root sys x.root) x.pos.items c.outer c.candidate None → d.outer ≡ c.outer → d.places ≡ c.places → d.place ≡ suc c.place → d.candidate ≡ 0 → DoesPass sys (rest_of sys c) (rest_of sys d)
+  pub past_here : CandidateAnswers (rules_with_root sys x.root) x.pos.items c.outer c.candidate None → d.outer ≡ c.outer → d.places ≡ c.places → d.place ≡ suc c.place
+      → d.candidate ≡ 0 → DoesPass sys (rest_of sys c) (rest_of sys d)
   past_here a q qs k n =
       subst (DoesPass sys (rest_of sys c)) (sym (moved q qs k n))
-      (past_place sys h c.outer c.place c.candidate (map place_view c.places.items) (place_view x) (view_at c.places.items c.place x l e) here_root (triples_from (length sys.rules) c.outer (drop c.outer sys.rules)) a)
+      (past_place sys h c.outer c.place c.candidate (map place_view c.places.items) (place_view x) (view_at c.places.items c.place x l e) here_root
+      (triples_from (length sys.rules) c.outer (drop c.outer sys.rules)) a)
     where
-      moved : d.outer ≡ c.outer → d.places ≡ c.places → d.place ≡ suc c.place → d.candidate ≡ 0 → rest_of sys d ≡ rest_of_places sys c.outer (drop (suc c.place) (map place_view c.places.items)) 0 ++ triples_from (length sys.rules) c.outer (drop c.outer sys.rules)
+      moved : d.outer ≡ c.outer → d.places ≡ c.places → d.place ≡ suc c.place → d.candidate ≡ 0
+          → rest_of sys d ≡ rest_of_places sys c.outer (drop (suc c.place) (map place_view c.places.items)) 0 ++ triples_from (length sys.rules) c.outer (drop c.outer sys.rules)
       moved q qs k n =
           ap₂ (λ x y. rest_of_places sys x (drop d.place (map place_view d.places.items)) y ++ triples_from (length sys.rules) x (drop x sys.rules)) q n
           ∙ ap₂ (λ x y. rest_of_places sys c.outer (drop x (map place_view y.items)) 0 ++ triples_from (length sys.rules) c.outer (drop c.outer sys.rules)) k qs

@@ -12,7 +12,8 @@ use Rattle.critical_pairs.specs.Spots.{IsSpotOf, IsRefusedAt, IsRefusal}
 use Rattle.critical_pairs.specs.declared.OverlapError.{OverlapError}
 use Rattle.critical_pairs.specs.declared.OverlapError.TheVariants.{PairTooLarge, TooManyPairs, NoMemory}
 
-module _ (sys : System) (i : ℕ) (p : Position) (j : ℕ) (spot : IsSpotOf sys i p j) (inners outers : List Program.Rule) (are_inners : map rule_view inners ≡ inner_rules sys) (are_outers : map rule_view outers ≡ outer_rules sys) (low high : Program.Rule)
+module _ (sys : System) (i : ℕ) (p : Position) (j : ℕ) (spot : IsSpotOf sys i p j) (inners outers : List Program.Rule) (are_inners : map rule_view inners ≡ inner_rules sys)
+    (are_outers : map rule_view outers ≡ outer_rules sys) (low high : Program.Rule)
     (at_low : low ≡ get_or inners (i - 1) low) (at_high : high ≡ get_or outers (j - 1) high) where
   pub low_renamed : rule_view low ≡ rule_under even spot.inner
   low_renamed = renamed_rule sys (rule_under even) inners i low spot.inner are_inners spot.place.is_inner at_low

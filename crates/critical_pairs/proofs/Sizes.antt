@@ -41,7 +41,8 @@ pub some_is : {A : Type 0} (o : Option A) → IsSome o → (a : A) × (o ≡ Som
 some_is None h = absurd (false≢true h)
 some_is (Some a) h = (a, refl)
 
-pub instances_error : (m : Substitution) (cs : List Cond) (i : ℕ) (c : Cond) (before after : List math.Condition) (e : TermError) → i < length cs → c ≡ get_or cs i c → InstanceAnswers m (condition_view c) (Err e)
+pub instances_error : (m : Substitution) (cs : List Cond) (i : ℕ) (c : Cond) (before after : List math.Condition) (e : TermError) → i < length cs → c ≡ get_or cs i c
+    → InstanceAnswers m (condition_view c) (Err e)
     → InstancesAnswers m (map condition_view cs) before after (Err e)
 instances_error m cs i c before after NoPosition h k a = a
 instances_error m cs i c before after TooLarge h k a = λ f. a (one_fits m cs i c h k f)
@@ -77,5 +78,6 @@ second_error m cs ds before after TooLarge a = λ f. a (fit_right (conditions_un
 second_error m cs ds before after NoMemory a = tt
 
 -- the same conditions
-pub same_conditions : (m : Substitution) (cs ds before after : List math.Condition) (r : Result (Unit {0}) TermError) → ds ≡ cs → InstancesAnswers m ds before after r → InstancesAnswers m cs before after r
+pub same_conditions : (m : Substitution) (cs ds before after : List math.Condition) (r : Result (Unit {0}) TermError) → ds ≡ cs → InstancesAnswers m ds before after r
+    → InstancesAnswers m cs before after r
 same_conditions m cs ds before after r e h = subst (λ z. InstancesAnswers m z before after r) e h

@@ -71,7 +71,8 @@ module _ (sys : System) (i : ℕ) (p : Position) (j : ℕ) (spot : IsSpotOf sys 
   unifier_there b m h e = record { spot = spot; by = b; outcome = outcome_there (unifier b) h; is = e }
 
 -- what the unifier of a run makes of the renamed rules
-module _ (sys : System) (i : ℕ) (p : Position) (j : ℕ) (m : Bindings) (u : IsUnifierAt sys i p j m) (inner outer : Rule) (low : inner ≡ rule_under even u.spot.inner) (high : outer ≡ rule_under odd u.spot.outer) where
+module _ (sys : System) (i : ℕ) (p : Position) (j : ℕ) (m : Bindings) (u : IsUnifierAt sys i p j m) (inner outer : Rule) (low : inner ≡ rule_under even u.spot.inner)
+    (high : outer ≡ rule_under odd u.spot.outer) where
   abbrev R : Rule
   R = u.spot.inner
 
@@ -96,7 +97,8 @@ module _ (sys : System) (i : ℕ) (p : Position) (j : ℕ) (m : Bindings) (u : I
       }
 
   -- an overlap whose pair was made, and fits
-  made_there : (pair : CriticalPair) → IsMade (values_of m) p inner outer pair → DoesPairFit pair → IsOverlapAt sys i p j (record { inner = i; position = p; outer = j; pair = pair; inner_conditions = length inner.conditions })
+  made_there : (pair : CriticalPair) → IsMade (values_of m) p inner outer pair → DoesPairFit pair
+      → IsOverlapAt sys i p j (record { inner = i; position = p; outer = j; pair = pair; inner_conditions = length inner.conditions })
   made_there pair made fit = (
     record {
       inner = R;
@@ -112,7 +114,8 @@ module _ (sys : System) (i : ℕ) (p : Position) (j : ℕ) (m : Bindings) (u : I
     refl,
   )
 
-  pub overlap_there : (o : Made.Overlap) → IsMade (values_of m) p inner outer (overlap_view o).pair → DoesPairFit (overlap_view o).pair → IsNumbered i p j (length inner.conditions) o → IsOverlapAt sys i p j (overlap_view o)
+  pub overlap_there : (o : Made.Overlap) → IsMade (values_of m) p inner outer (overlap_view o).pair → DoesPairFit (overlap_view o).pair
+      → IsNumbered i p j (length inner.conditions) o → IsOverlapAt sys i p j (overlap_view o)
   overlap_there o made fit n =
       subst (IsOverlapAt sys i p j) (sym (same_overlap (overlap_view o).pair n.inner n.position n.outer n.counted)) (made_there (overlap_view o).pair made fit)
 
@@ -166,7 +169,8 @@ length_views : (cs : List Cond) → length (map condition_view cs) ≡ length cs
 length_views [] = refl
 length_views (c ∷ cs) = ap suc (length_views cs)
 
-module _ (sys : System) (h : IsSystem sys) (i : ℕ) (p : Position) (j : ℕ) (spot : IsSpotOf sys i p j) (inner outer : Program.Rule) (low : rule_view inner ≡ rule_under even spot.inner) (high : rule_view outer ≡ rule_under odd spot.outer) where
+module _ (sys : System) (h : IsSystem sys) (i : ℕ) (p : Position) (j : ℕ) (spot : IsSpotOf sys i p j) (inner outer : Program.Rule)
+    (low : rule_view inner ≡ rule_under even spot.inner) (high : rule_view outer ≡ rule_under odd spot.outer) where
   pub inner_fits : Each Fits (terms_of_rule (rule_view inner))
   inner_fits = subst (λ z. Each Fits (terms_of_rule z)) (sym low) (rule_fits even (λ x. (refl, refl)) spot.inner (numbered_rule sys i spot.inner h spot.place.is_inner).fits)
 
@@ -176,5 +180,6 @@ module _ (sys : System) (h : IsSystem sys) (i : ℕ) (p : Position) (j : ℕ) (s
   pub few_conditions : length inner.conds.items < 2 ^ 32
   few_conditions =
       let few = (numbered_rule sys i spot.inner h spot.place.is_inner).few_conditions in
-      let same : length inner.conds.items ≡ length spot.inner.conditions = sym (length_views inner.conds.items) ∙ (ap (λ z. length z.conditions) low ∙ length-conditions_under even spot.inner.conditions) in
+      let same : length inner.conds.items ≡ length spot.inner.conditions = sym (length_views inner.conds.items)
+      ∙ (ap (λ z. length z.conditions) low ∙ length-conditions_under even spot.inner.conditions) in
       omega (arith, few, same)

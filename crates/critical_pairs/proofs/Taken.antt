@@ -17,7 +17,8 @@ use Rattle.critical_pairs.proofs.Whole.{one_last}
 
 -- one more of the earlier list
 pub next_kept : (now : List (Option ℕ)) (kept done : List Made.Overlap) (o : Made.Overlap) → map overlap_view kept ≡ flat_map (renumbered now) (map overlap_view done)
-    → (after : List Made.Overlap) → map overlap_view after ≡ map overlap_view kept ++ renumbered now (overlap_view o) → map overlap_view after ≡ flat_map (renumbered now) (map overlap_view (done ++ o ∷ []))
+    → (after : List Made.Overlap) → map overlap_view after ≡ map overlap_view kept ++ renumbered now (overlap_view o) → map overlap_view after ≡ flat_map (renumbered now)
+    (map overlap_view (done ++ o ∷ []))
 next_kept now kept done o h after e =
     e ∙ (ap (λ z. z ++ renumbered now (overlap_view o)) h
     ∙ (ap (λ z. flat_map (renumbered now) (map overlap_view done) ++ z) (sym (append-nil (renumbered now (overlap_view o))))
@@ -35,7 +36,8 @@ all_kept e sys os now known k are inverse origins made =
     }
 
 -- at an old triple
-module _ (sys : System) (i : ℕ) (p : Position) (j : ℕ) (later : List Triple) (before after : Kept) (same : after.origins ≡ before.origins) (old : IsOld before.origins.now (i, (p, j))) (h : AreKept sys ((i, (p, j)) ∷ later) before) where
+module _ (sys : System) (i : ℕ) (p : Position) (j : ℕ) (later : List Triple) (before after : Kept) (same : after.origins ≡ before.origins)
+    (old : IsOld before.origins.now (i, (p, j))) (h : AreKept sys ((i, (p, j)) ∷ later) before) where
   none_there : ((o : Made.Overlap) (os : List Made.Overlap) → before.overlaps.items ≡ o ∷ os → triple (overlap_view o) ≡ (i, (p, j)) → ⊥) → DoesClash sys (i, (p, j))
   none_there none = next_clashes sys before.origins.now (i, (p, j)) later h.order old (map overlap_view before.overlaps.items) h.overlaps (λ o rest e. first before.overlaps.items none o rest e)
     where
@@ -54,7 +56,8 @@ module _ (sys : System) (i : ℕ) (p : Position) (j : ℕ) (later : List Triple)
         order = h.order.1;
         overlaps =
             subst (λ z. Ahead sys z.now later (map overlap_view after.overlaps.items)) (sym same)
-            (ahead_taken sys before.origins.now (i, (p, j)) later h.order (overlap_view o) (map overlap_view after.overlaps.items) at (subst (λ z. Ahead sys before.origins.now ((i, (p, j)) ∷ later) (map overlap_view z)) is h.overlaps));
+            (ahead_taken sys before.origins.now (i, (p, j)) later h.order (overlap_view o) (map overlap_view after.overlaps.items) at
+            (subst (λ z. Ahead sys before.origins.now ((i, (p, j)) ∷ later) (map overlap_view z)) is h.overlaps));
       }
   kept_behind None (is, none) =
       record {
@@ -62,7 +65,8 @@ module _ (sys : System) (i : ℕ) (p : Position) (j : ℕ) (later : List Triple)
         overlaps =
             subst (λ z. Ahead sys z.now later (map overlap_view after.overlaps.items)) (sym same)
             (subst (λ z. Ahead sys before.origins.now later (map overlap_view z)) (sym is)
-            (ahead_passed sys before.origins.now ((i, (p, j)) ∷ later) later (map overlap_view before.overlaps.items) (pass_one sys ((i, (p, j)) ∷ later) later (i, (p, j)) (pass_none sys ((i, (p, j)) ∷ later)) (none_there none)) h.overlaps));
+            (ahead_passed sys before.origins.now ((i, (p, j)) ∷ later) later (map overlap_view before.overlaps.items)
+            (pass_one sys ((i, (p, j)) ∷ later) later (i, (p, j)) (pass_none sys ((i, (p, j)) ∷ later)) (none_there none)) h.overlaps));
       }
 
 -- at a new one

@@ -37,7 +37,11 @@ pub record Walks (sys : System) (c : Cursor) (k : Kept) (os : List Overlap) : Ty
 
 kept_on : (sys : System) (from to : List Triple) (k : Kept) → DoesPass sys from to → AreKept sys from k → AreKept sys to k
 kept_on sys from to k pass h =
-    record { order = sorted_right IsEarlierOverlap pass.passed to (subst (IsSorted IsEarlierOverlap) pass.split h.order); overlaps = ahead_passed sys k.origins.now from to (map overlap_view k.overlaps.items) pass h.overlaps }
+    record {
+      order = sorted_right IsEarlierOverlap pass.passed to (subst (IsSorted IsEarlierOverlap) pass.split h.order);
+      overlaps = ahead_passed sys k.origins.now from to
+          (map overlap_view k.overlaps.items) pass h.overlaps;
+    }
 
 pub begins : (sys : System) (c : Cursor) (k : Kept) (os : List Overlap) → c.outer ≡ 0 → c.places.items ≡ [] → os ≡ [] → AreKept sys (all_triples sys) k → Walks sys c k os
 begins sys c k os outer places none kept =
@@ -53,7 +57,8 @@ begins sys c k os outer places none kept =
     no_place n = subst (λ z. drop n (map place_view z) ≡ []) (sym places) (drop_all n [] (omega arith))
 
     all : rest_of sys c ≡ all_triples sys
-    all = ap (λ z. rest_of_places sys c.outer z c.candidate ++ triples_from (length sys.rules) c.outer (drop c.outer sys.rules)) (no_place c.place) ∙ ap (λ z. triples_from (length sys.rules) z (drop z sys.rules)) outer
+    all = ap (λ z. rest_of_places sys c.outer z c.candidate ++ triples_from (length sys.rules) c.outer (drop c.outer sys.rules)) (no_place c.place)
+        ∙ ap (λ z. triples_from (length sys.rules) z (drop z sys.rules)) outer
 
 length_more : (os : List Overlap) (q : Overlap) → length (os ++ q ∷ []) ≡ suc (length os)
 length_more [] q = refl
@@ -77,7 +82,8 @@ module _ (sys : System) (h : IsSystem sys) (b c : Cursor) (k : Kept) (os : List 
     same = same_here sys c i s t at
 
     pub on_here : DoesPass sys (rest_of sys b) (here ∷ rest_of sys (next_of c))
-    on_here = pass_more sys (rest_of sys b) (rest_of sys c) (here ∷ rest_of sys (next_of c)) passes (subst (λ z. DoesPass sys (rest_of sys c) (z ∷ rest_of sys (next_of c))) (sym same) (next_there sys h c (next_of c) i is s refl refl refl (add-one c.candidate)))
+    on_here = pass_more sys (rest_of sys b) (rest_of sys c) (here ∷ rest_of sys (next_of c)) passes
+        (subst (λ z. DoesPass sys (rest_of sys c) (z ∷ rest_of sys (next_of c))) (sym same) (next_there sys h c (next_of c) i is s refl refl refl (add-one c.candidate)))
 
     pub kept_here : AreKept sys (here ∷ rest_of sys (next_of c)) k
     kept_here = kept_on sys (rest_of sys b) (here ∷ rest_of sys (next_of c)) k on_here w.kept
@@ -93,18 +99,25 @@ module _ (sys : System) (h : IsSystem sys) (b c : Cursor) (k : Kept) (os : List 
           kept = kept;
         }
 
-    pub past_overlap : (l : Kept) → AreKept sys (rest_of sys (next_of c)) l → (q : Overlap) → IsOverlapOf sys q × (triple q ≡ here) → length os ≢ 20000 → length (os ++ q ∷ []) ≡ suc (length os) → Walks sys (next_of c) l (os ++ q ∷ [])
+    pub past_overlap : (l : Kept) → AreKept sys (rest_of sys (next_of c)) l → (q : Overlap) → IsOverlapOf sys q × (triple q ≡ here) → length os ≢ 20000
+        → length (os ++ q ∷ []) ≡ suc (length os) → Walks sys (next_of c) l (os ++ q ∷ [])
     past_overlap l kept q (overlap, there) few longer =
         record {
           cursor = next_cursor;
           gathered =
               one_more sys (search_at sys b os) os w.gathered (search_at sys (next_of c) (os ++ q ∷ [])) q refl
-              (record { is_overlap = overlap; passes = subst (λ z. DoesPass sys (rest_of sys b) (z ∷ rest_of sys (next_of c))) (sym there) on_here; counted = longer; few = (let all = w.gathered.few in subst (λ z. z ≤ 20000) (sym longer) (omega (arith, all, few))) });
+              (record {
+                is_overlap = overlap;
+                passes = subst (λ z. DoesPass sys (rest_of sys b) (z ∷ rest_of sys (next_of c))) (sym there) on_here;
+                counted = longer;
+                few = (let all = w.gathered.few in subst (λ z. z ≤ 20000) (sym longer) (omega (arith, all, few)));
+              });
           kept = kept;
         }
 
     -- with what the triple gave
-    pub walked_on : (l : Kept) (before after : List Made.Overlap) (r : Option Made.Overlap) → os ≡ map overlap_view before → AreKept sys (rest_of sys (next_of c)) l → SpotAnswers sys t.inner t.pos.now t.outer (Ok r)
+    pub walked_on : (l : Kept) (before after : List Made.Overlap) (r : Option Made.Overlap) → os ≡ map overlap_view before → AreKept sys (rest_of sys (next_of c)) l
+        → SpotAnswers sys t.inner t.pos.now t.outer (Ok r)
         → PutAnswers before r after (Ok tt) → Walks sys (next_of c) l (map overlap_view after)
     walked_on l before after (Some o) e kept spot (is, few) =
         subst (Walks sys (next_of c) l) (sym (ap (map overlap_view) is ∙ (one_last before o ∙ ap (λ z. z ++ overlap_view o ∷ []) (sym e))))

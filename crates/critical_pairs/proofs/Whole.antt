@@ -36,7 +36,14 @@ module _ (sys : System) (s : Search) (os : List Overlap) (g : Gathered sys s os)
   overlap_there o h = subst (λ z. IsOverlapOf z o) g.system h
 
   pub none_more : (t : Search) → t.system ≡ s.system → t.offered ≡ s.offered → DoesPass s.system s.rest t.rest → Gathered sys t os
-  none_more t e n h = record { system = e ∙ g.system; earlier = g.earlier ++ h.passed; split = further t.rest h; those = none_further t.rest h; counted = n ∙ g.counted; few = subst (λ z. z ≤ 20000) (sym n) g.few }
+  none_more t e n h = record {
+    system = e ∙ g.system;
+    earlier = g.earlier ++ h.passed;
+    split = further t.rest h;
+    those = none_further t.rest h;
+    counted = n ∙ g.counted;
+    few = subst (λ z. z ≤ 20000) (sym n) g.few;
+  }
 
   pub one_more : (t : Search) (o : Overlap) → t.system ≡ s.system → IsOffered s t o → Gathered sys t (os ++ o ∷ [])
   one_more t o e h =
@@ -57,14 +64,16 @@ module _ (sys : System) (s : Search) (os : List Overlap) (g : Gathered sys s os)
   all_found t h =
       let all : g.earlier ++ h.passes.passed ≡ all_triples sys = sym (append-nil (g.earlier ++ h.passes.passed)) ∙ sym (further [] h.passes) in
       record {
-        are = overlaps_at sys (λ t. Unit {0}) (all_triples sys) os (order_all sys) (λ t m. tt) (λ i p j inner outer part place u. has_all sys i p j inner outer part place) (subst (λ z. AreThose sys z os) all (none_further [] h.passes));
+        are = overlaps_at sys (λ t. Unit {0}) (all_triples sys) os (order_all sys) (λ t m. tt) (λ i p j inner outer part place u. has_all sys i p j inner outer part place)
+            (subst (λ z. AreThose sys z os) all (none_further [] h.passes));
         few = subst (λ z. z ≤ 20000) g.counted g.few;
       }
 
   found_before : (t : Triple) → IsNext s.system s.rest t → AreOverlapsAt sys (λ u. IsEarlierOverlap u t) os
   found_before t (later, h) =
       let split = further (t ∷ later) h in
-      overlaps_before sys (g.earlier ++ h.passed) later t os (subst AreInOrder split (order_all sys)) (λ a q b inner outer part place. subst (λ z. IsAmong (a, (q, b)) z) split (has_all sys a q b inner outer part place)) (none_further (t ∷ later) h)
+      overlaps_before sys (g.earlier ++ h.passed) later t os (subst AreInOrder split (order_all sys))
+      (λ a q b inner outer part place. subst (λ z. IsAmong (a, (q, b)) z) split (has_all sys a q b inner outer part place)) (none_further (t ∷ later) h)
 
   pub list_refused : (e : OverlapError) → IsRefused s e → OverlapsAnswers sys (Err e)
   list_refused (PairTooLarge i p j) (n, h) =

@@ -93,9 +93,11 @@ pub undetermined_answers : (rule : Rule) (cond : Cond) (i : ℕ) (before : List 
     → o ≡ first_where (λ x. same false (occurs x (view rule.left) || (false || occurs_in x (right_sides (map condition_view before))))) (variable_occurrences (view cond.left))
     → UndeterminedAnswers (rule_view rule) i (condition_view cond) o
 undetermined_answers rule cond i before None e h =
-    all_inside (λ x. occurs x (view rule.left) || (false || occurs_in x (right_sides (map condition_view before)))) (λ y. occurs_in y (known (rule_view rule) i)) (view cond.left) (λ y. known_before rule i before y e) (sym h)
+    all_inside (λ x. occurs x (view rule.left) || (false || occurs_in x (right_sides (map condition_view before)))) (λ y. occurs_in y (known (rule_view rule) i)) (view cond.left)
+    (λ y. known_before rule i before y e) (sym h)
 undetermined_answers rule cond i before (Some x) e h =
-    outside_found (λ x. occurs x (view rule.left) || (false || occurs_in x (right_sides (map condition_view before)))) (λ y. occurs_in y (known (rule_view rule) i)) (view cond.left) x (λ y. known_before rule i before y e) (sym h)
+    outside_found (λ x. occurs x (view rule.left) || (false || occurs_in x (right_sides (map condition_view before)))) (λ y. occurs_in y (known (rule_view rule) i))
+    (view cond.left) x (λ y. known_before rule i before y e) (sym h)
 
 -- what stands before the right side of a condition
 abbrev pub stood : Rule → List Cond → List Cond → ℕ → Bool
@@ -137,5 +139,6 @@ module _ (rule : Rule) (i : ℕ) (first before : List Cond) (is_first : first �
 
   pub none_old : (cond : Cond) → None ≡ first_where (λ y. same true (stood rule first before y)) (variable_occurrences (view cond.right)) → IsFresh (rule_view rule) i (condition_view cond)
   none_old cond e =
-      let h : (x : ℕ) → occurs x (view cond.right) ≡ true → stood rule first before x ≡ false = λ x o. none_found (λ y. same true (stood rule first before y)) (variable_occurrences (view cond.right)) (sym e) x (occurring x (view cond.right) o) in
+      let h : (x : ℕ) → occurs x (view cond.right) ≡ true → stood rule first before x ≡ false = λ x o. none_found (λ y. same true (stood rule first before y))
+      (variable_occurrences (view cond.right)) (sym e) x (occurring x (view cond.right) o) in
       (λ x o k. false≢true (sym (h x o) ∙ old_stands x (inl k)), λ x o k. false≢true (sym (h x o) ∙ old_stands x (inr k)))

@@ -1,5 +1,6 @@
 -- Where variables are numbered as they come, the first that is seen again is the one whose second occurrence comes first.
-use Rattle.std.proofs.Common.{ℕ, zero, suc, ◌≡◌, ◌⊎◌, inl, inr, ◌<◌, ◌≤◌, ◌+◌, ◌^◌, Bool, true, false, nat_eq, nat_lt, if◌then◌else◌, List, [], ◌∷◌, ◌++◌, length, None, Some, refl, sym, ap, ap₂, ◌∙◌, subst, arith, eqb-true}
+use Rattle.std.proofs.Common.{ℕ, zero, suc, ◌≡◌, ◌⊎◌, inl, inr, ◌<◌, ◌≤◌, ◌+◌, ◌^◌, Bool, true, false, nat_eq, nat_lt, if◌then◌else◌, List, [], ◌∷◌, ◌++◌, length, None, Some, refl}
+use Rattle.std.proofs.Common.{sym, ap, ap₂, ◌∙◌, subst, arith, eqb-true}
 use Rattle.std.proofs.lemmas.Bool.{ltb-true, ltb-false}
 use Rattle.std.proofs.lemmas.Bool.Decides.{leb_tells}
 use Rattle.std.proofs.Math.Dec.{leb}
@@ -31,7 +32,8 @@ mutual
   with-leaves_of : (acc : List ℕ) (ts : math.Terms) → with_variables_of acc ts ≡ with_variables_of acc (as_terms (variable_occurrences_of ts))
   with-leaves_of acc nil = refl
   with-leaves_of acc (cons t ts) =
-      with-leaves_of (with_variables acc t) ts ∙ ap (λ a. with_variables_of a (as_terms (variable_occurrences_of ts))) (with-leaves acc t) ∙ sym (with-append acc (variable_occurrences t) (variable_occurrences_of ts))
+      with-leaves_of (with_variables acc t) ts ∙ ap (λ a. with_variables_of a (as_terms (variable_occurrences_of ts))) (with-leaves acc t)
+      ∙ sym (with-append acc (variable_occurrences t) (variable_occurrences_of ts))
 
 -- behind n known variables the list goes on with numbers in order
 abbrev GoesOn : ℕ → List ℕ → Type 0

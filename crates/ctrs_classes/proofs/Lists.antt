@@ -1,5 +1,6 @@
 -- The walks over lists of variables.
-use Rattle.std.proofs.Common.{ℕ, suc, ◌≡◌, ◌+◌, ◌≤◌, ◌-◌, Bool, true, false, ◌||◌, nat_lt, List, [], ◌∷◌, ◌++◌, length, get_or, take, drop, Option, None, Some, refl, sym, ap, ◌∙◌, arith, Result, Ok, Err}
+use Rattle.std.proofs.Common.{ℕ, suc, ◌≡◌, ◌+◌, ◌≤◌, ◌-◌, Bool, true, false, ◌||◌, nat_lt, List, [], ◌∷◌, ◌++◌, length, get_or, take, drop, Option, None, Some, refl, sym, ap, ◌∙◌}
+use Rattle.std.proofs.Common.{arith, Result, Ok, Err}
 use Rattle.std.proofs.lemmas.List.{length-append}
 use Rattle.std.proofs.Math.Bool.{or_assoc}
 use Rattle.term_core.specs.declared.terms.Term.{Term}
@@ -36,7 +37,8 @@ abbrev others : List Term → List ℕ
 others args = variable_occurrences_of (views (take (length args - 1) (drop 1 args)))
 
 module _ (args : List Term) (first : Term) (some : 1 ≤ length args) (is : first ≡ get_or args 0 first) where
-  seen : (n : ℕ) → first_seen n (variable_occurrences_of (views args)) ≡ first_some (first_seen n (variable_occurrences (view first))) (first_seen (n + length (variable_occurrences (view first))) (others args))
+  seen : (n : ℕ) → first_seen n (variable_occurrences_of (views args)) ≡ first_some (first_seen n (variable_occurrences (view first)))
+      (first_seen (n + length (variable_occurrences (view first))) (others args))
   seen n = ap (first_seen n) (leaves_split args first some is) ∙ first_seen-append n (variable_occurrences (view first)) (others args)
 
   pub seen_in_first : (n x : ℕ) → first_seen n (variable_occurrences (view first)) ≡ Some x → first_seen n (variable_occurrences_of (views args)) ≡ Some x
@@ -45,7 +47,8 @@ module _ (args : List Term) (first : Term) (some : 1 ≤ length args) (is : firs
   pub seen_in_rest : (n m : ℕ) (r : Result ℕ ℕ) → SeenAnswers n (variable_occurrences (view first)) (Ok m) → SeenAnswers m (others args) r → SeenAnswers n (variable_occurrences_of (views args)) r
   seen_in_rest n m (Ok k) (e, at) (h, end) = (
     seen n ∙ ap (λ o. first_some o (first_seen (n + length (variable_occurrences (view first))) (others args))) e ∙ ap (λ j. first_seen j (others args)) (sym at) ∙ h,
-    (let size : length (variable_occurrences_of (views args)) ≡ length (variable_occurrences (view first)) + length (others args) = ap length (leaves_split args first some is) ∙ length-append (variable_occurrences (view first)) (others args) in
+    (let size : length (variable_occurrences_of (views args)) ≡ length (variable_occurrences (view first)) + length (others args) = ap length (leaves_split args first some is)
+        ∙ length-append (variable_occurrences (view first)) (others args) in
         omega (arith, at, end, size)),
   )
   seen_in_rest n m (Err x) (e, at) h =
@@ -53,11 +56,14 @@ module _ (args : List Term) (first : Term) (some : 1 ≤ length args) (is : firs
 
   pub where_in_first : (test : ℕ → Bool) (x : ℕ) → Some x ≡ first_where test (variable_occurrences (view first)) → Some x ≡ first_where test (variable_occurrences_of (views args))
   where_in_first test x e =
-      sym (ap (first_where test) (leaves_split args first some is) ∙ first_where-append test (variable_occurrences (view first)) (others args) ∙ ap (λ o. first_some o (first_where test (others args))) (sym e))
+      sym (ap (first_where test) (leaves_split args first some is) ∙ first_where-append test (variable_occurrences (view first)) (others args)
+      ∙ ap (λ o. first_some o (first_where test (others args))) (sym e))
 
-  pub where_in_rest : (test : ℕ → Bool) (o : Option ℕ) → None ≡ first_where test (variable_occurrences (view first)) → o ≡ first_where test (others args) → o ≡ first_where test (variable_occurrences_of (views args))
+  pub where_in_rest : (test : ℕ → Bool) (o : Option ℕ) → None ≡ first_where test (variable_occurrences (view first)) → o ≡ first_where test (others args)
+      → o ≡ first_where test (variable_occurrences_of (views args))
   where_in_rest test o e h =
-      h ∙ sym (ap (first_where test) (leaves_split args first some is) ∙ first_where-append test (variable_occurrences (view first)) (others args) ∙ ap (λ p. first_some p (first_where test (others args))) (sym e))
+      h ∙ sym (ap (first_where test) (leaves_split args first some is) ∙ first_where-append test (variable_occurrences (view first)) (others args)
+      ∙ ap (λ p. first_some p (first_where test (others args))) (sym e))
 
 pub any_append : (test : ℕ → Bool) (xs ys : List ℕ) → any_where test (xs ++ ys) ≡ (any_where test xs || any_where test ys)
 any_append test [] ys = refl

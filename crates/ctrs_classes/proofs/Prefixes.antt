@@ -1,5 +1,6 @@
 -- Conditions one after another.
-use Rattle.std.proofs.Common.{ℕ, zero, suc, ◌≡◌, ◌⊎◌, inl, inr, ◌<◌, ◌≤◌, ◌+◌, Bool, true, false, not, ◌||◌, ◌&&◌, List, [], ◌∷◌, length, get_or, take, drop, map, None, Some, option_map, refl, sym, ap, ap₂, ◌∙◌, subst, arith}
+use Rattle.std.proofs.Common.{ℕ, zero, suc, ◌≡◌, ◌⊎◌, inl, inr, ◌<◌, ◌≤◌, ◌+◌, Bool, true, false, not, ◌||◌, ◌&&◌, List, [], ◌∷◌, length, get_or, take, drop, map, None, Some}
+use Rattle.std.proofs.Common.{option_map, refl, sym, ap, ap₂, ◌∙◌, subst, arith}
 use Rattle.std.proofs.lemmas.Bool.{false≢true, true≢false, or_left, or_right, and_from, and_parts, true_from_ne_false}
 use Rattle.std.proofs.lemmas.Bool.Decides.{leb_tells}
 use Rattle.std.proofs.lemmas.Option.{slice_get-get_or, slice_get-map, slice_get_past}
@@ -22,19 +23,22 @@ use Rattle.rewriting.proofs.Prefixes.{in_range}
 use Rattle.ctrs_classes.proofs.Firsts.{outside_found, all_inside, everywhere, stood, known_before}
 
 -- of type 3, or not
-pub type3_found : (rule : Rule) (asked known : List Cond) (x : ℕ) → asked ≡ rule.conds.items → known ≡ rule.conds.items → Some x ≡ first_where (λ y. same false (stood rule asked known y)) (variable_occurrences (view rule.right))
+pub type3_found : (rule : Rule) (asked known : List Cond) (x : ℕ) → asked ≡ rule.conds.items → known ≡ rule.conds.items
+    → Some x ≡ first_where (λ y. same false (stood rule asked known y)) (variable_occurrences (view rule.right))
     → IsFirstVariable (λ y. occurs_in y (cons (view rule.left) (sides (map condition_view rule.conds.items))) ≡ false) (view rule.right) x
 type3_found rule asked known x a k e =
     outside_found (stood rule asked known) (λ y. occurs_in y (cons (view rule.left) (sides (map condition_view rule.conds.items)))) (view rule.right) x
     (λ y. rw (a, k) (everywhere (view rule.left) (map condition_view rule.conds.items) y)) (sym e)
 
-pub type3_within : (rule : Rule) (asked known : List Cond) → asked ≡ rule.conds.items → known ≡ rule.conds.items → None ≡ first_where (λ y. same false (stood rule asked known y)) (variable_occurrences (view rule.right))
+pub type3_within : (rule : Rule) (asked known : List Cond) → asked ≡ rule.conds.items → known ≡ rule.conds.items
+    → None ≡ first_where (λ y. same false (stood rule asked known y)) (variable_occurrences (view rule.right))
     → IsWithin (view rule.right) (cons (view rule.left) (sides (map condition_view rule.conds.items)))
 type3_within rule asked known a k e =
     all_inside (stood rule asked known) (λ y. occurs_in y (cons (view rule.left) (sides (map condition_view rule.conds.items)))) (view rule.right)
     (λ y. rw (a, k) (everywhere (view rule.left) (map condition_view rule.conds.items) y)) (sym e)
 
-pub cond_at : (rule : Rule) (items : List Cond) (i : ℕ) (c : Cond) → items ≡ rule.conds.items → i < length items → c ≡ get_or items i c → IsAt (map condition_view rule.conds.items) i (condition_view c)
+pub cond_at : (rule : Rule) (items : List Cond) (i : ℕ) (c : Cond) → items ≡ rule.conds.items → i < length items → c ≡ get_or items i c
+    → IsAt (map condition_view rule.conds.items) i (condition_view c)
 cond_at rule items i c value low is =
     let there : slice_get items i ≡ Some c = slice_get-get_or items i c low ∙ ap Some (sym is) in
     subst (λ us. slice_get (map condition_view us) i ≡ Some (condition_view c)) value (slice_get-map condition_view items i ∙ ap (option_map condition_view) there)
@@ -86,7 +90,8 @@ sides_found : (x : ℕ) (cs : List Condition) → occurs_in x (sides cs) ≡ tru
 sides_found x [] e = absurd (false≢true e)
 sides_found x (c ∷ cs) e =
     or_cases (occurs x c.left) (occurs x c.right || occurs_in x (sides cs)) e (λ h. (0, c, refl, or_left _ _ h))
-    (λ h. or_cases (occurs x c.right) (occurs_in x (sides cs)) h (λ k. (0, c, refl, or_right (occurs x c.left) _ (or_left (occurs x c.right) false k))) (λ k. let r = sides_found x cs k in (suc r.0, r.1, r.2, r.3)))
+    (λ h. or_cases (occurs x c.right) (occurs_in x (sides cs)) h (λ k. (0, c, refl, or_right (occurs x c.left) _ (or_left (occurs x c.right) false k)))
+    (λ k. let r = sides_found x cs k in (suc r.0, r.1, r.2, r.3)))
 
 found_from : (x m : ℕ) (cs : List Condition) → occurs_in x (sides (drop m cs)) ≡ true → (j : ℕ) × (c : Condition) × (m ≤ j) × IsAt cs j c × (occurs_in x (cons c.left (cons c.right nil)) ≡ true)
 found_from x zero cs e = let r = sides_found x cs e in (r.0, r.1, omega arith, r.2, r.3)
@@ -177,7 +182,8 @@ stops_here rule items i c x value low here before f =
       before = before;
       next = λ d at within.
           let same : d ≡ condition_view c = cc in
-          false≢true (sym f.here ∙ subst (λ (z : Condition). IsWithin z.left (known (rule_view rule) i)) same within x (first_occurs (λ y. occurs_in y (known (rule_view rule) i) ≡ false) (view c.left) x f));
+          false≢true (sym f.here ∙ subst (λ (z : Condition). IsWithin z.left (known (rule_view rule) i)) same within x
+          (first_occurs (λ y. occurs_in y (known (rule_view rule) i) ≡ false) (view c.left) x f));
     }
 
 pub goes_through : (rule : Rule) (items : List Cond) (i n : ℕ) → items ≡ rule.conds.items → length items ≤ i → i ≤ length items

@@ -15,7 +15,8 @@ module _ (sys : System) (hyps : List Condition) where
   pub run_begins : (t : math.Term) (d : Derivation) → Running 1 t d t d
   run_begins t d = record { ends = λ u h. h; fails = λ path reason h. h }
 
-  pub run_goes_on : (n : ℕ) (t : math.Term) (s : Step) (rest : Derivation) (start : math.Term) (whole : Derivation) (u : math.Term) → Running n t (first_step s rest) start whole → StepsTo sys hyps t s u
+  pub run_goes_on : (n : ℕ) (t : math.Term) (s : Step) (rest : Derivation) (start : math.Term) (whole : Derivation) (u : math.Term)
+      → Running n t (first_step s rest) start whole → StepsTo sys hyps t s u
       → Running (suc n) u rest start whole
   run_goes_on n t s rest start whole u r h = record { ends = λ w k. r.ends w (u, h, k); fails = λ path reason k. r.fails path reason (inr (u, h, k)) }
 
@@ -34,7 +35,8 @@ module _ (sys : System) (hyps : List Condition) where
     pub met : (e : Bindings) → AreMet sys hyps b cs ds e → AreMet sys hyps start all whole e
     pub fails : (path : List ℕ) (reason : StepReason) → FailFrom sys hyps n b cs ds path reason → FailFrom sys hyps 1 start all whole path reason
 
-  pub meeting_goes_on : (n : ℕ) (b : Bindings) (c : Condition) (cs : List Condition) (d : Derivation) (ds : Derivations) (start : Bindings) (all : List Condition) (whole : Derivations) (after : Bindings)
+  pub meeting_goes_on : (n : ℕ) (b : Bindings) (c : Condition) (cs : List Condition) (d : Derivation) (ds : Derivations) (start : Bindings) (all : List Condition)
+      (whole : Derivations) (after : Bindings)
       → Meeting n b (c ∷ cs) (first_derivation d ds) start all whole → Fulfils d b c after → Meeting (suc n) after cs ds start all whole
   meeting_goes_on n b c cs d ds start all whole after m h = record { met = λ e k. m.met e (after, h, k); fails = λ path reason k. m.fails path reason (inr (after, h, k)) }
 

@@ -51,7 +51,8 @@ module _ (cs : List Cond) (ds : List Derivation) (k : ℕ) (c : Cond) (d : Deriv
   module _ (sys : System) (hyps : List Condition) (b start : Bindings) (all : List Condition) (whole : plain.Derivations)
       (m : Meeting sys hyps (k + 1) b (map condition_view (drop k cs)) (derivations_of (map derivation_view (drop k ds))) start all whole) where
     opened_meeting :
-        Meeting sys hyps (k + 1) b (condition_view c ∷ map condition_view (drop (k + 1) cs)) (first_derivation (derivation_view d) (derivations_of (map derivation_view (drop (k + 1) ds)))) start all whole
+        Meeting sys hyps (k + 1) b (condition_view c ∷ map condition_view (drop (k + 1) cs))
+        (first_derivation (derivation_view d) (derivations_of (map derivation_view (drop (k + 1) ds)))) start all whole
     opened_meeting = subst₂ (λ x y. Meeting sys hyps (k + 1) b x y start all whole) conditions_open derivations_open m
 
     pub next_meeting : (after : Bindings) → Fulfils sys hyps (derivation_view d) b (condition_view c) after
@@ -59,8 +60,10 @@ module _ (cs : List Cond) (ds : List Derivation) (k : ℕ) (c : Cond) (d : Deriv
     next_meeting after h =
         let next : suc (k + 1) ≡ k + 1 + 1 = omega arith in
         subst (λ n. Meeting sys hyps n after (map condition_view (drop (k + 1) cs)) (derivations_of (map derivation_view (drop (k + 1) ds))) start all whole) next
-        (meeting_goes_on sys hyps (k + 1) b (condition_view c) (map condition_view (drop (k + 1) cs)) (derivation_view d) (derivations_of (map derivation_view (drop (k + 1) ds))) start all whole after opened_meeting h)
+        (meeting_goes_on sys hyps (k + 1) b (condition_view c) (map condition_view (drop (k + 1) cs)) (derivation_view d) (derivations_of (map derivation_view (drop (k + 1) ds)))
+        start all whole after opened_meeting h)
 
     pub failing_condition : (path : List ℕ) (reason : StepReason) → Misses sys hyps (derivation_view d) b (condition_view c) path reason → FailFrom sys hyps 1 start all whole ((k + 1) ∷ path) reason
     failing_condition path reason h =
-        meeting_fails sys hyps (k + 1) b (condition_view c) (map condition_view (drop (k + 1) cs)) (derivation_view d) (derivations_of (map derivation_view (drop (k + 1) ds))) start all whole path reason opened_meeting h
+        meeting_fails sys hyps (k + 1) b (condition_view c) (map condition_view (drop (k + 1) cs)) (derivation_view d) (derivations_of (map derivation_view (drop (k + 1) ds)))
+        start all whole path reason opened_meeting h

@@ -6,8 +6,10 @@ use Rattle.std.proofs.Math.Bool.{and-false}
 use Rattle.general_lemmas.proofs.Options.{bound}
 use Rattle.file_text.specs.declared.ConditionType.TheVariants.{Oriented, Join}
 use Rattle.file_text.specs.Syntax.{Name, Phrase, word, RuleTree}
-use Rattle.file_text.specs.Grammar.{Word, id, left_paren, right_paren, comma, bar, arrow, equal, id_at, Block, condition_type, variables, rules, title, spelled_block, spelled_blocks, spelled_rules, has_block}
-use Rattle.file_text.proofs.Machine.{Last, want, first, bare, done, Opens, Part, left, right, condition_left, condition_right, Reading, reading, no_rule, next_part, behind_side, step_term, whole, closing, State, outside, behind_bracket, behind_type, in_variables, in_rules, titled, rules_or}
+use Rattle.file_text.specs.Grammar.{Word, id, left_paren, right_paren, comma, bar, arrow, equal, id_at, Block, condition_type, variables, rules, title, spelled_block}
+use Rattle.file_text.specs.Grammar.{spelled_blocks, spelled_rules, has_block}
+use Rattle.file_text.proofs.Machine.{Last, want, first, bare, done, Opens, Part, left, right, condition_left, condition_right, Reading, reading, no_rule, next_part, behind_side}
+use Rattle.file_text.proofs.Machine.{step_term, whole, closing, State, outside, behind_bracket, behind_type, in_variables, in_rules, titled, rules_or}
 use Rattle.file_text.proofs.TermRuns.{term_run}
 use Rattle.file_text.proofs.RuleRuns.{rules_accepted}
 use Rattle.file_text.proofs.Goes.{taken, goes_one, goes, goes_then, goes_step}
@@ -50,14 +52,16 @@ rules_go k bs at (w ∷ ws) s r e =
     let h = bound (λ (t : Reading). term_run t ws) (step_term s.rules s.part s.opens s.last w) r e in
     goes_step k (in_rules bs at s) (in_rules bs at h.0) w ws (rules_step k bs at s h.0 w h.1) ∙ rules_go k bs at ws h.0 r h.2
 
-rules_end : (k : Bool) (bs : List Block) (at : ℕ) (s : Reading) (rs : List RuleTree) → whole s.rules s.part s.opens s.last ≡ Some rs → goes k (in_rules bs at s) (right_paren ∷ []) ≡ Some (outside (bs ++ rules at rs ∷ []))
+rules_end : (k : Bool) (bs : List Block) (at : ℕ) (s : Reading) (rs : List RuleTree) → whole s.rules s.part s.opens s.last ≡ Some rs
+    → goes k (in_rules bs at s) (right_paren ∷ []) ≡ Some (outside (bs ++ rules at rs ∷ []))
 rules_end k bs at s rs e =
     goes_step k (in_rules bs at s) (outside (bs ++ rules at rs ∷ [])) right_paren []
     (ap (λ (m : Option (List RuleTree)). taken (rules_or bs at m (step_term s.rules s.part s.opens s.last right_paren))) e)
 
 -- ---- variables
 
-names_go : (k : Bool) (bs : List Block) (at : ℕ) (names others : List Name) → goes k (in_variables bs at names) (map (λ n. id n) others ++ right_paren ∷ []) ≡ Some (outside (bs ++ variables at (names ++ others) ∷ []))
+names_go : (k : Bool) (bs : List Block) (at : ℕ) (names others : List Name)
+    → goes k (in_variables bs at names) (map (λ n. id n) others ++ right_paren ∷ []) ≡ Some (outside (bs ++ variables at (names ++ others) ∷ []))
 names_go k bs at names [] = ap (λ (ns : List Name). Some (outside (bs ++ variables at ns ∷ []))) (sym (append-nil names))
 names_go k bs at names (n ∷ ns) = names_go k bs at (names ++ n ∷ []) ns ∙ ap (λ (ns : List Name). Some (outside (bs ++ variables at ns ∷ []))) (append_assoc names (n ∷ []) ns)
 

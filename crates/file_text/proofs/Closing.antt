@@ -3,8 +3,10 @@ use Rattle.std.proofs.Common.{◌≡◌, ℕ, List, [], ◌∷◌, ◌++◌, map
 use Rattle.std.proofs.lemmas.List.{append-nil}
 use Rattle.file_text.specs.declared.ConditionType.TheVariants.{Oriented}
 use Rattle.file_text.specs.Syntax.{Name, Phrase, word, call, none, with_last, ConditionTree, RuleTree}
-use Rattle.file_text.specs.Grammar.{Word, id, left_paren, right_paren, arrow, equal, spelled, spelled_rule, spelled_rules, id_at, type_text, Block, condition_type, variables, rules, spelled_block, spelled_blocks}
-use Rattle.file_text.proofs.Machine.{Last, want, first, bare, done, Opens, Part, left, right, condition_left, condition_right, Reading, guard_with, ended, State, outside, behind_bracket, behind_type, behind_type_word, in_variables, in_rules}
+use Rattle.file_text.specs.Grammar.{Word, id, left_paren, right_paren, arrow, equal, spelled, spelled_rule, spelled_rules, id_at, type_text, Block, condition_type, variables}
+use Rattle.file_text.specs.Grammar.{rules, spelled_block, spelled_blocks}
+use Rattle.file_text.proofs.Machine.{Last, want, first, bare, done, Opens, Part, left, right, condition_left, condition_right, Reading, guard_with, ended, State, outside}
+use Rattle.file_text.proofs.Machine.{behind_bracket, behind_type, behind_type_word, in_variables, in_rules}
 use Rattle.file_text.proofs.ReadingWords.{commaed, begun, open_words, last_words, part_words, reading_words, arguments-last, rules-last, ended_reads}
 
 -- the words of the blocks so far
@@ -117,5 +119,6 @@ state_closes (in_rules bs at r) =
       inner.0 ++ right_paren ∷ [],
       bs ++ rules at inner.1 ∷ [],
       block_closes bs (left_paren ∷ id_at at (codes "RULES") ∷ reading_words r) _ (rules at inner.1)
-          (ap (λ (ws : List Word). left_paren ∷ id_at at (codes "RULES") ∷ ws) (sym (append_assoc (reading_words r) inner.0 (right_paren ∷ [])) ∙ ap (λ (ws : List Word). ws ++ right_paren ∷ []) inner.2)),
+          (ap (λ (ws : List Word). left_paren ∷ id_at at (codes "RULES") ∷ ws) (sym (append_assoc (reading_words r) inner.0 (right_paren ∷ []))
+          ∙ ap (λ (ws : List Word). ws ++ right_paren ∷ []) inner.2)),
     )

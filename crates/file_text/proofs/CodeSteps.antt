@@ -30,7 +30,8 @@ pub state_start : (bytes : List ℕ) (ts : List Token) → state_at bytes ts 0 �
 state_start bytes ts = refl
 
 -- a token is taken
-pub state_next : (bytes : List ℕ) (ts : List Token) (n : ℕ) (t : Token) (s u : State) → state_at bytes ts n ≡ Ok s → slice_get ts n ≡ Some t → step s (word_of bytes t) ≡ Ok u → state_at bytes ts (n + 1) ≡ Ok u
+pub state_next : (bytes : List ℕ) (ts : List Token) (n : ℕ) (t : Token) (s u : State) → state_at bytes ts n ≡ Ok s → slice_get ts n ≡ Some t → step s (word_of bytes t) ≡ Ok u
+    → state_at bytes ts (n + 1) ≡ Ok u
 state_next bytes ts n t s u e got is =
     let h = around (words_of bytes ts) n (word_of bytes t) (word_at bytes ts n t got) in
     let number : n + 1 ≡ suc n = omega arith in
@@ -39,7 +40,8 @@ state_next bytes ts n t s u e got is =
     (goes_then true (take n (words_of bytes ts)) (word_of bytes t ∷ []) (outside []) s (state_of bytes ts n s e) ∙ goes_one_end true (word_of bytes t) s u (step_goes s u (word_of bytes t) is))
 
 -- a token is refused
-pub state_refused : (bytes : List ℕ) (ts : List Token) (n : ℕ) (t : Token) (s : State) (c : SyntaxCause) → state_at bytes ts n ≡ Ok s → slice_get ts n ≡ Some t → step s (word_of bytes t) ≡ Err c → read_file (words_of bytes ts) ≡ Err (c, n)
+pub state_refused : (bytes : List ℕ) (ts : List Token) (n : ℕ) (t : Token) (s : State) (c : SyntaxCause) → state_at bytes ts n ≡ Ok s → slice_get ts n ≡ Some t
+    → step s (word_of bytes t) ≡ Err c → read_file (words_of bytes ts) ≡ Err (c, n)
 state_refused bytes ts n t s c e got is =
     let ws = words_of bytes ts in
     let h = around ws n (word_of bytes t) (word_at bytes ts n t got) in

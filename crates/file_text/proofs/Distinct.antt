@@ -8,7 +8,8 @@ use Rattle.file_text.specs.declared.ConditionType.TheVariants.{Oriented, Join}
 use Rattle.file_text.specs.Syntax.{Name, RuleTree}
 use Rattle.file_text.specs.Grammar.{Word, id, left_paren, right_paren, Block, condition_type, variables, rules, title, has_block, are_distinct}
 use Rattle.file_text.specs.Refusals.{SyntaxCause, unknown_block, other_condition_type}
-use Rattle.file_text.proofs.Machine.{Reading, no_rule, closing, step_term, State, outside, behind_bracket, behind_type, behind_type_word, in_variables, in_rules, step_outside, titled, step_bracket, step_type, step_type_word, step_variables, rules_or, step_any, repeats}
+use Rattle.file_text.proofs.Machine.{Reading, no_rule, closing, step_term, State, outside, behind_bracket, behind_type, behind_type_word, in_variables, in_rules, step_outside}
+use Rattle.file_text.proofs.Machine.{titled, step_bracket, step_type, step_type_word, step_variables, rules_or, step_any, repeats}
 use Rattle.file_text.proofs.Goes.{taken, goes, goes_word}
 use Rattle.file_text.proofs.StateReads.{made, made_is, one_or, one_of}
 use Rattle.file_text.proofs.BlockRuns.{AreFree}
@@ -73,7 +74,8 @@ ended_new bs b t e h = made_new (outside (bs ++ b ∷ [])) t e (distinct_push bs
 
 title_new : (bs : List Block) (name : Name) (t : State) → titled bs name ≡ Ok t → are_distinct bs ≡ true → has_block bs name.text ≡ false → IsNew t
 title_new bs name t e d free =
-    one_of (bytes_eq name.text (codes "CONDITIONTYPE")) (behind_type bs name.at) (one_or (bytes_eq name.text (codes "VAR")) (in_variables bs name.at []) (one_or (bytes_eq name.text (codes "RULES")) (in_rules bs name.at no_rule) (Err unknown_block))) t e
+    one_of (bytes_eq name.text (codes "CONDITIONTYPE")) (behind_type bs name.at)
+    (one_or (bytes_eq name.text (codes "VAR")) (in_variables bs name.at []) (one_or (bytes_eq name.text (codes "RULES")) (in_rules bs name.at no_rule) (Err unknown_block))) t e
     (λ is h. made_new (behind_type bs name.at) t h (begun (codes "CONDITIONTYPE") is))
     (λ e. one_of (bytes_eq name.text (codes "VAR")) (in_variables bs name.at []) (one_or (bytes_eq name.text (codes "RULES")) (in_rules bs name.at no_rule) (Err unknown_block)) t e
     (λ is h. made_new (in_variables bs name.at []) t h (begun (codes "VAR") is))

@@ -6,7 +6,8 @@ use Rattle.file_text.specs.declared.ConditionType.{ConditionType}
 use Rattle.file_text.specs.Syntax.{Name, RuleTree, FileTree}
 use Rattle.file_text.specs.Grammar.{Word, Block, spelled_blocks, are_distinct, type_in, variables_in, rules_in, SpellTree}
 use Rattle.file_text.specs.Refusals.{SyntaxCause}
-use Rattle.file_text.proofs.Machine.{State, outside, behind_bracket, behind_type, behind_type_word, in_variables, in_rules, step_any, repeats, file_or_missing, finish, numbered, run, finished, read_file}
+use Rattle.file_text.proofs.Machine.{State, outside, behind_bracket, behind_type, behind_type_word, in_variables, in_rules, step_any, repeats, file_or_missing, finish, numbered}
+use Rattle.file_text.proofs.Machine.{run, finished, read_file}
 use Rattle.file_text.proofs.Closing.{state_words}
 use Rattle.file_text.proofs.Goes.{taken, goes, goes_word, goes_any, run_goes, goes_run}
 use Rattle.file_text.proofs.StateReads.{any_reads}

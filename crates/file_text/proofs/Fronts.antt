@@ -17,7 +17,8 @@ abbrev chosen : Bool → Bool → Bool → Bool → Option Kind → Option Kind
 chosen p q r s k = cond p (Some LeftParen) (cond q (Some RightParen) (cond r (Some Comma) (cond s (Some Bar) k)))
 
 -- a kind of none of the first four
-chosen_last : (p q r s : Bool) (k : Option Kind) (l : Kind) → (Some l ≡ Some LeftParen → ⊥) → (Some l ≡ Some RightParen → ⊥) → (Some l ≡ Some Comma → ⊥) → (Some l ≡ Some Bar → ⊥) → chosen p q r s k ≡ Some l → k ≡ Some l
+chosen_last : (p q r s : Bool) (k : Option Kind) (l : Kind) → (Some l ≡ Some LeftParen → ⊥) → (Some l ≡ Some RightParen → ⊥) → (Some l ≡ Some Comma → ⊥) → (Some l ≡ Some Bar → ⊥)
+    → chosen p q r s k ≡ Some l → k ≡ Some l
 chosen_last true q r s k l a b c d e = absurd (a (sym e))
 chosen_last false true r s k l a b c d e = absurd (b (sym e))
 chosen_last false false true s k l a b c d e = absurd (c (sym e))

@@ -139,7 +139,8 @@ run_stops n (w ∷ ws) s c m e = later (step s w) refl (after_of n s ws (Err (c,
         let number = same.1 in
         record { front = []; refused = w; rest = ws; last = s; split = refl; before = refl; step = is ∙ ap (λ (x : SyntaxCause). Err x) same.0; number = omega arith }
 
-pub stop_run : (n : ℕ) (front : List Word) (w : Word) (rest : List Word) (s t : State) (c : SyntaxCause) → goes true s front ≡ Some t → step t w ≡ Err c → run n s (front ++ w ∷ rest) ≡ Err (c, n + length front)
+pub stop_run : (n : ℕ) (front : List Word) (w : Word) (rest : List Word) (s t : State) (c : SyntaxCause) → goes true s front ≡ Some t → step t w ≡ Err c
+    → run n s (front ++ w ∷ rest) ≡ Err (c, n + length front)
 stop_run n [] w rest s t c e is =
     ap (λ (u : State). numbered n (λ v. run (suc n) v rest) (step u w)) (same_Some s t e) ∙ ap (numbered n (λ v. run (suc n) v rest)) is
     ∙ (let number : n ≡ n + 0 = omega arith in ap (λ (m : ℕ). Err (c, m)) number)

@@ -1,5 +1,6 @@
 -- How the tokens of a text follow from those of its parts, wherever the text stands.
-use Rattle.std.proofs.Common.{◌≡◌, ℕ, suc, ◌+◌, ◌-◌, ◌<◌, ◌≤◌, Bool, true, false, cond, eqb, List, [], ◌∷◌, ◌++◌, map, length, take, drop, slice_range, Some, None, ◌||◌, refl, sym, ap, subst, ◌∙◌, arith}
+use Rattle.std.proofs.Common.{◌≡◌, ℕ, suc, ◌+◌, ◌-◌, ◌<◌, ◌≤◌, Bool, true, false, cond, eqb, List, [], ◌∷◌, ◌++◌, map, length, take, drop, slice_range, Some, None, ◌||◌, refl, sym}
+use Rattle.std.proofs.Common.{ap, subst, ◌∙◌, arith}
 use Rattle.std.specs.Prelude.{codes}
 use Rattle.std.specs.Str.{bytes_eq}
 use Rattle.std.proofs.Math.Seq.{drop-append_seam, take-append_seam}
@@ -176,7 +177,8 @@ other_kind : (count : ℕ) (bytes : List ℕ) (k : Kind) → (Some k ≡ Some Le
 other_kind count bytes k differ kind = false_from_ne_true (is_comment_at count bytes) (λ (h : is_comment_at count bytes ≡ true). differ (sym kind ∙ begins_with_bracket count bytes h))
 
 -- a bracket that begins no comment
-pub reads_left_bracket : (count : ℕ) (rest : List ℕ) (ls : List Lexeme) → is_comment_at count (40 ∷ rest) ≡ false → Reads (count + 1) rest ls → Reads count (40 ∷ rest) (lexeme LeftParen (40 ∷ []) ∷ ls)
+pub reads_left_bracket : (count : ℕ) (rest : List ℕ) (ls : List Lexeme) → is_comment_at count (40 ∷ rest) ≡ false → Reads (count + 1) rest ls
+    → Reads count (40 ∷ rest) (lexeme LeftParen (40 ∷ []) ∷ ls)
 reads_left_bracket count rest ls plain r = reads_token count LeftParen (40 ∷ []) rest ls refl refl (omega arith) plain r
 
 pub reads_right_bracket : (count : ℕ) (rest : List ℕ) (ls : List Lexeme) → Reads (count - 1) rest ls → Reads count (41 ∷ rest) (lexeme RightParen (41 ∷ []) ∷ ls)

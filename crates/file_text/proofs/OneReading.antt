@@ -6,7 +6,8 @@ use Rattle.file_text.specs.declared.Kind.{Kind}
 use Rattle.file_text.specs.declared.Kind.TheVariants.{Id, LeftParen}
 use Rattle.file_text.specs.declared.Token.{Token}
 use Rattle.file_text.specs.Bytes.{run_len, is_comment_word, comment_len, white_len}
-use Rattle.file_text.specs.Tokens.{kind_at, len_at, longest, open_after, is_comment_at, behind_white, Stands, StandsComment, Piece, token, comment, tokens_of, StandInTurn, opened, Spells, IsReached, TokenCause, bad_byte, long_id, open_comment, HasNoTokens}
+use Rattle.file_text.specs.Tokens.{kind_at, len_at, longest, open_after, is_comment_at, behind_white, Stands, StandsComment, Piece, token, comment, tokens_of, StandInTurn, opened}
+use Rattle.file_text.specs.Tokens.{Spells, IsReached, TokenCause, bad_byte, long_id, open_comment, HasNoTokens}
 
 abbrev some : {A : Type 0} → A → Option A
 some x = Some x
@@ -48,7 +49,8 @@ record Stops (bytes : List ℕ) (end : ℕ) (count : ℕ) : Type 0 where
   tokens : (t : Token) → Stands bytes end count t → ⊥
   comments : (to : ℕ) → StandsComment bytes end count to → ⊥
 
-same_end : (bytes : List ℕ) (at count : ℕ) (ps qs : List Piece) (m n : ℕ) → StandInTurn bytes at count ps m → Stops bytes m (opened count ps) → StandInTurn bytes at count qs n → Stops bytes n (opened count qs) → (ps ≡ qs) × (m ≡ n)
+same_end : (bytes : List ℕ) (at count : ℕ) (ps qs : List Piece) (m n : ℕ) → StandInTurn bytes at count ps m → Stops bytes m (opened count ps) → StandInTurn bytes at count qs n
+    → Stops bytes n (opened count qs) → (ps ≡ qs) × (m ≡ n)
 same_end bytes at count [] [] m n l p r q = (refl, sym l ∙ r)
 same_end bytes at count [] (token u ∷ qs) m n l p r q = absurd ((subst (λ (k : ℕ). Stops bytes k count) (sym l) p).tokens u r.0)
 same_end bytes at count [] (comment to ∷ qs) m n l p r q = absurd ((subst (λ (k : ℕ). Stops bytes k count) (sym l) p).comments to r.0)
@@ -81,7 +83,8 @@ long_stops : (bytes : List ℕ) (end count : ℕ) → kind_at (drop (behind_whit
 long_stops bytes end count id long = record {
   tokens = λ t s.
       let kind : t.kind ≡ Id = some_is t.kind Id (sym s.kind ∙ ap (λ (n : ℕ). kind_at (drop n bytes)) s.begins ∙ id) in
-      let len : len_at t.kind (drop t.from bytes) ≡ run_len (drop (behind_white bytes end) bytes) = ap (λ (q : Kind). len_at q (drop t.from bytes)) kind ∙ ap (λ (n : ℕ). run_len (drop n bytes)) s.begins in
+      let len : len_at t.kind (drop t.from bytes) ≡ run_len (drop (behind_white bytes end) bytes) = ap (λ (q : Kind). len_at q (drop t.from bytes)) kind
+      ∙ ap (λ (n : ℕ). run_len (drop n bytes)) s.begins in
       absurd (omega (arith, s.short, len, long));
   comments = λ to s.
       let both : Some LeftParen ≡ Some Id = sym (begins_with_bracket count (drop (behind_white bytes end) bytes) s.begins) ∙ id in
@@ -205,7 +208,8 @@ not_empty (y ∷ xs) x e = absurd cc
 same_tail : (t u : Token) (ts us : List Token) → t ∷ ts ≡ u ∷ us → ts ≡ us
 same_tail t u ts us e = cc
 
-stops_whole : (bytes : List ℕ) (at count : ℕ) (ps qs : List Piece) (m n : ℕ) (t : Token) → StandInTurn bytes at count ps m → Stops bytes m (opened count ps) → StandInTurn bytes at count qs n → tokens_of qs ≡ tokens_of ps ++ t ∷ [] → ⊥
+stops_whole : (bytes : List ℕ) (at count : ℕ) (ps qs : List Piece) (m n : ℕ) (t : Token) → StandInTurn bytes at count ps m → Stops bytes m (opened count ps)
+    → StandInTurn bytes at count qs n → tokens_of qs ≡ tokens_of ps ++ t ∷ [] → ⊥
 stops_whole bytes at count ps [] m n t l p r e = not_empty (tokens_of ps) t (sym e)
 stops_whole bytes at count [] (token u ∷ qs) m n t l p r e = (subst (λ (k : ℕ). Stops bytes k count) (sym l) p).tokens u r.0
 stops_whole bytes at count [] (comment to ∷ qs) m n t l p r e = (subst (λ (k : ℕ). Stops bytes k count) (sym l) p).comments to r.0
@@ -213,7 +217,8 @@ stops_whole bytes at count (token v ∷ ps) (comment to ∷ qs) m n t l p r e = 
 stops_whole bytes at count (comment to ∷ ps) (token u ∷ qs) m n t l p r e = not_both bytes at count to u r.0 l.0
 stops_whole bytes at count (token v ∷ ps) (token u ∷ qs) m n t l p r e =
     let same = same_token bytes at count v u l.0 r.0 in
-    stops_whole bytes v.to (open_after count v.kind) ps qs m n t l.1 p (subst (λ (w : Token). StandInTurn bytes w.to (open_after count w.kind) qs n) (sym same) r.1) (same_tail u v (tokens_of qs) (tokens_of ps ++ t ∷ []) e)
+    stops_whole bytes v.to (open_after count v.kind) ps qs m n t l.1 p (subst (λ (w : Token). StandInTurn bytes w.to (open_after count w.kind) qs n) (sym same) r.1)
+    (same_tail u v (tokens_of qs) (tokens_of ps ++ t ∷ []) e)
 stops_whole bytes at count (comment to ∷ ps) (comment other ∷ qs) m n t l p r e =
     let same = same_comment bytes at count to other l.0 r.0 in
     stops_whole bytes to count ps qs m n t l.1 p (subst (λ (k : ℕ). StandInTurn bytes k count qs n) (sym same) r.1) e

@@ -4,8 +4,10 @@ use Rattle.std.proofs.lemmas.List.{append-nil}
 use Rattle.std.specs.Option.{option_map}
 use Rattle.std.proofs.lemmas.Option.{same_Some}
 use Rattle.file_text.specs.Syntax.{Name, Phrase, Phrases, word, call, none, more, with_last, ConditionTree, RuleTree}
-use Rattle.file_text.specs.Grammar.{Word, id, left_paren, right_paren, comma, bar, arrow, equal, spelled, spelled_arguments, spelled_further, spelled_condition, spelled_others, spelled_guard, spelled_rule, spelled_rules}
-use Rattle.file_text.proofs.Machine.{Last, want, first, bare, done, Opens, Part, left, right, condition_left, condition_right, Reading, reading, with_condition, guard_with, ended, next_part, behind_side, behind_argument, behind, step_term, unbegun, with_ended, whole, closing}
+use Rattle.file_text.specs.Grammar.{Word, id, left_paren, right_paren, comma, bar, arrow, equal, spelled, spelled_arguments, spelled_further, spelled_condition, spelled_others}
+use Rattle.file_text.specs.Grammar.{spelled_guard, spelled_rule, spelled_rules}
+use Rattle.file_text.proofs.Machine.{Last, want, first, bare, done, Opens, Part, left, right, condition_left, condition_right, Reading, reading, with_condition, guard_with, ended}
+use Rattle.file_text.proofs.Machine.{next_part, behind_side, behind_argument, behind, step_term, unbegun, with_ended, whole, closing}
 
 -- terms with a comma behind each
 abbrev pub commaed : Phrases → List Word
@@ -106,13 +108,15 @@ pub map_some : {A B P : Type 0} (f : A → B) (o : Option A) (y : B) → option_
 map_some f None y e k = absurd cc
 map_some f (Some x) y e k = k x refl (same_Some (f x) y e)
 
-sign_reads : (rs : List RuleTree) (p : Part) (t : Phrase) (w : Word) (s : Reading) → option_map (λ q. reading rs q [] want) (next_part p t w) ≡ Some s → reading_words s ≡ with_words rs p (spelled t ++ w ∷ [])
+sign_reads : (rs : List RuleTree) (p : Part) (t : Phrase) (w : Word) (s : Reading) → option_map (λ q. reading rs q [] want) (next_part p t w) ≡ Some s
+    → reading_words s ≡ with_words rs p (spelled t ++ w ∷ [])
 sign_reads rs p t w s e =
     map_some (λ q. reading rs q [] want) (next_part p t w) s e
     (λ q is same. subst (λ (v : Reading). reading_words v ≡ with_words rs p (spelled t ++ w ∷ [])) same
     (ap (λ (v : List Word). spelled_rules rs ++ v) (append-nil (part_words q) ∙ next_reads p t w q is)))
 
-rule_reads : (rs : List RuleTree) (p : Part) (t : Phrase) (f : Name) (s : Reading) → option_map (λ r. reading (rs ++ r ∷ []) left [] (bare f)) (ended p t) ≡ Some s → reading_words s ≡ with_words rs p (spelled t ++ id f ∷ [])
+rule_reads : (rs : List RuleTree) (p : Part) (t : Phrase) (f : Name) (s : Reading) → option_map (λ r. reading (rs ++ r ∷ []) left [] (bare f)) (ended p t) ≡ Some s
+    → reading_words s ≡ with_words rs p (spelled t ++ id f ∷ [])
 rule_reads rs p t f s e =
     map_some (λ r. reading (rs ++ r ∷ []) left [] (bare f)) (ended p t) s e
     (λ r is same. subst (λ (v : Reading). reading_words v ≡ with_words rs p (spelled t ++ id f ∷ [])) same
@@ -142,11 +146,13 @@ argument_reads rs p g ts os t comma s e =
     ∙ ap (λ (v : List Word). with_words rs p (open_words os ++ (id g ∷ left_paren ∷ v))) (commaed-last ts t) ∙ simp append_assoc)
 argument_reads rs p g ts os t _ s e = absurd cc
 
-behind_reads : (rs : List RuleTree) (p : Part) (os : Opens) (t : Phrase) (w : Word) (s : Reading) → behind rs p os t w ≡ Some s → reading_words s ≡ with_words rs p (open_words os ++ (spelled t ++ w ∷ []))
+behind_reads : (rs : List RuleTree) (p : Part) (os : Opens) (t : Phrase) (w : Word) (s : Reading) → behind rs p os t w ≡ Some s
+    → reading_words s ≡ with_words rs p (open_words os ++ (spelled t ++ w ∷ []))
 behind_reads rs p [] t w s e = side_reads rs p t w s e
 behind_reads rs p (o ∷ os) t w s e = argument_reads rs p o.0 o.1 os t w s e
 
-step_reads : (rs : List RuleTree) (p : Part) (os : Opens) (l : Last) (w : Word) (s : Reading) → step_term rs p os l w ≡ Some s → reading_words s ≡ with_words rs p (open_words os ++ (last_words l ++ w ∷ []))
+step_reads : (rs : List RuleTree) (p : Part) (os : Opens) (l : Last) (w : Word) (s : Reading) → step_term rs p os l w ≡ Some s
+    → reading_words s ≡ with_words rs p (open_words os ++ (last_words l ++ w ∷ []))
 step_reads rs p os want (id f) s e = made_reads (reading rs p os (bare f)) s _ e refl
 step_reads rs p os want _ s e = absurd cc
 step_reads rs p os (first g) (id f) s e = made_reads (reading rs p ((g, none) ∷ os) (bare f)) s _ e (ap (with_words rs p) (append_assoc (open_words os) (id g ∷ left_paren ∷ []) (id f ∷ [])))

@@ -5,8 +5,10 @@ use Rattle.file_text.specs.declared.ConditionType.{ConditionType}
 use Rattle.file_text.specs.declared.ConditionType.TheVariants.{Oriented, Join}
 use Rattle.file_text.specs.Syntax.{Name, RuleTree}
 use Rattle.file_text.specs.Grammar.{Word, id, left_paren, right_paren, comma, bar, arrow, equal, id_at, Block, condition_type, variables, rules, title, has_block, spelled_blocks}
-use Rattle.file_text.specs.Refusals.{SyntaxCause, unknown_block, repeated_block, other_condition_type, wrong_syntax, missing_rules, Begins, is_title, IsUnknownBlock, IsRepeatedBlock, IsOtherConditionType, IsWrongSyntax, Calls}
-use Rattle.file_text.proofs.Machine.{Reading, no_rule, closing, step_term, State, outside, behind_bracket, behind_type, behind_type_word, in_variables, in_rules, step_outside, titled, step_bracket, step_type, step_type_word, step_variables, rules_or, step_any, repeats_block, repeats, step}
+use Rattle.file_text.specs.Refusals.{SyntaxCause, unknown_block, repeated_block, other_condition_type, wrong_syntax, missing_rules, Begins, is_title, IsUnknownBlock}
+use Rattle.file_text.specs.Refusals.{IsRepeatedBlock, IsOtherConditionType, IsWrongSyntax, Calls}
+use Rattle.file_text.proofs.Machine.{Reading, no_rule, closing, step_term, State, outside, behind_bracket, behind_type, behind_type_word, in_variables, in_rules, step_outside}
+use Rattle.file_text.proofs.Machine.{titled, step_bracket, step_type, step_type_word, step_variables, rules_or, step_any, repeats_block, repeats, step}
 use Rattle.file_text.proofs.Closing.{state_words, state_closes}
 use Rattle.file_text.proofs.Goes.{goes_one, goes, goes_then, goes_front, goes_word, goes_one_end, goes_any, step_goes}
 use Rattle.file_text.proofs.StateReads.{made}
@@ -75,7 +77,8 @@ pub refuses_unknown : (front : List Word) (w : Word) (s : State) → goes true (
 refuses_unknown front w s e (bs, name, split, is, new) =
     ap (λ (s : State). step s w) (same_state front _ s (behind_bracket bs) e split (bracket_go bs)) ∙ ap (step (behind_bracket bs)) is
     ∙ ap (λ (b : Bool). if b then refuse repeated_block else titled bs name) (has_title bs name.text new)
-    ∙ no_title (bytes_eq name.text (codes "CONDITIONTYPE")) (bytes_eq name.text (codes "VAR")) (bytes_eq name.text (codes "RULES")) (made (behind_type bs name.at)) (made (in_variables bs name.at [])) (made (in_rules bs name.at no_rule))
+    ∙ no_title (bytes_eq name.text (codes "CONDITIONTYPE")) (bytes_eq name.text (codes "VAR")) (bytes_eq name.text (codes "RULES")) (made (behind_type bs name.at))
+    (made (in_variables bs name.at [])) (made (in_rules bs name.at no_rule))
     (refuse unknown_block) new
 
 pub refuses_repeated : (front : List Word) (w : Word) (s : State) → goes true (outside []) front ≡ Some s → IsRepeatedBlock front w → step s w ≡ Err repeated_block
@@ -116,7 +119,8 @@ outside_blames bs (bar at) c e = wrong_blames _ _ c e
 outside_blames bs arrow c e = wrong_blames _ _ c e
 outside_blames bs equal c e = wrong_blames _ _ c e
 
-unknown_of : (a b c : Bool) (x y z : State) (d : SyntaxCause) → (if a then made x else if b then made y else if c then made z else refuse unknown_block) ≡ Err d → (unknown_block ≡ d) × ((a || b || c) ≡ false)
+unknown_of : (a b c : Bool) (x y z : State) (d : SyntaxCause) → (if a then made x else if b then made y else if c then made z else refuse unknown_block) ≡ Err d
+    → (unknown_block ≡ d) × ((a || b || c) ≡ false)
 unknown_of true b c x y z d e = absurd cc
 unknown_of false true c x y z d e = absurd cc
 unknown_of false false true x y z d e = absurd cc
@@ -124,7 +128,8 @@ unknown_of false false false x y z d e = (cause_is unknown_block d e, refl)
 
 title_blames : (bs : List Block) (name : Name) (c : SyntaxCause) → titled bs name ≡ Err c → Blames (spelled_blocks bs ++ left_paren ∷ []) (id name) c
 title_blames bs name c e =
-    let h = unknown_of (bytes_eq name.text (codes "CONDITIONTYPE")) (bytes_eq name.text (codes "VAR")) (bytes_eq name.text (codes "RULES")) (behind_type bs name.at) (in_variables bs name.at []) (in_rules bs name.at no_rule) c e in
+    let h = unknown_of (bytes_eq name.text (codes "CONDITIONTYPE")) (bytes_eq name.text (codes "VAR")) (bytes_eq name.text (codes "RULES")) (behind_type bs name.at)
+    (in_variables bs name.at []) (in_rules bs name.at no_rule) c e in
     subst (Blames (spelled_blocks bs ++ left_paren ∷ []) (id name)) h.0 (bs, name, refl, refl, h.1)
 
 bracket_blames : (bs : List Block) (w : Word) (c : SyntaxCause) → step_bracket bs w ≡ Err c → Blames (spelled_blocks bs ++ left_paren ∷ []) w c

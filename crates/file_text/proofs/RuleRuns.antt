@@ -3,7 +3,8 @@ use Rattle.std.proofs.Common.{◌≡◌, ℕ, List, [], ◌∷◌, ◌++◌, Opt
 use Rattle.std.proofs.lemmas.List.{append-nil}
 use Rattle.std.specs.Option.{option_map}
 use Rattle.file_text.specs.Syntax.{Name, Phrase, word, call, ConditionTree, Guard, RuleTree}
-use Rattle.file_text.specs.Grammar.{Word, id, left_paren, right_paren, comma, bar, arrow, equal, spelled, spelled_arguments, spelled_condition, spelled_others, spelled_guard, spelled_rule, spelled_rules}
+use Rattle.file_text.specs.Grammar.{Word, id, left_paren, right_paren, comma, bar, arrow, equal, spelled, spelled_arguments, spelled_condition, spelled_others, spelled_guard}
+use Rattle.file_text.specs.Grammar.{spelled_rule, spelled_rules}
 use Rattle.file_text.proofs.Machine.{Last, want, first, bare, done, Part, left, right, condition_left, condition_right, Reading, reading, no_rule, guard_with, ended, step_term, with_ended, whole}
 use Rattle.file_text.proofs.TermRuns.{term_run, Ends, behind_step, term_run_then, term_step_then, side_runs}
 
@@ -39,16 +40,19 @@ guard_of-next at [] c d cs = refl
 guard_of-next at (b ∷ bs) c d cs = ap (λ (ds : List ConditionTree). record { at = at; first = b; others = ds }) (append_assoc bs (c ∷ []) (d ∷ cs))
 
 abbrev Others : List RuleTree → Phrase → Phrase → ℕ → List ConditionTree → ConditionTree → List ConditionTree → Type 0
-Others rs l r at before c cs = (last : Last) → Ends last c.right → RuleEnds (reading rs (condition_right l r at before c.left) [] last) (spelled_others cs) rs (rule_of l r (Some (guard_of at before c cs)))
+Others rs l r at before c cs = (last : Last) → Ends last c.right → RuleEnds (reading rs (condition_right l r at before c.left) [] last) (spelled_others cs) rs
+    (rule_of l r (Some (guard_of at before c cs)))
 
 condition_run : (c : ConditionTree) (cs : List ConditionTree) (rs : List RuleTree) (l r : Phrase) (at : ℕ) (before : List ConditionTree) → Others rs l r at before c cs
     → RuleEnds (reading rs (condition_left l r at before) [] want) (spelled_condition c ++ spelled_others cs) rs (rule_of l r (Some (guard_of at before c cs)))
 condition_run c cs rs l r at before others =
     let one = side_runs c.left rs (condition_left l r at before) in
     let two = side_runs c.right rs (condition_right l r at before c.left) in
-    subst (λ (ws : List Word). RuleEnds (reading rs (condition_left l r at before) [] want) ws rs (rule_of l r (Some (guard_of at before c cs)))) (sym (append_assoc (spelled c.left) (equal ∷ spelled c.right) (spelled_others cs)))
+    subst (λ (ws : List Word). RuleEnds (reading rs (condition_left l r at before) [] want) ws rs (rule_of l r (Some (guard_of at before c cs))))
+    (sym (append_assoc (spelled c.left) (equal ∷ spelled c.right) (spelled_others cs)))
     (ends_then _ (reading rs (condition_left l r at before) [] one.0) (spelled c.left) (equal ∷ (spelled c.right ++ spelled_others cs)) rs _ one.1
-    (ends_step _ (reading rs (condition_right l r at before c.left) [] want) equal (spelled c.right ++ spelled_others cs) rs _ (behind_step rs (condition_left l r at before) [] one.0 c.left equal one.2 tt)
+    (ends_step _ (reading rs (condition_right l r at before c.left) [] want) equal (spelled c.right ++ spelled_others cs) rs _
+    (behind_step rs (condition_left l r at before) [] one.0 c.left equal one.2 tt)
     (ends_then _ (reading rs (condition_right l r at before c.left) [] two.0) (spelled c.right) (spelled_others cs) rs _ two.1 (others two.0 two.2))))
 
 others_run : (cs : List ConditionTree) (rs : List RuleTree) (l r : Phrase) (at : ℕ) (before : List ConditionTree) (c : ConditionTree) → Others rs l r at before c cs
@@ -64,13 +68,15 @@ others_run [] rs l r at before c last e =
 others_run (d ∷ cs) rs l r at before c last e =
     ends_step (reading rs (condition_right l r at before c.left) [] last) (reading rs (condition_left l r at (before ++ c ∷ [])) [] want) comma (spelled_condition d ++ spelled_others cs) rs _
     (behind_step rs (condition_right l r at before c.left) [] last c.right comma e tt)
-    (subst (λ (g : Guard). RuleEnds (reading rs (condition_left l r at (before ++ c ∷ [])) [] want) (spelled_condition d ++ spelled_others cs) rs (rule_of l r (Some g))) (guard_of-next at before c d cs)
+    (subst (λ (g : Guard). RuleEnds (reading rs (condition_left l r at (before ++ c ∷ [])) [] want) (spelled_condition d ++ spelled_others cs) rs (rule_of l r (Some g)))
+    (guard_of-next at before c d cs)
     (condition_run d cs rs l r at (before ++ c ∷ []) (λ end ends. others_run cs rs l r at (before ++ c ∷ []) d end ends)))
 
 guard_run : (g : Option Guard) (rs : List RuleTree) (l r : Phrase) (last : Last) → Ends last r → RuleEnds (reading rs (right l) [] last) (spelled_guard g) rs (rule_of l r g)
 guard_run None rs l r last e = record { part = right l; last = last; term = r; runs = refl; is_last = e; rule = refl }
 guard_run (Some g) rs l r last e =
-    ends_step (reading rs (right l) [] last) (reading rs (condition_left l r g.at []) [] want) (bar g.at) (spelled_condition g.first ++ spelled_others g.others) rs _ (behind_step rs (right l) [] last r (bar g.at) e tt)
+    ends_step (reading rs (right l) [] last) (reading rs (condition_left l r g.at []) [] want) (bar g.at) (spelled_condition g.first ++ spelled_others g.others) rs _
+    (behind_step rs (right l) [] last r (bar g.at) e tt)
     (condition_run g.first g.others rs l r g.at [] (λ end ends. others_run g.others rs l r g.at [] g.first end ends))
 
 rule_runs : (r : RuleTree) (rs : List RuleTree) → RuleEnds (reading rs left [] want) (spelled_rule r) rs r

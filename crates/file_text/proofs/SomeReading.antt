@@ -1,12 +1,14 @@
 -- Each text has tokens or a bad place.
-use Rattle.std.proofs.Common.{◌≡◌, ◌⊎◌, ℕ, zero, suc, ◌+◌, ◌<◌, ◌≤◌, Bool, true, false, cond, eqb, leb, List, [], ◌∷◌, length, drop, Option, Some, None, option_map, refl, ap, subst, ◌∙◌, inl, inr, arith}
+use Rattle.std.proofs.Common.{◌≡◌, ◌⊎◌, ℕ, zero, suc, ◌+◌, ◌<◌, ◌≤◌, Bool, true, false, cond, eqb, leb, List, [], ◌∷◌, length, drop, Option, Some, None, option_map, refl, ap}
+use Rattle.std.proofs.Common.{subst, ◌∙◌, inl, inr, arith}
 use Rattle.std.proofs.lemmas.List.{length-drop}
 use Rattle.std.proofs.lemmas.Bool.{eqb-true, eqb-false, leb-true, leb-false}
 use Rattle.file_text.specs.declared.Kind.{Kind}
 use Rattle.file_text.specs.declared.Kind.TheVariants.{Id, LeftParen, RightParen, Comma, Bar, Arrow, Equal}
 use Rattle.file_text.specs.declared.Token.{Token}
 use Rattle.file_text.specs.Bytes.{is_white, white_len, count_after, closing_len, comment_len}
-use Rattle.file_text.specs.Tokens.{kind_at, len_at, longest, open_after, is_comment_at, behind_white, Stands, StandsComment, Piece, token, comment, tokens_of, StandInTurn, opened, Spells, IsReached, TokenCause, bad_byte, long_id, open_comment, HasNoTokens}
+use Rattle.file_text.specs.Tokens.{kind_at, len_at, longest, open_after, is_comment_at, behind_white, Stands, StandsComment, Piece, token, comment, tokens_of, StandInTurn, opened}
+use Rattle.file_text.specs.Tokens.{Spells, IsReached, TokenCause, bad_byte, long_id, open_comment, HasNoTokens}
 use Rattle.file_text.proofs.OneReading.{Last}
 use Rattle.file_text.proofs.Fronts.{kind_fits}
 
@@ -81,7 +83,8 @@ token_front bytes at count le plain k e false long =
     let id = long_is_id k left lt in
     stops (Some long_id) (behind_white bytes at) (e ∙ ap (λ (j : Kind). Some j) id, subst (λ (j : Kind). longest < len_at j left) id lt, refl)
 
-no_kind_front : (bytes : List ℕ) (at count : ℕ) → behind_white bytes at ≤ length bytes → kind_at (drop (behind_white bytes at) bytes) ≡ None → (b : Bool) → eqb (behind_white bytes at) (length bytes) ≡ b → Front bytes at count
+no_kind_front : (bytes : List ℕ) (at count : ℕ) → behind_white bytes at ≤ length bytes → kind_at (drop (behind_white bytes at) bytes) ≡ None → (b : Bool)
+    → eqb (behind_white bytes at) (length bytes) ≡ b → Front bytes at count
 no_kind_front bytes at count le e true end = let whole = eqb-true (behind_white bytes at) (length bytes) end in stops None (behind_white bytes at) (whole, refl)
 no_kind_front bytes at count le e false end =
     let more = eqb-false (behind_white bytes at) (length bytes) end in

@@ -7,7 +7,8 @@ use Rattle.file_text.specs.declared.ConditionType.TheVariants.{Oriented, Join}
 use Rattle.file_text.specs.Syntax.{Name, RuleTree}
 use Rattle.file_text.specs.Grammar.{Word, id, left_paren, right_paren, id_at, type_text, Block, condition_type, variables, rules, spelled_blocks}
 use Rattle.file_text.specs.Refusals.{SyntaxCause, unknown_block, other_condition_type}
-use Rattle.file_text.proofs.Machine.{Reading, no_rule, closing, step_term, State, outside, behind_bracket, behind_type, behind_type_word, in_variables, in_rules, step_outside, titled, step_bracket, step_type, step_type_word, step_variables, rules_go_on, rules_or, step_rules, step_any}
+use Rattle.file_text.proofs.Machine.{Reading, no_rule, closing, step_term, State, outside, behind_bracket, behind_type, behind_type_word, in_variables, in_rules, step_outside}
+use Rattle.file_text.proofs.Machine.{titled, step_bracket, step_type, step_type_word, step_variables, rules_go_on, rules_or, step_rules, step_any}
 use Rattle.file_text.proofs.ReadingWords.{reading_words, term_reads, closing_reads}
 use Rattle.file_text.proofs.Closing.{state_words, blocks-last}
 
@@ -34,7 +35,8 @@ one_of false s r t e f g = g e
 
 title_reads : (bs : List Block) (name : Name) (t : State) → titled bs name ≡ Ok t → state_words t ≡ spelled_blocks bs ++ left_paren ∷ id name ∷ []
 title_reads bs name t e =
-    one_of (bytes_eq name.text (codes "CONDITIONTYPE")) (behind_type bs name.at) (one_or (bytes_eq name.text (codes "VAR")) (in_variables bs name.at []) (one_or (bytes_eq name.text (codes "RULES")) (in_rules bs name.at no_rule) (Err unknown_block))) t e
+    one_of (bytes_eq name.text (codes "CONDITIONTYPE")) (behind_type bs name.at)
+    (one_or (bytes_eq name.text (codes "VAR")) (in_variables bs name.at []) (one_or (bytes_eq name.text (codes "RULES")) (in_rules bs name.at no_rule) (Err unknown_block))) t e
     (λ is h. made_reads (behind_type bs name.at) t _ h (word (codes "CONDITIONTYPE") is))
     (λ e. one_of (bytes_eq name.text (codes "VAR")) (in_variables bs name.at []) (one_or (bytes_eq name.text (codes "RULES")) (in_rules bs name.at no_rule) (Err unknown_block)) t e
     (λ is h. made_reads (in_variables bs name.at []) t _ h (word (codes "VAR") is))
@@ -75,14 +77,17 @@ type_word_reads bs at place kind _ t e = absurd cc
 variables_read : (bs : List Block) (at : ℕ) (names : List Name) (w : Word) (t : State) → step_variables bs at names w ≡ Ok t
     → state_words t ≡ spelled_blocks bs ++ left_paren ∷ id_at at (codes "VAR") ∷ (map (λ n. id n) names ++ w ∷ [])
 variables_read bs at names (id name) t e =
-    made_reads (in_variables bs at (names ++ name ∷ [])) t _ e (ap (λ (ws : List Word). spelled_blocks bs ++ left_paren ∷ id_at at (codes "VAR") ∷ ws) (map-append (λ (n : Name). id n) names (name ∷ [])))
+    made_reads (in_variables bs at (names ++ name ∷ [])) t _ e (ap (λ (ws : List Word). spelled_blocks bs ++ left_paren ∷ id_at at (codes "VAR") ∷ ws)
+    (map-append (λ (n : Name). id n) names (name ∷ [])))
 variables_read bs at names right_paren t e = made_reads (outside (bs ++ variables at names ∷ [])) t _ e (blocks-last bs (variables at names))
 variables_read bs at names _ t e = absurd cc
 
-rules_read : (bs : List Block) (at : ℕ) (r : Reading) (w : Word) (t : State) → step_rules bs at r w ≡ Ok t → state_words t ≡ spelled_blocks bs ++ left_paren ∷ id_at at (codes "RULES") ∷ (reading_words r ++ w ∷ [])
+rules_read : (bs : List Block) (at : ℕ) (r : Reading) (w : Word) (t : State) → step_rules bs at r w ≡ Ok t
+    → state_words t ≡ spelled_blocks bs ++ left_paren ∷ id_at at (codes "RULES") ∷ (reading_words r ++ w ∷ [])
 rules_read bs at r w t e = ends (closing r w) refl e
   where
-    on : (m : Option Reading) → step_term r.rules r.part r.opens r.last w ≡ m → rules_go_on bs at m ≡ Ok t → state_words t ≡ spelled_blocks bs ++ left_paren ∷ id_at at (codes "RULES") ∷ (reading_words r ++ w ∷ [])
+    on : (m : Option Reading) → step_term r.rules r.part r.opens r.last w ≡ m → rules_go_on bs at m ≡ Ok t
+        → state_words t ≡ spelled_blocks bs ++ left_paren ∷ id_at at (codes "RULES") ∷ (reading_words r ++ w ∷ [])
     on None is e = absurd cc
     on (Some q) is e = made_reads (in_rules bs at q) t _ e (ap (λ (ws : List Word). spelled_blocks bs ++ left_paren ∷ id_at at (codes "RULES") ∷ ws) (term_reads r w q is))
 

@@ -63,7 +63,8 @@ joined-last none u us = refl
 joined-last (more t ts) u us = ap (more t) (joined-last ts u us)
 
 -- behind a bracket the first argument is read as one behind a comma
-first_runs : (t : Phrase) (z : List Word) (rs : List RuleTree) (p : Part) (os : Opens) (g : Name) → term_run (reading rs p os (first g)) (spelled t ++ z) ≡ term_run (reading rs p ((g, none) ∷ os) want) (spelled t ++ z)
+first_runs : (t : Phrase) (z : List Word) (rs : List RuleTree) (p : Part) (os : Opens) (g : Name)
+    → term_run (reading rs p os (first g)) (spelled t ++ z) ≡ term_run (reading rs p ((g, none) ∷ os) want) (spelled t ++ z)
 first_runs (word f) z rs p os g = refl
 first_runs (call f ts) z rs p os g = refl
 
@@ -72,7 +73,8 @@ mutual
   term_runs (word f) rs p os = (bare f, refl, refl)
   term_runs (call f ts) rs p os = (done (call f ts), arguments_run ts rs p f os, refl)
 
-  arguments_run : (ts : Phrases) (rs : List RuleTree) (p : Part) (f : Name) (os : Opens) → term_run (reading rs p os (first f)) (spelled_arguments ts ++ right_paren ∷ []) ≡ Some (reading rs p os (done (call f ts)))
+  arguments_run : (ts : Phrases) (rs : List RuleTree) (p : Part) (f : Name) (os : Opens)
+      → term_run (reading rs p os (first f)) (spelled_arguments ts ++ right_paren ∷ []) ≡ Some (reading rs p os (done (call f ts)))
   arguments_run none rs p f os = refl
   arguments_run (more t ts) rs p f os =
       let one = term_runs t rs p ((f, none) ∷ os) in

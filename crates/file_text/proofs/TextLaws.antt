@@ -23,14 +23,16 @@ one_refusal_of bytes cause other at place p q =
 
 pub never_tree_and_refusal : (bytes : List ℕ) (file : FileTree) (cause : SyntaxCause) (at : ℕ) → IsText bytes file → IsNoText bytes cause at → ⊥
 never_tree_and_refusal bytes file cause at p q =
-    never_refused (words_of bytes q.tokens) file cause q.number (subst (λ (ts : List Token). SpellTree (words_of bytes ts) file) (one_list bytes p.tokens q.tokens p.spelled q.spelled) p.whole) q.refused
+    never_refused (words_of bytes q.tokens) file cause q.number
+    (subst (λ (ts : List Token). SpellTree (words_of bytes ts) file) (one_list bytes p.tokens q.tokens p.spelled q.spelled) p.whole) q.refused
 
 -- ---- what the reader says of the text
 
 pub text_read : (bytes : List ℕ) (ts : List Token) (file : FileTree) → Spells bytes ts → read_file (words_of bytes ts) ≡ Ok file → IsText bytes file
 text_read bytes ts file s e = record { tokens = ts; spelled = s; whole = file_sound (words_of bytes ts) file e }
 
-pub text_refused : (bytes : List ℕ) (ts : List Token) (cause : SyntaxCause) (number : ℕ) → Spells bytes ts → read_file (words_of bytes ts) ≡ Err (cause, number) → IsNoText bytes cause (place_of_token bytes ts number)
+pub text_refused : (bytes : List ℕ) (ts : List Token) (cause : SyntaxCause) (number : ℕ) → Spells bytes ts → read_file (words_of bytes ts) ≡ Err (cause, number)
+    → IsNoText bytes cause (place_of_token bytes ts number)
 text_refused bytes ts cause number s e = record { tokens = ts; spelled = s; number = number; refused = refused_sound (words_of bytes ts) cause number e; place = refl }
 
 pub tree_or_refusal : (bytes : List ℕ) (ts : List Token) → Spells bytes ts → ((file : FileTree) × IsText bytes file) ⊎ ((cause : SyntaxCause) × (at : ℕ) × IsNoText bytes cause at)

@@ -1,7 +1,8 @@
 -- What holds of each identifier and of the place of each bar in the words of a tree holds of those in the tree.
 use Rattle.std.proofs.Common.{◌≡◌, ℕ, List, [], ◌∷◌, ◌++◌, Option, None, Some, subst}
 use Rattle.file_text.specs.Syntax.{Name, Phrase, Phrases, word, call, none, more, ConditionTree, Guard, RuleTree, FileTree}
-use Rattle.file_text.specs.Grammar.{Word, id, left_paren, right_paren, comma, bar, arrow, equal, spelled, spelled_arguments, spelled_further, spelled_condition, spelled_others, spelled_guard, spelled_rule, spelled_rules, Block, condition_type, variables, rules, spelled_block, spelled_blocks, rules_in, SpellTree}
+use Rattle.file_text.specs.Grammar.{Word, id, left_paren, right_paren, comma, bar, arrow, equal, spelled, spelled_arguments, spelled_further, spelled_condition, spelled_others}
+use Rattle.file_text.specs.Grammar.{spelled_guard, spelled_rule, spelled_rules, Block, condition_type, variables, rules, spelled_block, spelled_blocks, rules_in, SpellTree}
 
 module _ (P : Name → Type 0) (Q : ℕ → Type 0) where
   abbrev pub OfWord : Word → Type 0

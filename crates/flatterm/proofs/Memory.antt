@@ -77,7 +77,10 @@ node_fits z p x is = ((ptr_val z.0 ∷ [], (mir.Val.vbool z.1 ∷ [], (ptr_val p
 
 -- a cell still fits with another end
 pub body_with : (e : Ptr) (x : Body) → BodyFits x → BodyFits (record { end = e; cell = x.cell })
-body_with e x is = ((ptr_val e ∷ [], (B-laws.the_laws.1.0.low x.cell ∷ [], tt)), (refl, (refl, (subst (λ (vs : List Val). Is (option_row Cell-type.the_row) x.cell vs) (B-laws.the_laws.1.0.low-is x.cell is.0.1.0 is.1.1.1.0) is.1.1.1.0, tt))))
+body_with e x is = (
+  (ptr_val e ∷ [], (B-laws.the_laws.1.0.low x.cell ∷ [], tt)),
+  (refl, (refl, (subst (λ (vs : List Val). Is (option_row Cell-type.the_row) x.cell vs) (B-laws.the_laws.1.0.low-is x.cell is.0.1.0 is.1.1.1.0) is.1.1.1.0, tt))),
+)
 
 -- a cell still fits with other neighbours
 pub refit : (z : Next) (p : Ptr) (w : Next) (q : Ptr) (x : Body) → Fits (node z p x) → Fits (node w q x)
@@ -127,14 +130,17 @@ module _ {M : Type 1} {𝓤 : Ura M} {𝓛 : Logic 𝓤} {K : Type 0} {Γ : List
 
   -- a first and a last cell, those between, and those behind
   pub enclosed_opens : K → (a : Global) (p : Ptr) (c : Ptr × Body) (inner : List (Ptr × Body)) (l : Ptr × Body) (ys : List (Ptr × Body)) (z : Next)
-      → Step K 𝓛 (‵ (lone_owns a c.0 (node (follow inner (l.0, false)) p c.1)) ∷ ‵ (lone_owns a l.0 (node (follow ys z) (last_from c.0 inner) l.1)) ∷ ‵ (chain a c.0 inner (l.0, false)) ∷ ‵ (chain a l.0 ys z) ∷ Γ) G
+      → Step K 𝓛 (‵ (lone_owns a c.0 (node (follow inner (l.0, false)) p c.1)) ∷ ‵ (lone_owns a l.0 (node (follow ys z) (last_from c.0 inner) l.1))
+      ∷ ‵ (chain a c.0 inner (l.0, false)) ∷ ‵ (chain a l.0 ys z) ∷ Γ) G
       (‵ (chain a p (c ∷ (inner ++ l ∷ ys)) z) ∷ Γ) G
   enclosed_opens t a p c inner l ys z = step (λ s. fsplit t $ rewrite t 0 (λ (n : Next). ‵ (lone_owns a c.0 (node n p c.1))) (follow_app inner (l ∷ ys) z) refl $ move t (1 ∷ []) $
-      use1 𝓛 (‵ (chain a c.0 inner (l.0, false)) ⊛ ‵ (chain a (last_from c.0 inner) (l ∷ ys) z)) (chain_cut 𝓛 a c.0 inner (l ∷ ys) z) $ split t $ move t (1 ∷ []) $ fsplit t $ move t (3 ∷ 0 ∷ 2 ∷ 1 ∷ []) $ s)
+      use1 𝓛 (‵ (chain a c.0 inner (l.0, false)) ⊛ ‵ (chain a (last_from c.0 inner) (l ∷ ys) z)) (chain_cut 𝓛 a c.0 inner (l ∷ ys) z) $ split t $ move t
+      (1 ∷ []) $ fsplit t $ move t (3 ∷ 0 ∷ 2 ∷ 1 ∷ []) $ s)
 
   pub enclosed_closes : K → (a : Global) (p : Ptr) (c : Ptr × Body) (inner : List (Ptr × Body)) (l : Ptr × Body) (ys : List (Ptr × Body)) (z : Next)
       → Step K 𝓛 (‵ (chain a p (c ∷ (inner ++ l ∷ ys)) z) ∷ Γ) G
-      (‵ (lone_owns a c.0 (node (follow inner (l.0, false)) p c.1)) ∷ ‵ (lone_owns a l.0 (node (follow ys z) (last_from c.0 inner) l.1)) ∷ ‵ (chain a c.0 inner (l.0, false)) ∷ ‵ (chain a l.0 ys z) ∷ Γ) G
+      (‵ (lone_owns a c.0 (node (follow inner (l.0, false)) p c.1)) ∷ ‵ (lone_owns a l.0 (node (follow ys z) (last_from c.0 inner) l.1))
+      ∷ ‵ (chain a c.0 inner (l.0, false)) ∷ ‵ (chain a l.0 ys z) ∷ Γ) G
   enclosed_closes t a p c inner l ys z = step (λ s. move t (1 ∷ 3 ∷ []) $ fjoin t $ move t (2 ∷ 0 ∷ []) $
       use2 𝓛 (‵ (chain a c.0 (inner ++ l ∷ ys) z)) (chain_glue 𝓛 a c.0 inner (l ∷ ys) z) $ move t (1 ∷ 0 ∷ []) $
       rewrite t 0 (λ (n : Next). ‵ (lone_owns a c.0 (node n p c.1))) (sym (follow_app inner (l ∷ ys) z)) refl $ fjoin t $ s)
@@ -162,7 +168,8 @@ Owned d = chain d.alloc d.before d.items (d.after, true)
 module _ {M : Type 1} {𝓤 : Ura M} {𝓛 : Logic 𝓤} {K : Type 0} {Γ : List (Item 𝓤)} {G : Goal 𝓤 𝓛.H} where
   -- [the cells; the struct's cell; its open borrow, in three]
   pub chain_opens : K → Soaks G → {κ : Lft} {q : Share} {γ : GName} (d : Chain) (rb ro : ℕ)
-      → (HeapFits d.alloc → Seq K 𝓛 (‵ (Owned d) ∷ ‵ (cell_at full_share Ch.mir (words d) rb ro) ∷ ‵ (fobor κ q (Borrowed (mem Ch) rb ro γ)) ∷ ‵ (fobs γ (Ch.coded.code d)) ∷ ‵ (fauth γ (Ch.coded.code d)) ∷ Γ) G)
+      → (HeapFits d.alloc → Seq K 𝓛 (‵ (Owned d) ∷ ‵ (cell_at full_share Ch.mir (words d) rb ro) ∷ ‵ (fobor κ q (Borrowed (mem Ch) rb ro γ)) ∷ ‵ (fobs γ (Ch.coded.code d))
+      ∷ ‵ (fauth γ (Ch.coded.code d)) ∷ Γ) G)
       → Seq K 𝓛 (‵ (fobs γ (Ch.coded.code d)) ∷ ‵ (fbor κ (Borrowed (mem Ch) rb ro γ)) ∷ ‵ (flft κ q) ∷ Γ) G
   chain_opens t z d rb ro k = opens t z Ch {h = d} rb ro (λ us. move t (1 ∷ []) $ peeks t Ch (Is Ch) (shows 𝓛 Ch) d us (λ is. fsplit t $ drop t $ move t (0 ∷ []) $
       rewrite t 1 (λ (ws : List Val). ‵ (cell_at full_share Ch.mir ws rb ro)) (C-laws.lowers.val_is d us is) refl $
@@ -238,7 +245,8 @@ module _ {M : Type 1} {𝓤 : Ura M} {𝓛 : Logic 𝓤} {K : Type 0} {Γ : List
 
   -- a cell behind a `&` is opened, and shut
   pub cell_in : K → Soaks G → {κ : Lft} {q : Share} (n : Node) (b at : ℕ)
-      → ((part : Share) → Fits n → Seq K 𝓛 (‵ (fat part (raw (lone N.mir)) b at (N-laws.lowered n)) ∷ Shut 𝓛 κ q (part_at N part n b at) ∷ Γ) G) → Seq K 𝓛 (‵ (hidden_shr N κ n b at) ∷ ‵ (flft κ q) ∷ Γ) G
+      → ((part : Share) → Fits n → Seq K 𝓛 (‵ (fat part (raw (lone N.mir)) b at (N-laws.lowered n)) ∷ Shut 𝓛 κ q (part_at N part n b at) ∷ Γ) G)
+      → Seq K 𝓛 (‵ (hidden_shr N κ n b at) ∷ ‵ (flft κ q) ∷ Γ) G
   cell_in t z n b at k =
       looks t z N (N-laws.the_row_copy.copied M 𝓤 𝓛).opens n b at (λ part vs. move t (1 ∷ []) $ facts t N (Is N) (shows 𝓛 N) n vs (λ is. let e = N-laws.lowers.val_is n vs is in
       rewrite t 0 (λ (us : List Val). ‵ (cell_at part N.mir us b at)) e refl $ move t (2 ∷ []) $ drop t $ k part (subst (λ (us : List Val). Is N n us) e is)))

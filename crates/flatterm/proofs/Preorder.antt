@@ -60,7 +60,8 @@ place_behind_subterm cs i j p h w size =
     let long : length xs ≡ j = omega (arith, length-append w.front (c ∷ u.inner), w.long, size, ap length u.middle, length-append u.inner (ends u.q u.e ∷ [])) in
     let at : place_in cs j ≡ length (cells xs) = sym (λ k. place_in (sym whole k) (long k)) ∙ place_front xs (ends u.q u.e ∷ w.back) in
     let parts : length (cells xs) ≡ length (cells w.front) + length (cells (c ∷ u.inner)) = ap length (cells_app w.front (c ∷ u.inner)) ∙ length-append (cells w.front) (cells (c ∷ u.inner)) in
-    let tree : cells (c ∷ u.inner) ≡ preorder w.tree = sym (append-nil (cells (c ∷ u.inner))) ∙ sym (cells_app (c ∷ u.inner) (ends u.q u.e ∷ [])) ∙ ap cells (sym u.middle) ∙ laid_cells w.tree w.middle w.laid in
+    let tree : cells (c ∷ u.inner) ≡ preorder w.tree = sym (append-nil (cells (c ∷ u.inner))) ∙ sym (cells_app (c ∷ u.inner) (ends u.q u.e ∷ [])) ∙ ap cells (sym u.middle)
+    ∙ laid_cells w.tree w.middle w.laid in
     let front : length (cells w.front) ≡ place_in cs i = (subterm_stands cs i w).long in
     omega (arith, at, parts, ap length tree, front)
 

@@ -76,7 +76,8 @@ rests_at_start cs w = let o = enclosed_of w.0 cs w.1 in subst (λ ds. Rests ds 0
     start p q e x (c ∷ cs) = (x, refl)
 
 -- a first cell is not the last
-cell_not_last : (p : Ptr) (xs : Items) (l : Ptr × Body) (z : Next) (i : ℕ) (n : Node) (x : Cell) → l.1.cell ≡ None → IsNodeAt p (xs ++ l ∷ []) z i n → n.body.cell ≡ Some x → i + 1 < length (xs ++ l ∷ [])
+cell_not_last : (p : Ptr) (xs : Items) (l : Ptr × Body) (z : Next) (i : ℕ) (n : Node) (x : Cell) → l.1.cell ≡ None → IsNodeAt p (xs ++ l ∷ []) z i n → n.body.cell ≡ Some x
+    → i + 1 < length (xs ++ l ∷ [])
 cell_not_last p [] l z zero n x e h s = let f : n.body.cell ≡ None = ap (λ (m : Node). m.body.cell) h ∙ e in cc
 cell_not_last p [] l z (suc i) n x e h s = absurd h
 cell_not_last p (c ∷ []) l z zero n x e h s = omega arith

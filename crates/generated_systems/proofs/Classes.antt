@@ -34,7 +34,8 @@ the_one : (c d : Condition) (i : ℕ) → IsAt (c ∷ []) i d → c ≡ d
 the_one c d zero a = cc
 the_one c d (suc i) a = cc
 
-oriented_before : (l r : Term) (c : Condition) → IsWithin c.left (cons l nil) → (i : ℕ) (d : Condition) → i < 1 → IsAt (c ∷ []) i d → IsWithin d.left (known (record { left = l; right = r; conditions = c ∷ [] }) i)
+oriented_before : (l r : Term) (c : Condition) → IsWithin c.left (cons l nil) → (i : ℕ) (d : Condition) → i < 1 → IsAt (c ∷ []) i d
+    → IsWithin d.left (known (record { left = l; right = r; conditions = c ∷ [] }) i)
 oriented_before l r c w zero d b a = subst (λ q. IsWithin q.left (cons l nil)) (the_one c d zero a) w
 oriented_before l r c w (suc i) d b a = absurd (omega (arith, b))
 

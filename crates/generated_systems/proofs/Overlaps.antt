@@ -106,7 +106,8 @@ different_k : (k l i j : ℕ) (inner outer : Rule) → k ≢ l → IsRuleFor k i
 different_k k l i j inner outer never is (is_zero e h) =
     subst (λ u. IsOutcomeOf inner.left u.left clash) h (other_root k i inner (p_symbol l) (cons z nil) is (λ s. never (same_p k l s)) (λ s. p_or_f l k (sym s)) (fits_over_constant (p_symbol l) 1))
 different_k k l i j inner outer never is (is_successor e h) =
-    subst (λ u. IsOutcomeOf inner.left u.left clash) h (other_root k i inner (p_symbol l) (cons (s_of x) nil) is (λ s. never (same_p k l s)) (λ s. p_or_f l k (sym s)) (fits_twice_over (p_symbol l) 3 1))
+    subst (λ u. IsOutcomeOf inner.left u.left clash) h (other_root k i inner (p_symbol l) (cons (s_of x) nil) is (λ s. never (same_p k l s)) (λ s. p_or_f l k (sym s))
+    (fits_twice_over (p_symbol l) 3 1))
 different_k k l i j inner outer never is (is_end e h) =
     subst (λ u. IsOutcomeOf inner.left u.left clash) h (other_root k i inner (f_symbol l) (cons x nil) is (λ s. p_or_f k l s) (λ s. never (omega (arith, s))) (fits_over_variable (f_symbol l) 1))
 different_k k l i j inner outer never is (is_next e h) =
@@ -147,7 +148,8 @@ module _ (n : ℕ) where
   listed : (k i j : ℕ) (p : Position) → k < n → [] ≡ p → 4 * k + 3 ≡ i → 4 * k + 4 ≡ j → Listed i p j
   listed k i j p l e d c = (overlap_for k, among_map overlap_for k (range_with_len 0 n) (row_has 0 n k k (omega arith) l), cc)
 
-  at_root : (i j : ℕ) (p : Position) (inner outer : Rule) (part : Term) → (at : IsNumbered n i inner) → (over : IsNumbered n j outer) → [] ≡ p → outer.left ≡ part → i < j → IsOutcomeOf inner.left part clash ⊎ Listed i p j
+  at_root : (i j : ℕ) (p : Position) (inner outer : Rule) (part : Term) → (at : IsNumbered n i inner) → (over : IsNumbered n j outer) → [] ≡ p → outer.left ≡ part → i < j
+      → IsOutcomeOf inner.left part clash ⊎ Listed i p j
   at_root i j p inner outer part at over e same less = go (ℕ_discrete at.k over.k)
     where
       settled : AtRoot over.k i j inner outer → IsOutcomeOf inner.left part clash ⊎ Listed i p j
@@ -174,9 +176,11 @@ module _ (n : ℕ) where
       go : IsPartAt outer.left p part → IsOutcomeOf inner.left part clash ⊎ Listed i p j
       go (whole_side e same) = at_root i j p inner outer part at over (sym e) same (earlier (sym e) place.counts)
       go (zero_inside same) =
-          inl (subst (λ u. IsOutcomeOf inner.left u clash) same (other_root at.k i inner 1 nil at.is_rule (λ s. no_p at.k 1 (omega arith) (omega arith) (sym s)) (λ s. no_f at.k 1 (omega arith) (sym s)) (fits_constant 1)))
+          inl (subst (λ u. IsOutcomeOf inner.left u clash) same (other_root at.k i inner 1 nil at.is_rule (λ s. no_p at.k 1 (omega arith) (omega arith) (sym s))
+          (λ s. no_f at.k 1 (omega arith) (sym s)) (fits_constant 1)))
       go (successor_inside same) =
-          inl (subst (λ u. IsOutcomeOf inner.left u clash) same (other_root at.k i inner 3 (cons x nil) at.is_rule (λ s. no_p at.k 3 (omega arith) (omega arith) (sym s)) (λ s. no_f at.k 3 (omega arith) (sym s)) (fits_over_variable 3 1)))
+          inl (subst (λ u. IsOutcomeOf inner.left u clash) same (other_root at.k i inner 3 (cons x nil) at.is_rule (λ s. no_p at.k 3 (omega arith) (omega arith) (sym s))
+          (λ s. no_f at.k 3 (omega arith) (sym s)) (fits_over_variable 3 1)))
 
   each : (o : Overlap) → IsAmong o (generated_overlaps n) → IsOverlapOf (generated n) o
   each o m =

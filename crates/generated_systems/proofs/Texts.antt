@@ -66,7 +66,8 @@ heading_length names = word 16 6 (codes "concon 2\nshared ") _ refl (number 0 1 
 text_length : (names : NameTable) (n : ℕ) → n ≤ 20000 → HasAtMost (22 + ((6 + 40 * n) + 4)) (text_over names n [])
 text_length names n few =
     both 22 _ (heading_text second_version names []) _ (heading_length names)
-    (both (6 + 40 * n) 4 _ (codes "end\n") (word 6 _ (codes "ortho\n") _ refl (pairs_length names (by_number (number_in names [])) 0 n (omega (arith, few)))) (word 4 0 (codes "end\n") [] refl nothing))
+    (both (6 + 40 * n) 4 _ (codes "end\n") (word 6 _ (codes "ortho\n") _ refl (pairs_length names (by_number (number_in names [])) 0 n (omega (arith, few))))
+    (word 4 0 (codes "end\n") [] refl nothing))
 
 whole_length : (names : NameTable) (n : ℕ) → n ≤ 20000 → HasAtMost (22 + ((6 + 40 * n) + 4)) (certificate_text second_version names (generated_certificate n))
 whole_length names n few = subst (λ (us : List Automaton). HasAtMost (22 + ((6 + 40 * n) + 4)) (text_over names n us)) (sym (no_uses 0 n)) (text_length names n few)

@@ -11,7 +11,8 @@ use Rattle.rewriting.specs.Prelude.{Term, var, app, Terms, nil, cons, IsVariable
 use Rattle.cops_names.specs.NameTable.{number_of}
 use Rattle.cops_names.specs.NameLists.{is_among}
 use Rattle.cops_names.proofs.Lists.{Extends, extends_refl, extends_trans, extends_position, extends_get}
-use Rattle.cops_read.specs.Meaning.{phrases_of_rule, sides, rule_variables, with_variables, with_all_variables, with_symbols, with_all_symbols, with_rule_symbols, IsSymbolOf, IsTermOf, AreTermsOf, AreConditionsOf, IsRuleOf, AreRulesOf}
+use Rattle.cops_read.specs.Meaning.{phrases_of_rule, sides, rule_variables, with_variables, with_all_variables, with_symbols, with_all_symbols, with_rule_symbols, IsSymbolOf}
+use Rattle.cops_read.specs.Meaning.{IsTermOf, AreTermsOf, AreConditionsOf, IsRuleOf, AreRulesOf}
 use Rattle.cops_read.specs.Uses.{Use, Side, side_of}
 use Rattle.cops_read.specs.Refusals.{MeaningCause, limit_cause, variable_cause, symbol_cause, known_symbol_cause, arity_in, first_or, cause_at}
 use Rattle.cops_read.specs.Steps.{nodes, all_nodes, use_at, term_refusal, terms_refusal}
@@ -69,7 +70,8 @@ module _ (block : Names) (whole : Table) (few : length whole < 1000) where
         let here = slice_get-get_or table g ([], 0) inside in
         let there = extends_get table whole g (get_or table g ([], 0)) e here in
         let arity = s.2 in
-        ap (arity_in table) h ∙ ap (option_map (λ (s : List ℕ × ℕ). s.1)) here ∙ sym (ap (option_map (λ (s : List ℕ × ℕ). s.1)) there) ∙ ap (λ (i : ℕ). option_map (λ (s : List ℕ × ℕ). s.1) (slice_get whole i)) same ∙ arity
+        ap (arity_in table) h ∙ ap (option_map (λ (s : List ℕ × ℕ). s.1)) here ∙ sym (ap (option_map (λ (s : List ℕ × ℕ). s.1)) there)
+        ∙ ap (λ (i : ℕ). option_map (λ (s : List ℕ × ℕ). s.1) (slice_get whole i)) same ∙ arity
 
     symbol_passes : symbol_cause table u ≡ None
     symbol_passes = by (number_of table name) refl
@@ -81,7 +83,8 @@ module _ (block : Names) (whole : Table) (few : length whole < 1000) where
   variable_passes : (names : Names) (u : Use) → u.spot.node.brackets ≡ false → (u.side.is_left && (u.spot.depth == 1)) ≡ false → length names < 100 → variable_cause names u ≡ None
   variable_passes names u b l h = rw (b, l, and_right (not (is_among names u.spot.node.name.text)) (nat_le 100 (length names)) (lt-leb 100 (length names) h)) refl
 
-  cause_of_variable : (table : Table) (names : Names) (u : Use) → limit_cause u ≡ None → is_among block u.spot.node.name.text ≡ true → variable_cause names u ≡ None → cause_at block table names u ≡ None
+  cause_of_variable : (table : Table) (names : Names) (u : Use) → limit_cause u ≡ None → is_among block u.spot.node.name.text ≡ true → variable_cause names u ≡ None
+      → cause_at block table names u ≡ None
   cause_of_variable table names u l b v = rw (l, b) v
 
   cause_of_symbol : (table : Table) (names : Names) (u : Use) → limit_cause u ≡ None → is_among block u.spot.node.name.text ≡ false → symbol_cause table u ≡ None → cause_at block table names u ≡ None
@@ -137,7 +140,8 @@ module _ (block : Names) (whole : Table) (few : length whole < 1000) where
         term_passes vars few_vars (side_of number condition is_left) below c table names 1 0 0 p t e v h (omega arith) (omega arith) (omega arith) (omega arith)
         (λ i. let l = left i in rw l refl)
 
-    conditions_pass : (table : Table) (names : Names) (k : ℕ) (cs : List ConditionTree) (ds : List Condition) → Extends (with_all_symbols block table (sides cs)) whole → Extends (with_all_variables block names (sides cs)) vars
+    conditions_pass : (table : Table) (names : Names) (k : ℕ) (cs : List ConditionTree) (ds : List Condition) → Extends (with_all_symbols block table (sides cs)) whole
+        → Extends (with_all_variables block names (sides cs)) vars
         → AreConditionsOf block whole vars cs ds → AreFew cs → k + length cs ≤ 21 → conditions_refusal block table names number k cs ≡ None
     conditions_pass table names k [] ds e v h f l = refl
     conditions_pass table names k (c ∷ cs) [] e v h f l = absurd h
@@ -155,24 +159,29 @@ module _ (block : Names) (whole : Table) (few : length whole < 1000) where
   bar_passes None = refl
   bar_passes (Some g) = refl
 
-  rule_passes : (table : Table) (number : ℕ) (tree : RuleTree) (r : Rule) → Extends (with_all_symbols block table (phrases_of_rule tree)) whole → IsRuleOf block whole tree r → IsFew block tree r → number ≤ 1000
+  rule_passes : (table : Table) (number : ℕ) (tree : RuleTree) (r : Rule) → Extends (with_all_symbols block table (phrases_of_rule tree)) whole → IsRuleOf block whole tree r
+      → IsFew block tree r → number ≤ 1000
       → rule_refusal block true table number tree ≡ None
   rule_passes table number tree r e h f n =
       let vars = rule_variables block tree in
       let cs = conditions_of tree in
       let whole_row : Extends vars vars = extends_refl vars in
       let e2 = extends_trans _ _ _ (all_symbols_extend block (with_symbols block (with_symbols block table tree.left) tree.right) (sides cs)) e in
-      let v2 : Extends (with_variables block (with_variables block [] tree.left) tree.right) vars = all_variables_extend block (with_variables block (with_variables block [] tree.left) tree.right) (sides cs) in
+      let v2 : Extends (with_variables block (with_variables block [] tree.left) tree.right) vars = all_variables_extend block
+      (with_variables block (with_variables block [] tree.left) tree.right) (sides cs) in
       both_pass _ _
       (side_passes vars f.few_variables number n table [] 0 true tree.left r.left (extends_trans _ _ _ (symbols_extend block (with_symbols block table tree.left) tree.right) e2)
       (extends_trans _ _ _ (variables_extend block (with_variables block [] tree.left) tree.right) v2) h.left (omega arith) f.left_nodes (λ i. absurd (f.left i)))
       (both_pass _ _
-      (side_passes vars f.few_variables number n (with_symbols block table tree.left) (with_variables block [] tree.left) 0 false tree.right r.right e2 v2 h.right (omega arith) f.right_nodes (λ _. refl))
+      (side_passes vars f.few_variables number n (with_symbols block table tree.left) (with_variables block [] tree.left) 0 false tree.right r.right e2 v2 h.right
+      (omega arith) f.right_nodes (λ _. refl))
       (both_pass _ _ (bar_passes tree.guard)
-      (conditions_pass vars f.few_variables number n (with_symbols block (with_symbols block table tree.left) tree.right) (with_variables block (with_variables block [] tree.left) tree.right) 1 cs r.conditions e
+      (conditions_pass vars f.few_variables number n (with_symbols block (with_symbols block table tree.left) tree.right)
+      (with_variables block (with_variables block [] tree.left) tree.right) 1 cs r.conditions e
       whole_row h.conditions f.conditions (let l = f.few_conditions in omega arith))))
 
-  pub rules_pass : (table : Table) (number : ℕ) (trees : List RuleTree) (rs : List Rule) → Extends (with_rule_symbols block table trees) whole → AreRulesOf block whole trees rs → AreAllFew block trees rs
+  pub rules_pass : (table : Table) (number : ℕ) (trees : List RuleTree) (rs : List Rule) → Extends (with_rule_symbols block table trees) whole
+      → AreRulesOf block whole trees rs → AreAllFew block trees rs
       → number + length trees ≤ 1001 → rules_refusal block true table number trees ≡ None
   rules_pass table number [] rs e h f n = refl
   rules_pass table number (t ∷ ts) [] e h f n = absurd h

@@ -1,5 +1,6 @@
 -- The names of a generated system are distinct.
-use Rattle.std.proofs.Common.{◌≡◌, ℕ, zero, suc, ◌+◌, ◌-◌, ◌*◌, ◌<◌, ◌≤◌, ◌^◌, Bool, true, false, cond, List, [], ◌∷◌, ◌++◌, drop, length, length-append, Some, None, refl, sym, ap, subst, ◌∙◌, arith, append_assoc, codes, decimal}
+use Rattle.std.proofs.Common.{◌≡◌, ℕ, zero, suc, ◌+◌, ◌-◌, ◌*◌, ◌<◌, ◌≤◌, ◌^◌, Bool, true, false, cond, List, [], ◌∷◌, ◌++◌, drop, length, length-append, Some, None, refl, sym, ap}
+use Rattle.std.proofs.Common.{subst, ◌∙◌, arith, append_assoc, codes, decimal}
 use Rattle.std.specs.Prelude.{flat_map, is_some, if◌then◌else◌, replicate, map}
 use Rattle.std.specs.List.{range_with_len, list_any, position_or_len}
 use Rattle.std.specs.Prelude.{position, nat_lt}

@@ -22,7 +22,16 @@ module _ (d : ℕ) (h : IsInRange 48 57 d) where
 
   digit_is_id : is_id d ≡ true
   digit_is_id =
-      rw (lt-ltb 32 d (omega (arith, h.0)), lt-ltb d 127 (omega (arith, h.1)), is_no 40 (inl (omega arith)), is_no 41 (inl (omega arith)), is_no 44 (inl (omega arith)), is_no 124 (inr (omega arith)), is_no 34 (inl (omega arith)), is_no 92 (inr (omega arith)))
+      rw (
+        lt-ltb 32 d (omega (arith, h.0)),
+        lt-ltb d 127 (omega (arith, h.1)),
+        is_no 40 (inl (omega arith)),
+        is_no 41 (inl (omega arith)),
+        is_no 44 (inl (omega arith)),
+        is_no 124 (inr (omega arith)),
+        is_no 34 (inl (omega arith)),
+        is_no 92 (inr (omega arith)),
+      )
       refl
 
   no_sign : (ds : List ℕ) → (begins_arrow (d ∷ ds) || begins_equal (d ∷ ds)) ≡ false

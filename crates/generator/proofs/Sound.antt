@@ -133,6 +133,7 @@ pub added : (k : ℕ) (old one two three all : List program.Rule) (a b c d : pro
 added k old one two three all a b c d e f g h at0 at1 at2 at3 =
     let whole = four old one two three all a b c d e f g h in
     record {
-      rules = ap (map rule_view) whole ∙ map-append rule_view old (a ∷ b ∷ c ∷ d ∷ []) ∙ ap (λ (rs : List Rule). map rule_view old ++ rs) (the_four k (rule_view a) (rule_view b) (rule_view c) (rule_view d) at0.is at1.is at2.is at3.is);
+      rules = ap (map rule_view) whole ∙ map-append rule_view old (a ∷ b ∷ c ∷ d ∷ []) ∙ ap (λ (rs : List Rule). map rule_view old ++ rs)
+          (the_four k (rule_view a) (rule_view b) (rule_view c) (rule_view d) at0.is at1.is at2.is at3.is);
       counted = λ before. subst AreCounted (sym whole) (counted_behind old (a ∷ b ∷ c ∷ d ∷ []) before (at0.counted, (at1.counted, (at2.counted, (at3.counted, tt)))));
     }

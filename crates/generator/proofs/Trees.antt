@@ -237,7 +237,8 @@ four_add k m e g h =
     ap (λ (w : Table). after_rule (after_rule (after_rule w (tree_at_s k)) third) last) (z_adds k g h)
     ∙ ap (λ (w : Table). after_rule (after_rule w third) last) (rule_stays (with_p k) (tree_at_s k) _ (at_s_means (with_p k) early k (p_put k g h)))
     ∙ ap (λ (w : Table). after_rule w last) (true_adds k g h)
-    ∙ rule_stays table last _ (false_means table (constants (suc k) (omega arith)) k (p_stands k (suc k) (omega arith) (omega arith)) (f_stands k (suc k) (omega arith) (omega arith)) (next_stands k (suc k) (omega arith) (omega arith)))
+    ∙ rule_stays table last _ (false_means table (constants (suc k) (omega arith)) k (p_stands k (suc k) (omega arith) (omega arith))
+    (f_stands k (suc k) (omega arith) (omega arith)) (next_stands k (suc k) (omega arith) (omega arith)))
     ∙ ap symbols_of e
 
 first_four : after_four [] 0 ≡ symbols_of 1

@@ -23,7 +23,8 @@ means_it n g h =
     let mean = all_mean n 0 n (omega arith) g h in
     record {
       accepted = refusal_is (tree_of n)
-          ∙ rules_pass block (symbols_of n) few [] 1 (tree_of n).rules (generated n).rules (subst (λ (t : Table). Extends t (symbols_of n)) (sym (all_symbols n g h)) (extends_refl (symbols_of n))) mean (all_few 0 n)
+          ∙ rules_pass block (symbols_of n) few [] 1 (tree_of n).rules (generated n).rules
+          (subst (λ (t : Table). Extends t (symbols_of n)) (sym (all_symbols n g h)) (extends_refl (symbols_of n))) mean (all_few 0 n)
           (omega (arith, tree_count 0 n));
       symbols = sym (all_symbols n g h);
       arities = sym (arities_are n);

@@ -49,8 +49,10 @@ ranges_distinct (auxiliary i k) (suc n) = (active_distinct, (active_distinct, ma
 
 module _ (head : Head) (arity : ℕ) where
   column_distinct : AreDistinct (entries_of (head, arity))
-  column_distinct = distinct_map (entry_with head) (λ a b e. ap (λ (d : LinearEntry). d.coefficients) e) (choices (ranges head arity)) (choices_distinct (ranges head arity) (ranges_distinct head arity))
+  column_distinct = distinct_map (entry_with head) (λ a b e. ap (λ (d : LinearEntry). d.coefficients) e) (choices (ranges head arity))
+      (choices_distinct (ranges head arity) (ranges_distinct head arity))
 
   -- an entry has one place
-  pub one_place : (e : LinearEntry) (before behind other rest : List LinearEntry) → entries_of (head, arity) ≡ before ++ e ∷ behind → entries_of (head, arity) ≡ other ++ e ∷ rest → (before ≡ other) × (behind ≡ rest)
+  pub one_place : (e : LinearEntry) (before behind other rest : List LinearEntry) → entries_of (head, arity) ≡ before ++ e ∷ behind → entries_of (head, arity) ≡ other ++ e ∷ rest
+      → (before ≡ other) × (behind ≡ rest)
   one_place e before behind other rest split again = place_once e before behind other rest (subst AreDistinct split column_distinct) (sym split ∙ again)

@@ -1,5 +1,6 @@
 -- A prefix is completed to a whole interpretation; a rule all of whose symbols have an entry is as ready at the prefix as there.
-use Rattle.std.proofs.Common.{◌≡◌, ℕ, zero, suc, ◌+◌, ◌-◌, ◌<◌, ◌≤◌, refl, sym, ap, ◌∙◌, subst, List, [], ◌∷◌, ◌++◌, replicate, map, length, get_or, slice_get, option_map, Some, arith, append_assoc, append-nil}
+use Rattle.std.proofs.Common.{◌≡◌, ℕ, zero, suc, ◌+◌, ◌-◌, ◌<◌, ◌≤◌, refl, sym, ap, ◌∙◌, subst, List, [], ◌∷◌, ◌++◌, replicate, map, length, get_or, slice_get, option_map, Some}
+use Rattle.std.proofs.Common.{arith, append_assoc, append-nil}
 use Rattle.std.proofs.lemmas.List.{length-replicate, length_push}
 use Rattle.std.proofs.lemmas.Option.{slice_get-get_or}
 use Rattle.rewriting.specs.Prelude.{Term, var, app, Terms, nil, cons, System, IsSystem, IsWellFormed, Head, file, heads, unraveled}
@@ -84,7 +85,8 @@ module _ (es more : Interpretation) where
   side_before variables t h s = record { ready = ready_before (variables + 1) t h s.ready; shows = λ large. large_before es more t h (s.shows (large_part_kept es more t h large)) }
 
 -- a rule of the unraveled system is ready where the prefix has the entries that it needs
-pub rule_ready : (sys system : System) (es : Interpretation) (rs : List Rule) → system ≡ unraveled sys → IsWellFormed sys → IsPrefix sys es → map rule_view rs ≡ system.rules → AreCounted rs → IsSystem system
+pub rule_ready : (sys system : System) (es : Interpretation) (rs : List Rule) → system ≡ unraveled sys → IsWellFormed sys → IsPrefix sys es → map rule_view rs ≡ system.rules
+    → AreCounted rs → IsSystem system
     → (i : ℕ) (r : Rule) → i < length rs → r ≡ get_or rs i r → needed_at (rule_view r) ≤ length es → IsRuleReady es r
 rule_ready sys system es rs same well p are counted sound i r lt is needs =
     let rest = rest_of sys es p in

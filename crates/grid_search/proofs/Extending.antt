@@ -15,7 +15,8 @@ prefix_start sys = record { few = omega arith; entries = λ k lt. absurd (omega 
 
 -- an entry for the next symbol, with good numbers
 module _ (sys : System) (es : Interpretation) (e : LinearEntry) (p : IsPrefix sys es)
-    (head : slice_get (heads sys) (length es) ≡ Some e.head) (numbers : option_map suc (slice_get (unraveled sys).arities (length es)) ≡ Some (length e.coefficients)) (good : AreNumbersGood sys (length es) e.coefficients) where
+    (head : slice_get (heads sys) (length es) ≡ Some e.head) (numbers : option_map suc (slice_get (unraveled sys).arities (length es)) ≡ Some (length e.coefficients))
+    (good : AreNumbersGood sys (length es) e.coefficients) where
   next_there : slice_get (es ++ e ∷ []) (length es) ≡ Some e
   next_there = let long = length_push es e in slice_get-get_or (es ++ e ∷ []) (length es) e (omega (arith, long)) ∙ ap Some (get_or-append_seam es e [] e)
 

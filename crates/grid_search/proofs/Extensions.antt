@@ -48,7 +48,8 @@ extension es (column ∷ further) before p behind e =
     record { column = column; further = further; left = at.left; entry = at.middle; right = at.right; is_next = refl; split = at.split; here = at.here; there = at.there }
 
 -- the column of a symbol, and what it has
-pub column_at : (hs : List Head) (ns : Signature) (k : ℕ) (head : Head) (n : ℕ) → slice_get hs k ≡ Some head → slice_get ns k ≡ Some n → slice_get (map entries_of (zip hs ns)) k ≡ Some (entries_of (head, n))
+pub column_at : (hs : List Head) (ns : Signature) (k : ℕ) (head : Head) (n : ℕ) → slice_get hs k ≡ Some head → slice_get ns k ≡ Some n
+    → slice_get (map entries_of (zip hs ns)) k ≡ Some (entries_of (head, n))
 column_at [] ns k head n e f = absurd (cc)
 column_at (h ∷ hs) [] k head n e f = absurd (cc)
 column_at (h ∷ hs) (m ∷ ns) zero head n e f =

@@ -33,7 +33,8 @@ pub record AreWalked (sys : System) (n : ℕ) (rs : List Rule) (ns : List ℕ) :
 listed_at : (lists : List (Vec ℕ Global)) (n : ℕ) (v : Vec ℕ Global) → n < length lists → v ≡ get_or lists n v → listed lists n ≡ v.items
 listed_at lists n v lt is = get_or-map (λ (x : Vec ℕ Global). x.items) lists n v [] lt ∙ ap (λ (x : Vec ℕ Global). x.items) (sym is)
 
-pub walked : (i : Inside) (sys : System) (prefix : List LinearEntry) (rs : List Rule) (v : Vec ℕ Global) (ns : List ℕ) → IsHeld i → i.own.now ≡ sys → IsPrefix sys (map linear_entry_view prefix) → map rule_view rs ≡ i.unraveled.system.rules → AreCounted rs
+pub walked : (i : Inside) (sys : System) (prefix : List LinearEntry) (rs : List Rule) (v : Vec ℕ Global) (ns : List ℕ) → IsHeld i → i.own.now ≡ sys
+    → IsPrefix sys (map linear_entry_view prefix) → map rule_view rs ≡ i.unraveled.system.rules → AreCounted rs
     → IsSystem i.unraveled.system → v ≡ get_or i.completed.items (length prefix) v → ns ≡ v.items → AreWalked sys (length (map linear_entry_view prefix)) rs ns
 walked i sys prefix rs v ns held same p are counted sound is shown =
     subst₂ (λ z n. AreWalked z n rs ns) same (sym long)
@@ -66,7 +67,8 @@ rule_of sys n rs number are h =
     let same = ap length are in
     let place : number - 1 ≡ h.place = omega (arith, number_is) in
     let high : number - 1 < length rs = omega (arith, place, within, many, same) in
-    let found : (r : Rule) → r ≡ get_or rs (number - 1) r → slice_get (unraveled sys).rules (number - 1) ≡ Some (rule_view r) = (λ r is. subst (λ z. slice_get z (number - 1) ≡ Some (rule_view r)) are (slice_get-map_read rule_view rs (number - 1) r high is)) in
+    let found : (r : Rule) → r ≡ get_or rs (number - 1) r → slice_get (unraveled sys).rules (number - 1) ≡ Some (rule_view r) =
+    (λ r is. subst (λ z. slice_get z (number - 1) ≡ Some (rule_view r)) are (slice_get-map_read rule_view rs (number - 1) r high is)) in
     record {
       low = omega (arith, number_is);
       high = high;
@@ -92,7 +94,8 @@ rule_at_suc s (suc j) le = let same : j ≡ suc j - 1 = omega arith in ap (slice
 module _ (sys : System) (es : Interpretation) (rs : List Rule) (ns : List ℕ) (w : AreWalked sys (length es) rs ns) where
   pub next_at : (i : ℕ) → i < length ns → IsNext sys (length es) rs (get_or ns i 0)
   next_at i lt =
-      subst (λ z. i < length z → IsNext sys (length es) rs (get_or z i 0)) (sym w.numbers) (λ less. rule_of sys (length es) rs _ w.rules_are (number_of_rule (length es) 1 (unraveled sys).rules i less)) lt
+      subst (λ z. i < length z → IsNext sys (length es) rs (get_or z i 0)) (sym w.numbers)
+      (λ less. rule_of sys (length es) rs _ w.rules_are (number_of_rule (length es) 1 (unraveled sys).rules i less)) lt
 
   module _ (i : ℕ) (lt : i < length ns) (r : Rule) (is : r ≡ get_or rs (get_or ns i 0 - 1) r) where
     fewest : needed_at (rule_view r) ≤ length es
@@ -112,13 +115,15 @@ module _ (sys : System) (es : Interpretation) (rs : List Rule) (ns : List ℕ) (
         by_case (inr h) =
             let same : k ≡ i = omega (arith, h, less) in
             let next = next_at i lt in
-            let here : slice_get (unraveled sys).rules (get_or ns i 0 - 1) ≡ Some q = sym (rule_at_suc (unraveled sys) (get_or ns i 0) next.low) ∙ subst (λ m. rule_at (unraveled sys) (get_or ns m 0) ≡ Some q) same at in
+            let here : slice_get (unraveled sys).rules (get_or ns i 0 - 1) ≡ Some q = sym (rule_at_suc (unraveled sys) (get_or ns i 0) next.low)
+            ∙ subst (λ m. rule_at (unraveled sys) (get_or ns m 0) ≡ Some q) same at in
             let rule : rule_view r ≡ q = (let both : Some (rule_view r) ≡ Some q = sym (next.there r is) ∙ here in cc) in
             subst (Falls es) rule falls
 
   pub all_walked : (i : ℕ) → length ns ≤ i → DoFallSoFar sys es ns i → IsAliveBefore sys es → IsDead sys es → ⊥
   all_walked i end before alive =
-      not_dead_yet sys es alive (λ j r at needs. of_rules (DoesFallAt sys es) (length es) 1 (unraveled sys).rules fall j r at needs r (let same : suc j ≡ 1 + j = omega arith in subst (λ m. rule_at (unraveled sys) m ≡ Some r) same at))
+      not_dead_yet sys es alive (λ j r at needs. of_rules (DoesFallAt sys es) (length es) 1 (unraveled sys).rules fall j r at needs r
+      (let same : suc j ≡ 1 + j = omega arith in subst (λ m. rule_at (unraveled sys) m ≡ Some r) same at))
     where
       fall : HoldsOfAll (DoesFallAt sys es) (numbers_needing (length es) 1 (unraveled sys).rules)
       fall = subst (HoldsOfAll (DoesFallAt sys es)) w.numbers (λ m lt. before m (omega (arith, lt, end)))

@@ -1,5 +1,6 @@
 -- The first entries that terms and rules need, and the lists of rules by how many they need.
-use Rattle.std.proofs.Common.{◌≡◌, ◌≢◌, ℕ, zero, suc, ◌+◌, ◌<◌, ◌≤◌, Bool, true, false, nat_eq, if◌then◌else◌, eqb-true, eq-eqb, refl, sym, ap, ◌∙◌, subst, List, [], ◌∷◌, ◌++◌, length, set, get_or, slice_get, Some, Vec, Global, arith}
+use Rattle.std.proofs.Common.{◌≡◌, ◌≢◌, ℕ, zero, suc, ◌+◌, ◌<◌, ◌≤◌, Bool, true, false, nat_eq, if◌then◌else◌, eqb-true, eq-eqb, refl, sym, ap, ◌∙◌, subst, List, [], ◌∷◌, ◌++◌}
+use Rattle.std.proofs.Common.{length, set, get_or, slice_get, Some, Vec, Global, arith}
 use Rattle.std.proofs.lemmas.Bool.{eqb-false}
 use Rattle.std.proofs.lemmas.Option.{slice_get_within}
 use Rattle.rewriting.specs.Prelude.{Term, var, app, Terms, nil, cons, Signature, IsOver, AreOver, Rule, System, AreRules, IsSystem, unraveled, heads}
@@ -22,7 +23,8 @@ not_there (x ∷ lists) zero (suc k) v d = refl
 not_there (x ∷ lists) (suc g) zero v d = refl
 not_there (x ∷ lists) (suc g) (suc k) v d = not_there lists g k v (λ e. d (ap suc e))
 
-pub number_put : (lists : List (Vec ℕ Global)) (g k n : ℕ) (b v : Vec ℕ Global) → g < length lists → v.items ≡ (get_or lists g b).items ++ n ∷ [] → listed (set lists g v) k ≡ (if nat_eq k g then (listed lists k ++ n ∷ []) else listed lists k)
+pub number_put : (lists : List (Vec ℕ Global)) (g k n : ℕ) (b v : Vec ℕ Global) → g < length lists → v.items ≡ (get_or lists g b).items ++ n ∷ []
+    → listed (set lists g v) k ≡ (if nat_eq k g then (listed lists k ++ n ∷ []) else listed lists k)
 number_put lists g k n b v lt e = go (nat_eq k g) refl
   where
     go : (here : Bool) → nat_eq k g ≡ here → listed (set lists g v) k ≡ (if here then (listed lists k ++ n ∷ []) else listed lists k)
@@ -67,7 +69,8 @@ rules_need arities n (r ∷ rs) (h, hs) lt =
     (omega (arith, left, right, lt), rules_need arities n rs hs lt)
 
 -- so the rules of an unraveled system need no more than it has symbols
-pub unraveled_need : (sys system : System) (symbols : List unraveling.Head) (rules : List Rule) → system ≡ unraveled sys → symbols ≡ heads sys → IsSystem system → rules ≡ system.rules → DoNeedBelow (length symbols + 1) rules
+pub unraveled_need : (sys system : System) (symbols : List unraveling.Head) (rules : List Rule) → system ≡ unraveled sys → symbols ≡ heads sys → IsSystem system
+    → rules ≡ system.rules → DoNeedBelow (length symbols + 1) rules
 unraveled_need sys system symbols rules same heads_are sound are =
     let many = length-heads sys in
     let count = ap length heads_are in
@@ -112,7 +115,8 @@ pub record IsOf (k n : ℕ) (rs : List Rule) (i : ℕ) : Type 0 where
 is_of_later : (k n : ℕ) (q : Rule) (rs : List Rule) (i : ℕ) → IsOf k (suc n) rs i → IsOf k n (q ∷ rs) i
 is_of_later k n q rs i h = record { place = suc h.place; rule = h.rule; is_rule = h.is_rule; needs = h.needs; is_number = (let e = h.is_number in omega (arith, e)) }
 
-is_of_chosen : (k n : ℕ) (q : Rule) (rs : List Rule) (ns : List ℕ) → ((m : ℕ) → m < length ns → IsOf k (suc n) rs (get_or ns m 0)) → (b : Bool) → nat_eq k (needed_at q) ≡ b → (m : ℕ) → m < length (chosen b n ns) → IsOf k n (q ∷ rs) (get_or (chosen b n ns) m 0)
+is_of_chosen : (k n : ℕ) (q : Rule) (rs : List Rule) (ns : List ℕ) → ((m : ℕ) → m < length ns → IsOf k (suc n) rs (get_or ns m 0)) → (b : Bool) → nat_eq k (needed_at q) ≡ b
+    → (m : ℕ) → m < length (chosen b n ns) → IsOf k n (q ∷ rs) (get_or (chosen b n ns) m 0)
 is_of_chosen k n q rs ns later true e zero lt = record { place = 0; rule = q; is_rule = refl; needs = sym (eqb-true k (needed_at q) e); is_number = omega arith }
 is_of_chosen k n q rs ns later true e (suc m) lt = is_of_later k n q rs _ (later m (omega (arith, lt)))
 is_of_chosen k n q rs ns later false e m lt = is_of_later k n q rs _ (later m lt)

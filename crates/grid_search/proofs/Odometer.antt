@@ -102,7 +102,8 @@ module _ (ls : List (List ℕ)) (old new : List ℕ) (place k low more x : ℕ) 
   pub raised : x < low + more → Follows (choices ls) old (set new k (x + 1))
   raised less =
       choices_advance old (set new k (x + 1)) ls
-      (advances_at k old (set new k (x + 1)) ls x (x + 1) (drop (suc k) old) (drop (suc k) new) (numbers_from low (suc more)) (drop (suc k) ls) from (new_before (x + 1)) old_drop (new_drop (x + 1)) ranges_drop
+      (advances_at k old (set new k (x + 1)) ls x (x + 1) (drop (suc k) old) (drop (suc k) new) (numbers_from low (suc more)) (drop (suc k) ls) from (new_before (x + 1)) old_drop
+      (new_drop (x + 1)) ranges_drop
       (numbers_follow low more x old_within.0 less) lasts_behind firsts_behind)
 
 firsts_push : (xs : List ℕ) (ls : List (List ℕ)) (x : ℕ) (l : List ℕ) → AreFirsts xs ls → Begins l x → AreFirsts (xs ++ x ∷ []) (ls ++ l ∷ [])
@@ -112,6 +113,7 @@ firsts_push (y ∷ xs) [] x l h b = absurd h
 firsts_push (y ∷ xs) (m ∷ ls) x l (h, hs) b = (h, firsts_push xs ls x l hs b)
 
 -- the firsts of one place more
-pub firsts_more : (ls : List (List ℕ)) (xs : List ℕ) (k low more : ℕ) → k < length ls → get_or ls k [] ≡ numbers_from low (suc more) → AreFirsts xs (take k ls) → AreFirsts (xs ++ low ∷ []) (take (k + 1) ls)
+pub firsts_more : (ls : List (List ℕ)) (xs : List ℕ) (k low more : ℕ) → k < length ls → get_or ls k [] ≡ numbers_from low (suc more) → AreFirsts xs (take k ls)
+    → AreFirsts (xs ++ low ∷ []) (take (k + 1) ls)
 firsts_more ls xs k low more long at h =
     subst (AreFirsts (xs ++ low ∷ [])) (sym (take_more ls k [] long)) (firsts_push xs (take k ls) low (get_or ls k []) h (numbers_from (suc low) more, at))

@@ -88,7 +88,8 @@ does_not_fall es r (variable_counts_more x h) f = let kept = f.coefficients x in
 does_not_fall es r (constant_is_kept h) f = let less = f.constants in let kept = h.2 in omega (arith, less, kept)
 
 -- a prefix with an entry for each symbol is a good interpretation where it is not dead
-pub whole_prefix_good : (sys : System) (es : Interpretation) → IsWellFormed sys → DoesUnravelingFit sys → IsPrefix sys es → length es ≡ length (heads sys) → (IsDead sys es → ⊥) → IsInterpretationJudged sys es good
+pub whole_prefix_good : (sys : System) (es : Interpretation) → IsWellFormed sys → DoesUnravelingFit sys → IsPrefix sys es → length es ≡ length (heads sys) → (IsDead sys es → ⊥)
+    → IsInterpretationJudged sys es good
 whole_prefix_good sys es well fits p whole alive = (fits, record { shape = whole_shape sys es p whole; numbers = p.numbers; rules = λ i r at. fall i r at (falls es r) })
   where
     fall : (i : ℕ) (r : Rule) → rule_at (unraveled sys) i ≡ Some r → Falls es r ⊎ DoesNotFall es r → Falls es r

@@ -30,7 +30,8 @@ none_left head arity place old new none reset =
 
 -- a turn at the place before `place`, where x stands
 module _ (head now : Head) (arity count place low high x : ℕ) (old new : List ℕ) (kept : now ≡ head) (some : 0 < place) (within : place ≤ count) (counted : length new ≡ count)
-    (tried : (n : ℕ) → count ≡ suc n → AreTriedAt now n (place - 1) low high) (here : x ≡ get_or new (place - 1) x) (from : AreFrom old (ranges head arity)) (reset : IsReset (ranges head arity) old new place) where
+    (tried : (n : ℕ) → count ≡ suc n → AreTriedAt now n (place - 1) low high) (here : x ≡ get_or new (place - 1) x) (from : AreFrom old (ranges head arity))
+    (reset : IsReset (ranges head arity) old new place) where
   at_place : AreTriedAt head arity (place - 1) low high
   at_place =
       let same = from_length old (ranges head arity) from in

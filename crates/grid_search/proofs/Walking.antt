@@ -121,7 +121,8 @@ module _ (sys : System) where
         let others = at.others ∙ ap (map (λ e. node (es ++ e ∷ []) behind)) right in (
           behind,
           subst (λ (k : ℕ). Walked k (length behind) (node (es ++ next ∷ []) behind) (n + u)) (sym (one_longer es next))
-              (paths.across extensions (IsDeadPrefix sys) (PrefixGives sys) (length (columns sys)) (start sys) (length es) (length behind) (node (es ++ e ∷ []) behind) (node (es ++ next ∷ []) behind) n u at.at_child bare
+              (paths.across extensions (IsDeadPrefix sys) (PrefixGives sys) (length (columns sys)) (start sys) (length es) (length behind) (node (es ++ e ∷ []) behind)
+              (node (es ++ next ∷ []) behind) n u at.at_child bare
               (map (λ e. node (es ++ e ∷ []) behind) further) others),
         )
 
@@ -182,7 +183,8 @@ module _ (sys : System) where
           let first = ap (map (λ e. node (es ++ e ∷ []) further)) is in (
             further,
             subst (λ (k : ℕ). Walked k (length further) (node (es ++ more.entry ∷ []) further) n) (sym (one_longer es more.entry))
-                (paths.down extensions (IsDeadPrefix sys) (PrefixGives sys) (length (columns sys)) (start sys) (length es) (length further) (node es (column ∷ further)) (node (es ++ more.entry ∷ []) further)
+                (paths.down extensions (IsDeadPrefix sys) (PrefixGives sys) (length (columns sys)) (start sys) (length es) (length further) (node es (column ∷ further))
+                (node (es ++ more.entry ∷ []) further)
                 (map (λ e. node (es ++ e ∷ []) further) more.is_first.0) n w alive first),
           )
 

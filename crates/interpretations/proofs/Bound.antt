@@ -1,11 +1,13 @@
 -- A good interpretation falls at each descent, and so it bounds descents.
-use Rattle.std.proofs.Common.{◌≡◌, ℕ, zero, suc, ◌+◌, ◌*◌, ◌<◌, ◌≤◌, inl, inr, refl, sym, ap, ◌∙◌, subst, arith, List, [], ◌∷◌, length, slice_get, Option, Some, None, option_map, unwrap_or, IfSome, ◌^◌}
+use Rattle.std.proofs.Common.{◌≡◌, ℕ, zero, suc, ◌+◌, ◌*◌, ◌<◌, ◌≤◌, inl, inr, refl, sym, ap, ◌∙◌, subst, arith, List, [], ◌∷◌, length, slice_get, Option, Some, None, option_map}
+use Rattle.std.proofs.Common.{unwrap_or, IfSome, ◌^◌}
 use Rattle.std.proofs.Math.Nat.{mul-le-mul_right, mul-lt-mul_of_pos_left}
 use Rattle.std.proofs.lemmas.List.{length-append}
 use Rattle.std.proofs.lemmas.Option.{slice_get_within, slice_get-get_or}
 use Rattle.rewriting.specs.Prelude.{IsWellFormed, IsSystem, unraveled, heads, file_heads, auxiliary_heads, condition_heads, keeper_arities, all_keeper_arities, IsActive, IsActiveArgument}
 use Rattle.rewriting.specs.Prelude.{IsActivePosition, Descends, AreDescentsBounded}
-use Rattle.rewriting.proofs.Common.{Chain, stop, link, Term, var, app, Terms, nil, cons, count, Position, argument, with_argument, argument_of, with_argument_of, subterm, replace, Substitution, apply, values_of, Signature, IsOver, Rule, System, rule_at, Condition, variables, with_variables}
+use Rattle.rewriting.proofs.Common.{Chain, stop, link, Term, var, app, Terms, nil, cons, count, Position, argument, with_argument, argument_of, with_argument_of, subterm, replace}
+use Rattle.rewriting.proofs.Common.{Substitution, apply, values_of, Signature, IsOver, Rule, System, rule_at, Condition, variables, with_variables}
 use Rattle.rewriting.proofs.Positions.{below}
 use Rattle.rewriting.proofs.Unraveled.{argument_of_over, descends_over}
 use Rattle.certificates.specs.Certificates.{LinearEntry}
@@ -65,7 +67,8 @@ found sys es shape f n at =
     record { entry = e.entry; is_entry = e.is_entry; as_many = cc }
 
 -- the number of an active argument is at least 1
-pub active_number_by : (sys : System) (es : Interpretation) → HasShape sys es → AreAllNumbersGood sys es → (f k n : ℕ) → slice_get (unraveled sys).arities f ≡ Some n → IsActive sys f (suc k) → suc k ≤ n → 1 ≤ number_of es f (suc k)
+pub active_number_by : (sys : System) (es : Interpretation) → HasShape sys es → AreAllNumbersGood sys es → (f k n : ℕ) → slice_get (unraveled sys).arities f ≡ Some n
+    → IsActive sys f (suc k) → suc k ≤ n → 1 ≤ number_of es f (suc k)
 active_number_by sys es shape numbers f k n at active le =
     let e = found sys es shape f n at in
     let many = e.as_many in
@@ -136,7 +139,8 @@ in_sum es f i (cons s ts) (suc k) t e le =
     omega (arith, rest)
 
 -- an active argument's value is less than the term's
-move_falls : (sys : System) (es : Interpretation) → IsGood sys es → (u v : Term) (k : ℕ) → IsOver (unraveled sys).arities u → IsActiveArgument sys u k → argument_of u k ≡ Some v → constant es v < constant es u
+move_falls : (sys : System) (es : Interpretation) → IsGood sys es → (u v : Term) (k : ℕ) → IsOver (unraveled sys).arities u → IsActiveArgument sys u k → argument_of u k ≡ Some v
+    → constant es v < constant es u
 move_falls sys es g (var x) v k over active e = absurd (cc)
 move_falls sys es g (app f ts) v zero over active e = let w = argument_within ts zero v e in absurd (omega (arith, w.0))
 move_falls sys es g (app f ts) v (suc k) over active e =
@@ -147,7 +151,8 @@ move_falls sys es g (app f ts) v (suc k) over active e =
     omega (arith, least, first)
 
 -- a decrease at an active argument is one of the term
-argument_falls : (sys : System) (es : Interpretation) → IsGood sys es → (t : Term) (k : ℕ) (s u : Term) → IsOver (unraveled sys).arities t → IsActiveArgument sys t k → argument_of t k ≡ Some s → constant es u < constant es s
+argument_falls : (sys : System) (es : Interpretation) → IsGood sys es → (t : Term) (k : ℕ) (s u : Term) → IsOver (unraveled sys).arities t → IsActiveArgument sys t k
+    → argument_of t k ≡ Some s → constant es u < constant es s
     → constant es (with_argument_of t k u) < constant es t
 argument_falls sys es g (var x) k s u over active e lt = absurd (cc)
 argument_falls sys es g (app f ts) zero s u over active e lt = let w = argument_within ts zero s e in absurd (omega (arith, w.0))
@@ -158,7 +163,8 @@ argument_falls sys es g (app f ts) (suc k) s u over active e lt =
     omega (arith, less)
 
 -- and so at an active position
-replaced_falls : (sys : System) (es : Interpretation) → IsGood sys es → (t : Term) (p : Position) (l r v : Term) → IsOver (unraveled sys).arities t → IsActivePosition sys t p → subterm t p ≡ Some l → constant es r < constant es l → replace t p r ≡ Some v
+replaced_falls : (sys : System) (es : Interpretation) → IsGood sys es → (t : Term) (p : Position) (l r v : Term) → IsOver (unraveled sys).arities t → IsActivePosition sys t p
+    → subterm t p ≡ Some l → constant es r < constant es l → replace t p r ≡ Some v
     → constant es v < constant es t
 replaced_falls sys es g t [] l r v over active found lt result =
     let a : l ≡ t = cc in
@@ -171,7 +177,8 @@ replaced_falls sys es g t (k ∷ p) l r v over active found lt result =
     let less = replaced_falls sys es g b.part p l r b.result (argument_of_over (unraveled sys).arities t k b.part b.here over) inner there lt b.inside in
     subst (λ z. constant es z < constant es t) (sym b.whole) (argument_falls sys es g t k b.part b.result over active.0 b.here less)
 
-rule_falls : (sys : System) (es : Interpretation) → IsGood sys es → (i : ℕ) (q : Rule) → rule_at (unraveled sys) i ≡ Some q → (s : Substitution) → constant es (apply s q.right) < constant es (apply s q.left)
+rule_falls : (sys : System) (es : Interpretation) → IsGood sys es → (i : ℕ) (q : Rule) → rule_at (unraveled sys) i ≡ Some q → (s : Substitution)
+    → constant es (apply s q.right) < constant es (apply s q.left)
 rule_falls sys es g i q at s =
     let less = value-falls es q (g.rules i q at) (λ x. constant es (s x)) in
     let left = constant-apply es s q.left in
@@ -180,7 +187,8 @@ rule_falls sys es g i q at s =
 
 falls : (sys : System) (es : Interpretation) → IsGood sys es → (u v : Term) → IsOver (unraveled sys).arities u → Descends sys u v → constant es v < constant es u
 falls sys es g u v over (inl s) =
-    replaced_falls sys es g u s.position (apply (values_of s.by) s.rule.left) (apply (values_of s.by) s.rule.right) v over s.active s.redex (rule_falls sys es g s.number s.rule s.is_rule (values_of s.by)) s.result
+    replaced_falls sys es g u s.position (apply (values_of s.by) s.rule.left) (apply (values_of s.by) s.rule.right) v over s.active s.redex
+    (rule_falls sys es g s.number s.rule s.is_rule (values_of s.by)) s.result
 falls sys es g u v over (inr m) = move_falls sys es g u v m.number over m.active m.is_argument
 
 chain_bounded : (sys : System) (es : Interpretation) → IsWellFormed sys → IsGood sys es → {k : ℕ} {t u : Term} → IsOver (unraveled sys).arities t → Chain (Descends sys) k t u → k ≤ constant es t

@@ -1,5 +1,6 @@
 -- Each part of the judgement of an interpretation is decided.
-use Rattle.std.proofs.Common.{◌≡◌, ℕ, zero, suc, ◌^◌, ◌<◌, ◌≤◌, ◌⊎◌, inl, inr, refl, ap, subst, List, [], ◌∷◌, length, slice_get, Option, Some, None, option_map, Bool, true, false, nat_eq, eqb-true, if◌then◌else◌, arith}
+use Rattle.std.proofs.Common.{◌≡◌, ℕ, zero, suc, ◌^◌, ◌<◌, ◌≤◌, ◌⊎◌, inl, inr, refl, ap, subst, List, [], ◌∷◌, length, slice_get, Option, Some, None, option_map, Bool, true, false}
+use Rattle.std.proofs.Common.{nat_eq, eqb-true, if◌then◌else◌, arith}
 use native.Mathlib.Decide.{ℕ_discrete}
 use Rattle.std.proofs.lemmas.Bool.{cases_lt}
 use Rattle.general_lemmas.proofs.Numbers.{le_or_lt}

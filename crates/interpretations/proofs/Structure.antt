@@ -1,9 +1,11 @@
 -- The sides of an unraveled system: passive arguments are variables, so no subterm has a greater part than the side.
-use Rattle.std.proofs.Common.{◌≡◌, ℕ, zero, suc, ◌+◌, ◌*◌, ◌<◌, ◌≤◌, ◌⊎◌, inl, inr, refl, sym, ap, ◌∙◌, subst, arith, List, [], ◌∷◌, ◌++◌, length, slice_get, Option, Some, None, option_and_then, ◌^◌, Bool, true, false, nat_eq, if◌then◌else◌}
+use Rattle.std.proofs.Common.{◌≡◌, ℕ, zero, suc, ◌+◌, ◌*◌, ◌<◌, ◌≤◌, ◌⊎◌, inl, inr, refl, sym, ap, ◌∙◌, subst, arith, List, [], ◌∷◌, ◌++◌, length, slice_get, Option, Some, None}
+use Rattle.std.proofs.Common.{option_and_then, ◌^◌, Bool, true, false, nat_eq, if◌then◌else◌}
 use Rattle.std.proofs.Math.Nat.{mul-le-mul_right}
 use Rattle.std.proofs.lemmas.Option.{slice_get_within}
 use Rattle.rewriting.specs.Prelude.{Each, terms_of_rule, IsWellFormed, unraveled, unraveled_from, unraveled_rule, unraveled_rules, keeper, variable_terms, IsActive}
-use Rattle.rewriting.proofs.Common.{Term, var, app, Terms, nil, cons, count, Position, argument, subterm, apply, apply_all, Signature, IsOver, AreOver, Rule, System, rule_at, Condition, sides, variables, with_variables}
+use Rattle.rewriting.proofs.Common.{Term, var, app, Terms, nil, cons, count, Position, argument, subterm, apply, apply_all, Signature, IsOver, AreOver, Rule, System, rule_at}
+use Rattle.rewriting.proofs.Common.{Condition, sides, variables, with_variables}
 use Rattle.rewriting.proofs.Unraveled.{argument_of_over}
 use Rattle.interpretations.specs.Linear.{Interpretation, number_of, constant, coefficient, coefficient_from, HasShape, AreAllNumbersGood, IsLarge, HasLargePart}
 use Rattle.interpretations.proofs.Bound.{active_number_by, argument_within, in_sum}
@@ -64,7 +66,14 @@ variables_renamed f (cons t ts) ((x, e), h) = ((f x, ap (apply (λ x. var (f x))
 side_renamed : (n : ℕ) (f : ℕ → ℕ) (t : Term) → IsSide n t → IsSide n (apply (λ x. var (f x)) t)
 side_renamed n f t (inl h) = inl (plain_renamed n f t h)
 side_renamed n f t (inr k) =
-    inr record { symbol = k.symbol; first = apply (λ x. var (f x)) k.first; others = apply_all (λ x. var (f x)) k.others; shown = ap (apply (λ x. var (f x))) k.shown; plain = plain_renamed n f k.first k.plain; variable = variables_renamed f k.others k.variable }
+    inr record {
+      symbol = k.symbol;
+      first = apply (λ x. var (f x)) k.first;
+      others = apply_all (λ x. var (f x)) k.others;
+      shown = ap (apply (λ x. var (f x))) k.shown;
+      plain = plain_renamed n f k.first k.plain;
+      variable = variables_renamed f k.others k.variable;
+    }
 
 variables_variable : (xs : List ℕ) → AreVariables (variable_terms xs)
 variables_variable [] = tt
@@ -83,14 +92,18 @@ sides_append n (p ∷ ps) qs (h, hs) k = (h, sides_append n ps qs hs k)
 
 from_sides : (n f : ℕ) (xs : List ℕ) (head : Term) (cs : List Condition) (r : Term) → IsSide n head → Each (IsPlain n) (sides cs) → IsPlain n r → AllSides n (unraveled_from f xs head cs r)
 from_sides n f xs head [] r h k p = ((side_renamed n _ head h, side_renamed n _ r (inl p)), tt)
-from_sides n f xs head (c ∷ cs) r h k p =
-    ((side_renamed n _ head h, side_renamed n _ (keeper f c.left xs) (keeper_side n f c.left xs k.0)), from_sides n (suc f) (with_variables xs c.right) (keeper f c.right xs) cs r (keeper_side n f c.right xs k.1.0) k.1.1 p)
+from_sides n f xs head (c ∷ cs) r h k p = (
+  (side_renamed n _ head h, side_renamed n _ (keeper f c.left xs) (keeper_side n f c.left xs k.0)),
+  from_sides n (suc f) (with_variables xs c.right) (keeper f c.right xs) cs r
+      (keeper_side n f c.right xs k.1.0) k.1.1 p,
+)
 
 rules_sides : (n f : ℕ) (qs : List Rule) → ((i : ℕ) (q : Rule) → slice_get qs i ≡ Some q → Each (IsPlain n) (terms_of_rule q)) → AllSides n (unraveled_rules f qs)
 rules_sides n f [] h = tt
 rules_sides n f (q ∷ qs) h =
     let first = h 0 q refl in
-    sides_append n (unraveled_rule f q) _ (from_sides n f (variables q.left) q.left q.conditions q.right (inl first.0) first.1.1 first.1.0) (rules_sides n (f + length q.conditions) qs (λ i r e. h (suc i) r e))
+    sides_append n (unraveled_rule f q) _ (from_sides n f (variables q.left) q.left q.conditions q.right (inl first.0) first.1.1 first.1.0)
+    (rules_sides n (f + length q.conditions) qs (λ i r e. h (suc i) r e))
 
 one_side : (n : ℕ) (rs : List Rule) → AllSides n rs → (i : ℕ) (r : Rule) → slice_get rs i ≡ Some r → IsSide n r.left × IsSide n r.right
 one_side n [] h i r e = absurd (cc)
@@ -100,7 +113,8 @@ one_side n (q ∷ qs) (h, hs) (suc i) r e = one_side n qs hs i r e
 pub sides_of : (sys : System) → IsWellFormed sys → (i : ℕ) (r : Rule) → rule_at (unraveled sys) i ≡ Some r → IsSide (length sys.arities) r.left × IsSide (length sys.arities) r.right
 sides_of sys well zero r e = absurd (cc)
 sides_of sys well (suc i) r e =
-    one_side (length sys.arities) (unraveled_rules (length sys.arities) sys.rules) (rules_sides (length sys.arities) (length sys.arities) sys.rules (λ i q at. each_plain sys.arities (terms_of_rule q) (well (suc i) q at).over)) i r e
+    one_side (length sys.arities) (unraveled_rules (length sys.arities) sys.rules)
+    (rules_sides (length sys.arities) (length sys.arities) sys.rules (λ i q at. each_plain sys.arities (terms_of_rule q) (well (suc i) q at).over)) i r e
 
 coefficient_in : (es : Interpretation) (x f i : ℕ) (ts : Terms) (k : ℕ) (t : Term) → argument ts (suc k) ≡ Some t → 1 ≤ number_of es f (i + k) → coefficient es x t ≤ coefficient_from es x f i ts
 coefficient_in es x f i nil k t e le = absurd (cc)
@@ -163,14 +177,16 @@ module _ (sys : System) (es : Interpretation) (shape : HasShape sys es) (numbers
           → ((s : Term) → IsOver (unraveled sys).arities s → IsPlain (length sys.arities) s → subterm s p ≡ Some u → IsAtMost es u s) → IsAtMost es u (app f ts)
       below None here at ih = absurd (cc)
       below (Some s) here at ih =
-          at_most-trans es u s (app f ts) (ih s (argument_of_over (unraveled sys).arities (app f ts) k s here over) (plain_argument (length sys.arities) ts k s plain.1 here) at) (active_at_most f ts k s over (inl plain.0) here)
+          at_most-trans es u s (app f ts) (ih s (argument_of_over (unraveled sys).arities (app f ts) k s here over) (plain_argument (length sys.arities) ts k s plain.1 here) at)
+          (active_at_most f ts k s over (inl plain.0) here)
 
   in_variable : (x : ℕ) (p : Position) (u : Term) → subterm (var x) p ≡ Some u → u ≡ var x
   in_variable x [] u e = cc
   in_variable x (k ∷ p) u e = absurd (cc)
 
   -- a subterm of a side is at most the side, or a variable
-  kept_dominates : (p : Position) (symbol : ℕ) (first : Term) (others : Terms) (u : Term) → IsOver (unraveled sys).arities (app symbol (cons first others)) → IsPlain (length sys.arities) first → AreVariables others → subterm (app symbol (cons first others)) p ≡ Some u
+  kept_dominates : (p : Position) (symbol : ℕ) (first : Term) (others : Terms) (u : Term) → IsOver (unraveled sys).arities (app symbol (cons first others))
+      → IsPlain (length sys.arities) first → AreVariables others → subterm (app symbol (cons first others)) p ≡ Some u
       → IsAtMost es u (app symbol (cons first others)) ⊎ ((x : ℕ) × (u ≡ var x))
   kept_dominates [] symbol first others u over plain vs e = inl (same_term es _ u e)
   kept_dominates (zero ∷ p) symbol first others u over plain vs e = absurd (cc)

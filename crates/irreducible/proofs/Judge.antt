@@ -39,7 +39,8 @@ first_root sys f ts o h =
         let here : app f ts ≡ u = same_Some (app f ts) u (subst (λ z. subterm (app f ts) z ≡ Some u) e t.is_part) in
         subst (λ z. IsOutcomeOf r.left z clash) here (h.before i r t.is_rule l)
 
-pub first_part : (sys : System) (f : ℕ) (ts : Terms) (n : ℕ) (s : Term) (o : Outcome) → DoRulesClash sys (app f ts) → DoArgumentsClash sys ts n → argument ts (suc n) ≡ Some s → IsFirstOutcome sys s o → IsFirstOutcome sys (app f ts) o
+pub first_part : (sys : System) (f : ℕ) (ts : Terms) (n : ℕ) (s : Term) (o : Outcome) → DoRulesClash sys (app f ts) → DoArgumentsClash sys ts n → argument ts (suc n) ≡ Some s
+    → IsFirstOutcome sys s o → IsFirstOutcome sys (app f ts) o
 first_part sys f ts n s o root parts at h =
     record {
       position = suc n ∷ h.position;
@@ -57,7 +58,8 @@ first_part sys f ts n s o root parts at h =
     rest_of : (k : ℕ) (p q : Position) → k ∷ p ≡ suc n ∷ q → (k ≡ suc n) × (p ≡ q)
     rest_of k p q e = (cc, cc)
 
-    inside : (k : ℕ) (p : Position) (i : ℕ) (u : Term) (r : Rule) → IsTrial sys (app f ts) (k ∷ p) i u r → k ≡ suc n → IsBefore p h.position ⊎ ((p ≡ h.position) × (i < h.number)) → IsOutcomeOf r.left u clash
+    inside : (k : ℕ) (p : Position) (i : ℕ) (u : Term) (r : Rule) → IsTrial sys (app f ts) (k ∷ p) i u r → k ≡ suc n
+        → IsBefore p h.position ⊎ ((p ≡ h.position) × (i < h.number)) → IsOutcomeOf r.left u clash
     inside k p i u r t e b =
         let w = within (app f ts) k p u t.is_part in
         let same : w.part ≡ s = same_part w.part s (sym w.here ∙ (ap (argument ts) e ∙ at)) in

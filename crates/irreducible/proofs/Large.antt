@@ -45,7 +45,8 @@ length_views [] = refl
 length_views (r ∷ rs) = ap suc (length_views rs)
 
 -- a symbol with arguments, where the program has found a rule
-pub large_function : (sys : System) (t : program.Term) (f : ℕ) (v : Vec program.Term Global) (rs : List program_rules.Rule) (empty : Bool) → t ≡ Fun f v → map rule_view rs ≡ sys.rules → empty ≡ (length rs == 0) → empty ≡ false
+pub large_function : (sys : System) (t : program.Term) (f : ℕ) (v : Vec program.Term Global) (rs : List program_rules.Rule) (empty : Bool) → t ≡ Fun f v
+    → map rule_view rs ≡ sys.rules → empty ≡ (length rs == 0) → empty ≡ false
     → (Fits (view t) → ⊥) → IsFirstOutcome sys (view t) too_large
 large_function sys t f v rs empty is rules e some n =
     let count : length sys.rules ≡ length rs = sym (ap length rules) ∙ length_views rs in

@@ -77,17 +77,20 @@ judged_next sys ts n t at h here us e k s q l = go (le_or_next k n (subst (λ z.
     go (inl a) = h us e k s q a
     go (inr r) = here s (argument_renamed us ts n t s e at (subst (λ z. argument us z ≡ Some s) r q))
 
-pub judge_whole : (sys : System) (t : Term) (f : ℕ) (v : Vec Term Global) (n : ℕ) → t ≡ Fun f v → length v.items ≤ n → ((s : math.Term) → view t ≡ apply odd s → DoRulesClash sys s) → Judged sys v.items n → (s : math.Term) → view t ≡ apply odd s → DoAllClash sys s
+pub judge_whole : (sys : System) (t : Term) (f : ℕ) (v : Vec Term Global) (n : ℕ) → t ≡ Fun f v → length v.items ≤ n → ((s : math.Term) → view t ≡ apply odd s → DoRulesClash sys s)
+    → Judged sys v.items n → (s : math.Term) → view t ≡ apply odd s → DoAllClash sys s
 judge_whole sys t f v n is h root parts s e =
     let p = shape t f v s is e in
     subst (DoAllClash sys) (sym p.whole)
-    (whole_clash sys f p.arguments (subst (DoRulesClash sys) p.whole (root s e)) (λ k u q. parts p.arguments p.renamed k u q (let l = argument_number p.arguments v.items k u p.renamed q in omega (arith, l, h))))
+    (whole_clash sys f p.arguments (subst (DoRulesClash sys) p.whole (root s e))
+    (λ k u q. parts p.arguments p.renamed k u q (let l = argument_number p.arguments v.items k u p.renamed q in omega (arith, l, h))))
 
 pub judge_variable : (sys : System) (t : Term) (x : ℕ) → t ≡ Var x → (s : math.Term) → view t ≡ apply odd s → DoAllClash sys s
 judge_variable sys t x is (var y) e = variable_clash sys y
 judge_variable sys t x is (app g us) e = (let h : var x ≡ app g (apply_all odd us) = sym (ap view is ∙ view-Var x) ∙ e in absurd (cc))
 
-pub judge_root_other : (sys : System) (t : Term) (f : ℕ) (v : Vec Term Global) (o : Irreducible) → t ≡ Fun f v → (o ≡ Yes → ⊥) → ((s : math.Term) → view t ≡ apply odd s → RootAnswers sys s (Ok o)) → (s : math.Term) → view t ≡ apply odd s → JudgeAnswers sys s (Ok o)
+pub judge_root_other : (sys : System) (t : Term) (f : ℕ) (v : Vec Term Global) (o : Irreducible) → t ≡ Fun f v → (o ≡ Yes → ⊥)
+    → ((s : math.Term) → view t ≡ apply odd s → RootAnswers sys s (Ok o)) → (s : math.Term) → view t ≡ apply odd s → JudgeAnswers sys s (Ok o)
 judge_root_other sys t f v Yes is n h s e = absurd (n refl)
 judge_root_other sys t f v No is n h s e =
     let p = shape t f v s is e in
@@ -97,14 +100,18 @@ judge_root_other sys t f v TooLarge is n h s e =
     let p = shape t f v s is e in
     subst (λ z. IsFirstOutcome sys z too_large) (sym p.whole) (first_root sys f p.arguments too_large (subst (λ z. IsFirstRule sys z too_large) p.whole (h s e)))
 
-pub judge_part_other : (sys : System) (t : Term) (f : ℕ) (v : Vec Term Global) (n : ℕ) (u : Term) (o : Irreducible) → t ≡ Fun f v → n < length v.items → u ≡ get_or v.items n u → (o ≡ Yes → ⊥) → ((s : math.Term) → view t ≡ apply odd s → DoRulesClash sys s)
+pub judge_part_other : (sys : System) (t : Term) (f : ℕ) (v : Vec Term Global) (n : ℕ) (u : Term) (o : Irreducible) → t ≡ Fun f v → n < length v.items → u ≡ get_or v.items n u
+    → (o ≡ Yes → ⊥) → ((s : math.Term) → view t ≡ apply odd s → DoRulesClash sys s)
     → Judged sys v.items n → ((s : math.Term) → view u ≡ apply odd s → JudgeAnswers sys s (Ok o)) → (s : math.Term) → view t ≡ apply odd s → JudgeAnswers sys s (Ok o)
 judge_part_other sys t f v n u Yes is l at other root parts h s e = absurd (other refl)
 judge_part_other sys t f v n u No is l at other root parts h s e =
     let p = shape t f v s is e in
     let q = argument_exists p.arguments v.items n p.renamed l in
-    let r = h q.0 (argument_renamed p.arguments v.items n u q.0 p.renamed at q.1) in
-    (r.0, subst (λ z. IsFirstOutcome sys z (unifier r.0)) (sym p.whole) (first_part sys f p.arguments n q.0 (unifier r.0) (subst (DoRulesClash sys) p.whole (root s e)) (parts p.arguments p.renamed) q.1 r.1))
+    let r = h q.0 (argument_renamed p.arguments v.items n u q.0 p.renamed at q.1) in (
+      r.0,
+      subst (λ z. IsFirstOutcome sys z (unifier r.0)) (sym p.whole) (first_part sys f p.arguments n q.0 (unifier r.0) (subst (DoRulesClash sys) p.whole (root s e))
+          (parts p.arguments p.renamed) q.1 r.1),
+    )
 judge_part_other sys t f v n u TooLarge is l at other root parts h s e =
     let p = shape t f v s is e in
     let q = argument_exists p.arguments v.items n p.renamed l in

@@ -82,7 +82,8 @@ module _ (phi : ℕ → ℕ) (one : (x y : ℕ) → phi x ≡ phi y → x ≡ y)
   judged_there sys t (Err e) h = tt
 
 -- a term with places of a row for its variables is judged as the term
-pub judged_numbered : (sys : System) (row : List ℕ) (t u : Term) (r : Result Irreducible NoMemory) → AreDistinct row → t ≡ apply (naming row) u → ((m : ℕ) → occurs m u ≡ true → m < length row) → JudgeAnswers sys u r → JudgeAnswers sys t r
+pub judged_numbered : (sys : System) (row : List ℕ) (t u : Term) (r : Result Irreducible NoMemory) → AreDistinct row → t ≡ apply (naming row) u
+    → ((m : ℕ) → occurs m u ≡ true → m < length row) → JudgeAnswers sys u r → JudgeAnswers sys t r
 judged_numbered sys row t u r distinct names-of below h =
     let same : t ≡ apply (names (filling row)) u = names-of ∙ apply-agree (naming row) (names (filling row)) u (λ m o. ap var (sym (filling_within row m (below m o)))) in
     subst (λ z. JudgeAnswers sys z r) (sym same) (judged_there (filling row) (filling_one row distinct) sys u r h)

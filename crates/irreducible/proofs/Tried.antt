@@ -1,5 +1,6 @@
 -- The rules tried on a term: those with its root in order; all others clash at once.
-use Rattle.std.proofs.Common.{ℕ, zero, suc, ◌≡◌, ◌+◌, ◌-◌, ◌*◌, ◌<◌, ◌≤◌, ◌⊎◌, inl, inr, Bool, true, false, List, [], map, length, get_or, Some, refl, sym, ap, ◌∙◌, subst, subst₂, arith, eq-eqb, eqb-true}
+use Rattle.std.proofs.Common.{ℕ, zero, suc, ◌≡◌, ◌+◌, ◌-◌, ◌*◌, ◌<◌, ◌≤◌, ◌⊎◌, inl, inr, Bool, true, false, List, [], map, length, get_or, Some, refl, sym, ap, ◌∙◌, subst, subst₂}
+use Rattle.std.proofs.Common.{arith, eq-eqb, eqb-true}
 use Rattle.std.proofs.lemmas.Bool.{false≢true, cases_lt}
 use Rattle.rewriting.specs.Prelude.{Term, var, app, nil, cons, IsVariable, Fits, apply, apply_all, even, odd, Rule, System, rule_at, IsSystem}
 use Rattle.rewriting.proofs.Systems.{numbered_rule}
@@ -29,7 +30,8 @@ Tried sys ns part n = (s : Term) → part ≡ apply odd s → (j : ℕ) (r : Rul
 pub tried_none : (sys : System) (ns : List ℕ) (part : Term) → Tried sys ns part 0
 tried_none sys ns part s e j r l h = absurd (omega (arith, l))
 
-module _ (sys : System) (f : ℕ) (ns : List ℕ) (inners : List Program.Rule) (part : Term) (n : ℕ) (sound : IsSystem sys) (are : map rule_view inners ≡ inner_rules sys) (is : ns ≡ rules_with_root sys f) where
+module _ (sys : System) (f : ℕ) (ns : List ℕ) (inners : List Program.Rule) (part : Term) (n : ℕ) (sound : IsSystem sys) (are : map rule_view inners ≡ inner_rules sys)
+    (is : ns ≡ rules_with_root sys f) where
   rule_there : n < length ns → (r : Rule) × (rule_at sys (get_or ns n 0) ≡ Some r)
   rule_there l =
       let h = listed_rule sys f n (subst (λ z. n < length z) is l) in
@@ -42,10 +44,12 @@ module _ (sys : System) (f : ℕ) (ns : List ℕ) (inners : List Program.Rule) (
   number_high l = let h = rule_there l in (number_within sys (rule_under even) inners (get_or ns n 0) h.0 are h.1).1
 
   -- the run on the left side that is tried next
-  run_there : (inner : Program.Rule) (o : Outcome) → inner ≡ get_or inners (get_or ns n 0 - 1) inner → IsOutcome (cons (view inner.left) nil) (cons part nil) o → (s : Term) → part ≡ apply odd s → (r : Rule) → rule_at sys (get_or ns n 0) ≡ Some r → IsOutcomeOf r.left s o
+  run_there : (inner : Program.Rule) (o : Outcome) → inner ≡ get_or inners (get_or ns n 0 - 1) inner → IsOutcome (cons (view inner.left) nil) (cons part nil) o → (s : Term)
+      → part ≡ apply odd s → (r : Rule) → rule_at sys (get_or ns n 0) ≡ Some r → IsOutcomeOf r.left s o
   run_there inner o at run s e r h = subst₂ (λ x y. IsOutcome (cons x nil) (cons y nil) o) (ap (λ z. z.left) (renamed_rule sys (rule_under even) inners (get_or ns n 0) inner r are h at)) e run
 
-  pub tried_next : (inner : Program.Rule) → inner ≡ get_or inners (get_or ns n 0 - 1) inner → Tried sys ns part n → IsOutcome (cons (view inner.left) nil) (cons part nil) clash → Tried sys ns part (n + 1)
+  pub tried_next : (inner : Program.Rule) → inner ≡ get_or inners (get_or ns n 0 - 1) inner → Tried sys ns part n
+      → IsOutcome (cons (view inner.left) nil) (cons part nil) clash → Tried sys ns part (n + 1)
   tried_next inner at tried run s e j r l h = go (cases_lt j n)
     where
       go : (j < n) ⊎ (n ≤ j) → IsOutcomeOf r.left s clash
@@ -53,7 +57,8 @@ module _ (sys : System) (f : ℕ) (ns : List ℕ) (inners : List Program.Rule) (
       go (inr a) = (let same : j ≡ n = omega (arith, a, l) in run_there inner clash at run s e r (subst (λ z. rule_at sys (get_or ns z 0) ≡ Some r) same h))
 
   -- a rule whose number is not listed, or stands before the place
-  clash_by : (s : Term) → part ≡ apply odd s → has_root f part ≡ true → Fits part → Tried sys ns part n → (i : ℕ) (r : Rule) → rule_at sys i ≡ Some r → ((j : ℕ) → j < length ns → get_or ns j 0 ≡ i → j < n) → IsOutcomeOf r.left s clash
+  clash_by : (s : Term) → part ≡ apply odd s → has_root f part ≡ true → Fits part → Tried sys ns part n → (i : ℕ) (r : Rule) → rule_at sys i ≡ Some r
+      → ((j : ℕ) → j < length ns → get_or ns j 0 ≡ i → j < n) → IsOutcomeOf r.left s clash
   clash_by s e root fit tried i r h early = go (has_root f r.left) refl
     where
       stands : Stands i (rules_with_root sys f) → IsOutcomeOf r.left s clash
@@ -70,7 +75,8 @@ module _ (sys : System) (f : ℕ) (ns : List ℕ) (inners : List Program.Rule) (
   pub tried_all : has_root f part ≡ true → Fits part → length ns ≤ n → Tried sys ns part n → (s : Term) → part ≡ apply odd s → DoRulesClash sys s
   tried_all root fit past tried s e i r h = clash_by s e root fit tried i r h (λ j l k. omega (arith, l, past))
 
-  pub first_tried : has_root f part ≡ true → Fits part → (inner : Program.Rule) (o : Outcome) → n < length ns → inner ≡ get_or inners (get_or ns n 0 - 1) inner → Tried sys ns part n → IsOutcome (cons (view inner.left) nil) (cons part nil) o
+  pub first_tried : has_root f part ≡ true → Fits part → (inner : Program.Rule) (o : Outcome) → n < length ns → inner ≡ get_or inners (get_or ns n 0 - 1) inner
+      → Tried sys ns part n → IsOutcome (cons (view inner.left) nil) (cons part nil) o
       → (s : Term) → part ≡ apply odd s → IsFirstRule sys s o
   first_tried root fit inner o l at tried run s e =
       let h = rule_there l in

@@ -12,6 +12,7 @@ unmoved : (told : Option (List ℕ)) → told ≡ appended told []
 unmoved None = refl
 unmoved (Some bytes) = ap Some (sym (append-nil bytes))
 
-pub told_on_err : (wanted s : Status) (text : List ℕ) (out err : SinkRun) → out.written_now ≡ out.written_before → IsTaken text wanted status.WriteFault s err → IsTold (complaint_said wanted text) s out err
+pub told_on_err : (wanted s : Status) (text : List ℕ) (out err : SinkRun) → out.written_now ≡ out.written_before → IsTaken text wanted status.WriteFault s err
+    → IsTold (complaint_said wanted text) s out err
 told_on_err wanted s text out err same (inl (e, whole)) = inl (e, same ∙ unmoved out.written_before, whole)
 told_on_err wanted s text out err same (inr (e, part)) = inr (e, inl (refl, same), part)

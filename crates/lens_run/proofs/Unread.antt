@@ -34,7 +34,8 @@ refused words Refused failed s name bytes said None h e = inr (inr e)
 pub fails_since : (before between now : ℕ) → before ≤ between → Rose between now → Rose before now
 fails_since before between now le rose = omega arith
 
-pub cert_since : (cert : Bytes) (names : NameTable) (name : List ℕ) (said : Said) {failed since : Type 0} → (failed → since) → NoCertSaid cert names failed name said → NoCertSaid cert names since name said
+pub cert_since : (cert : Bytes) (names : NameTable) (name : List ℕ) (said : Said) {failed since : Type 0} → (failed → since) → NoCertSaid cert names failed name said
+    → NoCertSaid cert names since name said
 cert_since cert names name said go (inl refused) = inl refused
 cert_since cert names name said go (inr (inl fault)) = inr (inl (go fault.0, fault.1))
 cert_since cert names name said go (inr (inr none)) = inr (inr none)

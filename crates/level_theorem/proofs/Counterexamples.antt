@@ -24,7 +24,8 @@ module _ (sys : System) (k : ℕ) (none : (i : ℕ) (r : Rule) → rule_at sys i
   stays e (more h p) = absurd (no_step _ _ e h)
 
 -- a term that reaches two such constants
-not_confluent : (sys : System) (t : Term) (j k : ℕ) → j ≢ k → IsOver sys.arities t → IsOver sys.arities (constant j) → IsOver sys.arities (constant k) → Reaches sys t (constant j) → Reaches sys t (constant k)
+not_confluent : (sys : System) (t : Term) (j k : ℕ) → j ≢ k → IsOver sys.arities t → IsOver sys.arities (constant j) → IsOver sys.arities (constant k)
+    → Reaches sys t (constant j) → Reaches sys t (constant k)
     → ((i : ℕ) (r : Rule) → rule_at sys i ≡ Some r → (s : Substitution) → apply s r.left ≡ constant j → ⊥)
     → ((i : ℕ) (r : Rule) → rule_at sys i ≡ Some r → (s : Substitution) → apply s r.left ≡ constant k → ⊥) → IsConfluent sys → ⊥
 not_confluent sys t j k differ over first second to_first to_second none others conf =
@@ -65,7 +66,12 @@ to_c_reached = more (1, step_of_level forked 1 _ _ to_c) done
 
 -- a reaches b and c, and no term is reached from both
 pub forked_apart : Reaches forked (constant 0) (constant 1) × Reaches forked (constant 0) (constant 2) × AreApart forked (constant 1) (constant 2)
-forked_apart = (to_b_reached, to_c_reached, λ w h k. (let one = stays forked 1 (forked_rule 0) refl h in let other = stays forked 2 (forked_rule 1) refl k in let bad : constant 1 ≡ constant 2 = sym one ∙ other in cc))
+forked_apart = (
+  to_b_reached,
+  to_c_reached,
+  λ w h k. (let one = stays forked 1 (forked_rule 0) refl h in let other = stays forked 2 (forked_rule 1) refl k in
+      let bad : constant 1 ≡ constant 2 = sym one ∙ other in cc),
+)
 
 pub harmful_overlap : HarmfulOverlap
 harmful_overlap =
@@ -95,5 +101,6 @@ to_other = root record { rule = plain (unary 0 (var 0)) (var 1); by = two_values
 
 pub new_variable_at_right : NewVariableAtRight
 new_variable_at_right =
-    not_confluent loose (unary 0 (constant 1)) 1 2 (λ e. cc) (refl, ((refl, tt), tt)) (refl, tt) (refl, tt) (more (1, step_of_level loose 1 _ _ to_a) done) (more (1, step_of_level loose 1 _ _ to_other) done) (loose_rule 1)
+    not_confluent loose (unary 0 (constant 1)) 1 2 (λ e. cc) (refl, ((refl, tt), tt)) (refl, tt) (refl, tt) (more (1, step_of_level loose 1 _ _ to_a) done)
+    (more (1, step_of_level loose 1 _ _ to_other) done) (loose_rule 1)
     (loose_rule 2)

@@ -89,7 +89,8 @@ add_zero_found x o = rw (eqb-true x 0 o) refl
 
 add_next_found : IsType3Rule add_next
 add_next_found x o =
-    or_cases (nat_eq x 0 || (nat_eq x 1 || false)) false o (λ e. or_cases (nat_eq x 0) (nat_eq x 1 || false) e (λ e. rw (eqb-true x 0 e) refl) (λ e. or_cases (nat_eq x 1) false e (λ e. rw (eqb-true x 1 e) refl) (λ e. absurd (cc))))
+    or_cases (nat_eq x 0 || (nat_eq x 1 || false)) false o (λ e. or_cases (nat_eq x 0) (nat_eq x 1 || false) e (λ e. rw (eqb-true x 0 e) refl)
+    (λ e. or_cases (nat_eq x 1) false e (λ e. rw (eqb-true x 1 e) refl) (λ e. absurd (cc))))
     (λ e. absurd (cc))
 
 not_defined : IsDefined fibonacci_numbers.rules 2 → ⊥
@@ -110,7 +111,8 @@ fresh t within x o o' = go x (in_pair x o) (or_cases _ _ o' (λ e. within x e) (
 stable : IsRightStableRule fibonacci_numbers fibonacci
 stable =
     record {
-      fresh = λ i c at. only _ c (λ i c. IsDisjoint c.right (known fibonacci i) × IsDisjoint c.right (left_sides (take (suc i) fibonacci.conditions))) (fresh fibonacci.left (λ x o. or_cases _ _ o (λ e. e) (λ e. absurd (cc))), fresh (unary 0 (var 0)) (λ x o. o)) i at;
+      fresh = λ i c at. only _ c (λ i c. IsDisjoint c.right (known fibonacci i) × IsDisjoint c.right (left_sides (take (suc i) fibonacci.conditions)))
+          (fresh fibonacci.left (λ x o. or_cases _ _ o (λ e. e) (λ e. absurd (cc))), fresh (unary 0 (var 0)) (λ x o. o)) i at;
       stable = λ i c at. only _ c (λ i c. IsStable fibonacci_numbers c.right) (inl (linear_pair, (not_defined, (tt, (tt, tt))))) i at;
     }
 
@@ -181,15 +183,18 @@ clash_at_root i j a b lt at_i at_j = each_numbered (λ i a. i < j → AreClashin
 
     second : 2 < j → AreClashing add_next b
     second =
-        each_numbered (λ j b. 2 < j → AreClashing add_next b) (λ lt. absurd (omega (arith, lt))) (λ lt. absurd (omega (arith, lt))) (λ lt u. let same = u.1 in cc) (λ lt u. let same = u.1 in cc) j b at_j
+        each_numbered (λ j b. 2 < j → AreClashing add_next b) (λ lt. absurd (omega (arith, lt))) (λ lt. absurd (omega (arith, lt))) (λ lt u. let same = u.1 in cc)
+        (λ lt u. let same = u.1 in cc) j b at_j
 
     third : 3 < j → AreClashing fib_zero b
     third =
-        each_numbered (λ j b. 3 < j → AreClashing fib_zero b) (λ lt. absurd (omega (arith, lt))) (λ lt. absurd (omega (arith, lt))) (λ lt. absurd (omega (arith, lt))) (λ lt u. let same = u.1 in cc) j b at_j
+        each_numbered (λ j b. 3 < j → AreClashing fib_zero b) (λ lt. absurd (omega (arith, lt))) (λ lt. absurd (omega (arith, lt))) (λ lt. absurd (omega (arith, lt)))
+        (λ lt u. let same = u.1 in cc) j b at_j
 
     fourth : 4 < j → AreClashing fibonacci b
     fourth =
-        each_numbered (λ j b. 4 < j → AreClashing fibonacci b) (λ lt. absurd (omega (arith, lt))) (λ lt. absurd (omega (arith, lt))) (λ lt. absurd (omega (arith, lt))) (λ lt. absurd (omega (arith, lt))) j b at_j
+        each_numbered (λ j b. 4 < j → AreClashing fibonacci b) (λ lt. absurd (omega (arith, lt))) (λ lt. absurd (omega (arith, lt))) (λ lt. absurd (omega (arith, lt)))
+        (λ lt. absurd (omega (arith, lt))) j b at_j
 
 abbrev Empty : Position
 Empty = []

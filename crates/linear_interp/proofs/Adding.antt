@@ -1,5 +1,6 @@
 -- Adding the parts of a term, argument by argument.
-use Rattle.std.proofs.Common.{◌≡◌, ◌≢◌, ℕ, zero, suc, ◌+◌, ◌*◌, ◌^◌, ◌<◌, ◌≤◌, ◌⊎◌, inl, inr, min, Bool, true, false, refl, sym, ap, ◌∙◌, subst, List, [], ◌∷◌, length, get_or, slice_set, arith, nat_eq, eq-eqb, eqb-true}
+use Rattle.std.proofs.Common.{◌≡◌, ◌≢◌, ℕ, zero, suc, ◌+◌, ◌*◌, ◌^◌, ◌<◌, ◌≤◌, ◌⊎◌, inl, inr, min, Bool, true, false, refl, sym, ap, ◌∙◌, subst, List, [], ◌∷◌, length, get_or}
+use Rattle.std.proofs.Common.{slice_set, arith, nat_eq, eq-eqb, eqb-true}
 use Rattle.std.proofs.Math.Nat.{mul-le-mul_left, mul-le-mul_right, min-le_left}
 use Rattle.std.proofs.lemmas.Bool.{cases_lt}
 use Rattle.std.proofs.lemmas.List.{get_or-set_same, get_or-set_other}
@@ -54,7 +55,8 @@ advance es n f k w s ss t old mid new so e a =
           let split = part_cons es i f k s ss in
           let most = a.small i in
           let capped = capped_same n w (part es i s) (omega (arith, here, most)) in
-          split_sums (get_or new i 0) (get_or mid i 0) (get_or old i 0) _ n w (part es i s) _ (part_from es i f (suc k) ss) (part es i t) here capped (split ∙ ap (λ z. z * part es i s + part_from es i f (suc k) ss) (sym e)) before
+          split_sums (get_or new i 0) (get_or mid i 0) (get_or old i 0) _ n w (part es i s) _ (part_from es i f (suc k) ss) (part es i t) here capped
+          (split ∙ ap (λ z. z * part es i s + part_from es i f (suc k) ss) (sym e)) before
           );
       small = a.small;
     }
@@ -68,14 +70,24 @@ fails es n f k w s ss t old mid so e a =
     let split = part_cons es a.place f k s ss in
     let above = a.above in
     let capped = capped_less n w (part es a.place s) in
-    record { place = a.place; within = lt; above = split_above (get_or mid a.place 0) (get_or old a.place 0) _ n w (part es a.place s) _ (part_from es a.place f (suc k) ss) (part es a.place t) (2 ^ 100) above capped (split ∙ ap (λ z. z * part es a.place s + part_from es a.place f (suc k) ss) (sym e)) before }
+    record {
+      place = a.place;
+      within = lt;
+      above = split_above (get_or mid a.place 0) (get_or old a.place 0) _ n w (part es a.place s) _ (part_from es a.place f (suc k) ss)
+          (part es a.place t) (2 ^ 100) above capped (split ∙ ap (λ z. z * part es a.place s + part_from es a.place f (suc k) ss) (sym e)) before;
+    }
 
 -- the parts of a symbol's term begin with its constant
-pub begin : (es : Interpretation) (n f w : ℕ) (ts : Terms) (old new : List ℕ) → AreSmall old → 0 < length old → w ≡ number_of es f 0 → new ≡ slice_set old 0 (get_or old 0 0 + n * w) → get_or old 0 0 + n * w ≤ 2 ^ 100
+pub begin : (es : Interpretation) (n f w : ℕ) (ts : Terms) (old new : List ℕ) → AreSmall old → 0 < length old → w ≡ number_of es f 0
+    → new ≡ slice_set old 0 (get_or old 0 0 + n * w) → get_or old 0 0 + n * w ≤ 2 ^ 100
     → SoFar es n f 1 ts (app f ts) old new
 begin es n f w ts [] new small lt e is le = absurd (omega (arith, lt))
 begin es n f w ts (a ∷ old) new small lt e is le =
-    record { as_many = ap length is; sums = λ i lt. subst (λ xs. get_or xs i 0 + n * part_from es i f 1 ts ≡ get_or (a ∷ old) i 0 + n * part es i (app f ts)) (sym is) (go i); small = λ i. subst (λ xs. get_or xs i 0 ≤ 2 ^ 100) (sym is) (within i) }
+    record {
+      as_many = ap length is;
+      sums = λ i lt. subst (λ xs. get_or xs i 0 + n * part_from es i f 1 ts ≡ get_or (a ∷ old) i 0 + n * part es i (app f ts)) (sym is) (go i);
+      small = λ i. subst (λ xs. get_or xs i 0 ≤ 2 ^ 100) (sym is) (within i);
+    }
   where
     go : (i : ℕ) → get_or ((a + n * w) ∷ old) i 0 + n * part_from es i f 1 ts ≡ get_or (a ∷ old) i 0 + n * part es i (app f ts)
     go zero = let z : n * w ≡ n * number_of es f 0 = ap (λ z. n * z) e in omega (arith, z)
@@ -93,5 +105,6 @@ raised_small old new i v small lt is le j = subst (λ xs. get_or xs j 0 ≤ 2 ^ 
     go false e = let differ : j ≢ i = (λ z. let t = eq-eqb j i z in cc) in let z = get_or-set_other old i j v 0 differ in let m = small j in omega (arith, z, m)
 
 -- the argument that is next
-pub next : (es : Interpretation) (n f k : ℕ) (rest : Terms) (s : Term) (ss : Terms) (t : Term) (old new : List ℕ) → SoFar es n f k rest t old new → rest ≡ cons s ss → SoFar es n f k (cons s ss) t old new
+pub next : (es : Interpretation) (n f k : ℕ) (rest : Terms) (s : Term) (ss : Terms) (t : Term) (old new : List ℕ) → SoFar es n f k rest t old new → rest ≡ cons s ss
+    → SoFar es n f k (cons s ss) t old new
 next es n f k rest s ss t old new so e = subst (λ z. SoFar es n f k z t old new) e so

@@ -56,7 +56,8 @@ pub record Call (entries : List LinearEntry) (n : ℕ) (t : Term) (f : ℕ) (num
   pub numbers_are : numbers_of (map linear_entry_view entries) f ≡ numbers
   pub falls : math.size (view t) ≡ suc (math.size_all (views args))
 
-call_at : (entries : List LinearEntry) (n f : ℕ) (t : Term) (v : Vec Term Global) (e : LinearEntry) → t ≡ Fun f v → IsReady (map linear_entry_view entries) n (view t) → e ≡ get_or entries f e → Call entries n t f e.coeffs.items v.items
+call_at : (entries : List LinearEntry) (n f : ℕ) (t : Term) (v : Vec Term Global) (e : LinearEntry) → t ≡ Fun f v → IsReady (map linear_entry_view entries) n (view t)
+    → e ≡ get_or entries f e → Call entries n t f e.coeffs.items v.items
 call_at entries n f t v e is h at =
     let r = ready_root entries n f t v is h in
     let shown : view t ≡ app f (views v.items) = ap view is ∙ view-Fun f v in
@@ -69,7 +70,8 @@ call_at entries n f t v e is h at =
       falls = ap math.size shown;
     }
 
-pub call : (entries : List LinearEntry) (n f : ℕ) (t : Term) (v : Vec Term Global) (e : LinearEntry) (numbers : List ℕ) (args : List Term) → t ≡ Fun f v → IsReady (map linear_entry_view entries) n (view t) → e ≡ get_or entries f e → numbers ≡ e.coeffs.items → args ≡ v.items
+pub call : (entries : List LinearEntry) (n f : ℕ) (t : Term) (v : Vec Term Global) (e : LinearEntry) (numbers : List ℕ) (args : List Term) → t ≡ Fun f v
+    → IsReady (map linear_entry_view entries) n (view t) → e ≡ get_or entries f e → numbers ≡ e.coeffs.items → args ≡ v.items
     → Call entries n t f numbers args
 call entries n f t v e numbers args is h at a b =
     subst (λ ns. Call entries n t f ns args) (sym a) (subst (Call entries n t f e.coeffs.items) (sym b) (call_at entries n f t v e is h at))

@@ -85,11 +85,13 @@ module _ (sys : math.System) (es : Interpretation) (s : HasShape sys es) (number
     all_ready n (cons t ts) over low = (ready n t over.0 (λ x o. low x (or_left _ _ o)), all_ready n ts over.1 (λ x o. low x (or_right _ _ o)))
 
   -- a side of a rule, whose variables are below a number
-  side_ready : IsWellFormed sys → (i : ℕ) (r : math.Rule) (n : ℕ) → rule_at (unraveled sys) i ≡ Some r → CountsFrom 0 (rule_variables r) → n ≡ length (rule_variables r) → IsSideReady es n r.left × IsSideReady es n r.right
+  side_ready : IsWellFormed sys → (i : ℕ) (r : math.Rule) (n : ℕ) → rule_at (unraveled sys) i ≡ Some r → CountsFrom 0 (rule_variables r) → n ≡ length (rule_variables r)
+      → IsSideReady es n r.left × IsSideReady es n r.right
   side_ready well i r n at counts same =
       let side = sides_of sys well i r at in
       let over = (unraveled_well_formed sys well i r at).over in
-      let low : (x : ℕ) → occurs_in x (terms_of_rule r) ≡ true → suc x < n + 1 = (λ x o. let h = counted_below 0 (rule_variables r) x counts (variables_have_all x [] (terms_of_rule r) o) in omega (arith, h, same)) in (
+      let low : (x : ℕ) → occurs_in x (terms_of_rule r) ≡ true
+      → suc x < n + 1 = (λ x o. let h = counted_below 0 (rule_variables r) x counts (variables_have_all x [] (terms_of_rule r) o) in omega (arith, h, same)) in (
         record {
           ready = ready (n + 1) r.left over.0 (λ x o. low x (or_left _ _ o));
           shows = large_side sys es s numbers r.left over.0 side.0;
@@ -105,11 +107,13 @@ rule_is arities [] i r h e = absurd (cc)
 rule_is arities (q ∷ rs) zero r h e = let same : q ≡ r = cc in subst (IsRule arities) same h.0
 rule_is arities (q ∷ rs) (suc i) r h e = rule_is arities rs i r h.1 e
 
-each_ready : (es : Interpretation) (rs : List Rule) → AreCounted rs → ((i : ℕ) (r : Rule) → slice_get (map rule_view rs) i ≡ Some (rule_view r) → r.vars ≡ length (rule_variables (rule_view r)) → IsRuleReady es r) → AreRulesReady es rs
+each_ready : (es : Interpretation) (rs : List Rule) → AreCounted rs
+    → ((i : ℕ) (r : Rule) → slice_get (map rule_view rs) i ≡ Some (rule_view r) → r.vars ≡ length (rule_variables (rule_view r)) → IsRuleReady es r) → AreRulesReady es rs
 each_ready es [] counted h = tt
 each_ready es (r ∷ rs) counted h = (h 0 r refl counted.0, each_ready es rs counted.1 (λ i q e c. h (suc i) q e c))
 
-pub rules_ready : (sys system : math.System) (es : Interpretation) (rs : List Rule) → system ≡ unraveled sys → IsWellFormed sys → HasShape sys es → AreAllNumbersGood sys es → map rule_view rs ≡ system.rules → AreCounted rs → IsSystem system → AreRulesReady es rs
+pub rules_ready : (sys system : math.System) (es : Interpretation) (rs : List Rule) → system ≡ unraveled sys → IsWellFormed sys → HasShape sys es → AreAllNumbersGood sys es
+    → map rule_view rs ≡ system.rules → AreCounted rs → IsSystem system → AreRulesReady es rs
 rules_ready sys system es rs same well s numbers are counted sound =
     each_ready es rs counted
     (λ i r at count.
@@ -134,7 +138,8 @@ module _ (sys : math.System) (es : Interpretation) where
   every h zero r at = absurd (cc)
   every h (suc i) r at = h i r at
 
-  judged_here : DoesUnravelingFit sys → HasShape sys es → AreAllNumbersGood sys es → (result : Result (Unit {0}) MeasureError) → RulesAnswers es (unraveled sys).rules result → ShowsAnswers (IsInterpretationJudged sys es) result
+  judged_here : DoesUnravelingFit sys → HasShape sys es → AreAllNumbersGood sys es → (result : Result (Unit {0}) MeasureError) → RulesAnswers es (unraveled sys).rules result
+      → ShowsAnswers (IsInterpretationJudged sys es) result
   judged_here fit s numbers (Ok u) h = (fit, record { shape = s; numbers = numbers; rules = every h })
   judged_here fit s numbers (Err (Reason (reason.Overflow n))) h = (fit, s, numbers, fails_at n (Overflows es) h)
   judged_here fit s numbers (Err (Reason (reason.Variable n x))) h = (fit, s, numbers, fails_at n (IsFirstSmaller es x) h)
@@ -145,7 +150,8 @@ module _ (sys : math.System) (es : Interpretation) where
   judged_here fit s numbers (Err (Unraveling n)) h = absurd h
   judged_here fit s numbers (Err NoMemory) h = tt
 
-  pub judged : (system : math.System) (rs : List math.Rule) → system ≡ unraveled sys → rs ≡ system.rules → DoesUnravelingFit sys → HasShape sys es → AreAllNumbersGood sys es → (result : Result (Unit {0}) MeasureError) → RulesAnswers es rs result
+  pub judged : (system : math.System) (rs : List math.Rule) → system ≡ unraveled sys → rs ≡ system.rules → DoesUnravelingFit sys → HasShape sys es → AreAllNumbersGood sys es
+      → (result : Result (Unit {0}) MeasureError) → RulesAnswers es rs result
       → ShowsAnswers (IsInterpretationJudged sys es) result
   judged system rs same are fit s numbers result h =
       judged_here fit s numbers result (subst (λ q. RulesAnswers es q result) (are ∙ ap (λ z. z.rules) same) h)

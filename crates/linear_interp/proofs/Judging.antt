@@ -1,5 +1,6 @@
 -- From sums to the judgement of a rule, and from rules to all rules.
-use Rattle.std.proofs.Common.{◌≡◌, ℕ, zero, suc, ◌+◌, ◌-◌, ◌*◌, ◌^◌, ◌<◌, ◌≤◌, ◌⊎◌, inl, inr, Bool, true, false, refl, sym, ap, subst, List, [], ◌∷◌, map, length, get_or, slice_get, Option, Some, None, Result, Ok, Err, Vec, Global, arith, nat_eq, if◌then◌else◌, eqb-true}
+use Rattle.std.proofs.Common.{◌≡◌, ℕ, zero, suc, ◌+◌, ◌-◌, ◌*◌, ◌^◌, ◌<◌, ◌≤◌, ◌⊎◌, inl, inr, Bool, true, false, refl, sym, ap, subst, List, [], ◌∷◌, map, length, get_or}
+use Rattle.std.proofs.Common.{slice_get, Option, Some, None, Result, Ok, Err, Vec, Global, arith, nat_eq, if◌then◌else◌, eqb-true}
 use Rattle.std.proofs.lemmas.List.{length-map}
 use Rattle.std.proofs.lemmas.Bool.{cases_lt}
 use Rattle.std.proofs.lemmas.Option.{slice_get_within}
@@ -55,7 +56,8 @@ overflows_right es r n None e h = inr (large_at_root es r.right n h)
 overflows_right es r n (Some v) e h = cc
 
 -- what the sums decide
-pub decided : (es : Interpretation) (r : Rule) (number : ℕ) (left right : List ℕ) (result : Result (Unit {0}) MeasureError) → IsRuleReady es r → ArePartsOf es (r.vars + 1) (view r.left) left → ArePartsOf es (r.vars + 1) (view r.right) right
+pub decided : (es : Interpretation) (r : Rule) (number : ℕ) (left right : List ℕ) (result : Result (Unit {0}) MeasureError) → IsRuleReady es r
+    → ArePartsOf es (r.vars + 1) (view r.left) left → ArePartsOf es (r.vars + 1) (view r.right) right
     → SumsDecide left right number result → RuleAnswers es (rule_view r) number result
 decided es r number left right result ready pl pr d = by_result result d
   where
@@ -77,7 +79,12 @@ decided es r number left right result ready pl pr d = by_result result d
         by_place (inr more) = let z = beyond es (r.vars + 1) y (view r.right) ready.right.ready more in omega (arith, z)
 
     by_result : (result : Result (Unit {0}) MeasureError) → SumsDecide left right number result → RuleAnswers es (rule_view r) number result
-    by_result (Ok u) h = record { bounded = bounded; coefficients = kept h.0; constants = (let a = pl.parts 0 (omega arith) in let b = pr.parts 0 (omega arith) in let c = h.1 in omega (arith, a, b, c)) }
+    by_result (Ok u) h = record {
+      bounded = bounded;
+      coefficients = kept h.0;
+      constants = (let a = pl.parts 0 (omega arith) in let b = pr.parts 0 (omega arith) in
+          let c = h.1 in omega (arith, a, b, c));
+    }
     by_result (Err (Reason (reason.Variable m x))) h =
         let long = pl.as_many in
         let here = h.1.0 in
@@ -124,8 +131,16 @@ module _ (P : math.Rule → Type 0) (rs : List Rule) (i : ℕ) where
   pub all_hold : HoldsBefore P rs i → length rs ≤ i → (j : ℕ) (r : math.Rule) → slice_get (map rule_view rs) j ≡ Some r → P r
   all_hold before le j r at = let within = slice_get_within (map rule_view rs) j r at in let many = length-map rs rule_view in before j r (omega (arith, within, many, le)) at
 
-pub failed : (es : Interpretation) (rs : List Rule) (i : ℕ) (r : Rule) (error : MeasureError) → DoFallBefore es rs i → i < length rs → r ≡ get_or rs i r → RuleAnswers es (rule_view r) (i + 1) (Err error) → RulesAnswers es (map rule_view rs) (Err error)
-failed es rs i r (Reason (reason.Overflow n)) before lt is h = record { place = i; is_number = (let a = h.0 in omega (arith, a)); rule = rule_view r; is_rule = slice_get-map_read rule_view rs i r lt is; before = before; here = h.1 }
+pub failed : (es : Interpretation) (rs : List Rule) (i : ℕ) (r : Rule) (error : MeasureError) → DoFallBefore es rs i → i < length rs → r ≡ get_or rs i r
+    → RuleAnswers es (rule_view r) (i + 1) (Err error) → RulesAnswers es (map rule_view rs) (Err error)
+failed es rs i r (Reason (reason.Overflow n)) before lt is h = record {
+  place = i;
+  is_number = (let a = h.0 in omega (arith, a));
+  rule = rule_view r;
+  is_rule = slice_get-map_read rule_view rs i r lt is;
+  before = before;
+  here = h.1;
+}
 failed es rs i r (Reason (reason.Variable n x)) before lt is h =
     record { place = i; is_number = (let a = h.0 in omega (arith, a)); rule = rule_view r; is_rule = slice_get-map_read rule_view rs i r lt is; before = before; here = h.1 }
 failed es rs i r (Reason (reason.Constant n)) before lt is h =
@@ -136,6 +151,7 @@ failed es rs i r (Reason (reason.Order n)) before lt is h = absurd h
 failed es rs i r (Unraveling n) before lt is h = absurd h
 failed es rs i r NoMemory before lt is h = tt
 
-pub smaller_here : (left right : List ℕ) (x : ℕ) → 1 ≤ x → x < length left → get_or left x 0 < get_or right x 0 → ((y : ℕ) → suc y < x → get_or right (suc y) 0 ≤ get_or left (suc y) 0) → SmallerAnswers left right (Some (x - 1))
+pub smaller_here : (left right : List ℕ) (x : ℕ) → 1 ≤ x → x < length left → get_or left x 0 < get_or right x 0
+    → ((y : ℕ) → suc y < x → get_or right (suc y) 0 ≤ get_or left (suc y) 0) → SmallerAnswers left right (Some (x - 1))
 smaller_here left right zero le lt less before = absurd (omega (arith, le))
 smaller_here left right (suc k) le lt less before = let e : k ≡ suc k - 1 = omega arith in subst (λ n. SmallerAnswers left right (Some n)) e (lt, less, λ y h. before y (omega (arith, h)))

@@ -1,5 +1,6 @@
 -- The first place that a test finds.
-use Rattle.std.proofs.Common.{◌≡◌, ℕ, zero, suc, ◌+◌, ◌<◌, ◌≤◌, ◌⊎◌, inl, inr, max, refl, sym, ap, ap₂, ◌∙◌, subst, List, length, slice_get, option_map, Option, Some, None, Bool, true, false, not, nat_eq, eqb-true, eq-eqb, if◌then◌else◌, IsTrue, IsNone, ◌↔◌, arith}
+use Rattle.std.proofs.Common.{◌≡◌, ℕ, zero, suc, ◌+◌, ◌<◌, ◌≤◌, ◌⊎◌, inl, inr, max, refl, sym, ap, ap₂, ◌∙◌, subst, List, length, slice_get, option_map, Option, Some, None, Bool}
+use Rattle.std.proofs.Common.{true, false, not, nat_eq, eqb-true, eq-eqb, if◌then◌else◌, IsTrue, IsNone, ◌↔◌, arith}
 use Rattle.std.proofs.lemmas.Bool.{cases_lt, and_from, and_parts, not-false}
 use Rattle.std.specs.List.{range_with_len}
 use Rattle.std.proofs.iter.Yields.{nat_range_steps}
@@ -36,7 +37,8 @@ found_from h (suc n) i = go (h i) refl (found_from h n (i + 1))
     go false e rest = one_more h n i (find_at h (i + 1) (range_with_len (i + 1) n)) e rest
 
 -- what `find_position` says of a run over a range
-pub searched : (n : ℕ) (h : ℕ → Bool) (o : Option (ℕ × ℕ)) (p : Run nat_range_steps) → p.from ≡ record { start = 0; end = n } → (o ≡ find_at h 0 p.items) × (IsNone o → IsTrue p.whole) → o ≡ find_at h 0 (range_with_len 0 n)
+pub searched : (n : ℕ) (h : ℕ → Bool) (o : Option (ℕ × ℕ)) (p : Run nat_range_steps) → p.from ≡ record { start = 0; end = n }
+    → (o ≡ find_at h 0 p.items) × (IsNone o → IsTrue p.whole) → o ≡ find_at h 0 (range_with_len 0 n)
 searched n h o p at b = find_at-of-run (YieldsList-from_range {s = record { start = 0; end = n }} 0 n n refl (omega arith)) p at h o b.0 b.1
 
 same_head : (a b : Head) → is_same_head a b ≡ true → a ≡ b
@@ -83,7 +85,8 @@ module _ (hs : List Head) (ar : List ℕ) (es : List LinearEntry) (k : ℕ) wher
 
   pub wrong_told : (b : Bool) → (IsTrue b ↔ IsEntryAt hs ar es k) → not b ≡ is_wrong_at hs ar es k
   wrong_told b h =
-      ap not (told b (is_shaped_as (slice_get es k) (slice_get hs k) (slice_get ar k)) (λ e. entry_of (slice_get es k) (slice_get hs k) (slice_get ar k) refl refl refl (h.0 e)) (λ t. h.1 (shaped_entry t)))
+      ap not (told b (is_shaped_as (slice_get es k) (slice_get hs k) (slice_get ar k)) (λ e. entry_of (slice_get es k) (slice_get hs k) (slice_get ar k) refl refl refl
+      (h.0 e)) (λ t. h.1 (shaped_entry t)))
 
   not_wrong : is_wrong_at hs ar es k ≡ false → IsEntryAt hs ar es k
   not_wrong e = shaped_entry (not-false (is_shaped_as (slice_get es k) (slice_get hs k) (slice_get ar k)) e)
@@ -92,7 +95,8 @@ module _ (hs : List Head) (ar : List ℕ) (es : List LinearEntry) (k : ℕ) wher
   wrong e h = not_true (is_shaped_as (slice_get es k) (slice_get hs k) (slice_get ar k)) e (entry_of (slice_get es k) (slice_get hs k) (slice_get ar k) refl refl refl h)
 
 -- the first place of a wrong entry, among as many as the longer list has
-module _ (hs : List Head) (ar : List ℕ) (es : List LinearEntry) (n : ℕ) (is : n ≡ max (length hs) (length es)) (found : Option (ℕ × ℕ)) (searches : found ≡ find_at (is_wrong_at hs ar es) 0 (range_with_len 0 n)) where
+module _ (hs : List Head) (ar : List ℕ) (es : List LinearEntry) (n : ℕ) (is : n ≡ max (length hs) (length es)) (found : Option (ℕ × ℕ))
+    (searches : found ≡ find_at (is_wrong_at hs ar es) 0 (range_with_len 0 n)) where
   longer : (k : ℕ) → k < n → (k < length es) ⊎ (k < length hs)
   longer k lt = go (cases_lt k (length es))
     where

@@ -1,5 +1,6 @@
 -- Comparison with variables and constants, and what is known of a constant.
-use Rattle.std.proofs.Common.{◌≡◌, inl, inr, ℕ, suc, ◌&&◌, ◌||◌, ◌⊎◌, Bool, true, false, nat_eq, nat_lt, List, [], ◌∷◌, length, Option, Some, None, Vec, Global, refl, sym, ap, ap₂, ◌∙◌, subst, if◌then◌else◌, arith}
+use Rattle.std.proofs.Common.{◌≡◌, inl, inr, ℕ, suc, ◌&&◌, ◌||◌, ◌⊎◌, Bool, true, false, nat_eq, nat_lt, List, [], ◌∷◌, length, Option, Some, None, Vec, Global, refl, sym, ap, ap₂}
+use Rattle.std.proofs.Common.{◌∙◌, subst, if◌then◌else◌, arith}
 use Rattle.std.proofs.lemmas.Bool.{and_parts, and_from, and_right, cond-true, cond-false, eqb-true, eq-eqb, ne_eqb, ltb-true, lt-ltb, or_cases, or_left, or_right, false_from_ne_true, false≢true}
 use Rattle.std.proofs.Math.Bool.{or-false, or_assoc}
 use Rattle.rewriting.specs.Prelude.{Term, var, app, Terms, nil, cons, count, is_same, are_same, occurs, occurs_in}

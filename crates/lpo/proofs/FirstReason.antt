@@ -75,7 +75,8 @@ module _ (f : ℕ) (rs : List Rule) (shape : Option MeasureReason) (places : Lis
       go (Some s) = refl
       go None = λ j q at. absurd (cc)
 
-  pub walk_finish : (i symbol before : ℕ) (reason : Option MeasureReason) → Walk f rs shape places i symbol before reason → length rs ≤ i → RulesReasonAnswers f (map rule_view rs) shape places (Ok reason)
+  pub walk_finish : (i symbol before : ℕ) (reason : Option MeasureReason) → Walk f rs shape places i symbol before reason → length rs ≤ i
+      → RulesReasonAnswers f (map rule_view rs) shape places (Ok reason)
   walk_finish i symbol before reason w le =
       let all = front_all rs i le in
       (subst (λ z. DoSidesFit (unraveled_rules f z)) all w.front.fit, subst (λ z. ReasonAnswers shape places (unraveled_rules f z) reason) all w.reason_is)
@@ -112,7 +113,8 @@ module _ (f : ℕ) (rs : List Rule) (shape : Option MeasureReason) (places : Lis
           reason_is = subst (λ qs. ReasonAnswers shape places qs after) (sym next_rules) (step shape (unraveled_rules f (take i (map rule_view rs))) (sym w.before_is) w.reason_is);
         }
 
-pub of_system : (sys : math.System) (f : ℕ) (rs : List Rule) (shape : Option MeasureReason) (places : List ℕ) (result : Result (Option MeasureReason) UnravelError) → map rule_view rs ≡ sys.rules → f ≡ length sys.arities
+pub of_system : (sys : math.System) (f : ℕ) (rs : List Rule) (shape : Option MeasureReason) (places : List ℕ) (result : Result (Option MeasureReason) UnravelError)
+    → map rule_view rs ≡ sys.rules → f ≡ length sys.arities
     → RulesReasonAnswers f (map rule_view rs) shape places result → FirstReasonAnswers sys shape places result
 of_system sys f rs shape places result rules_are first h =
     go result (subst (λ n. RulesReasonAnswers n sys.rules shape places result) first (subst (λ qs. RulesReasonAnswers f qs shape places result) rules_are h))
@@ -124,11 +126,13 @@ of_system sys f rs shape places result rules_are first h =
 
 -- the judgement
 module _ (sys : math.System) (order : Precedence) (places : List ℕ) where
-  pub judged_good : (shape : Option MeasureReason) → ShapeAnswers sys order places shape → DoesUnravelingFit sys → ReasonAnswers shape places (unraveled sys).rules None → IsPrecedenceJudged sys order good
+  pub judged_good : (shape : Option MeasureReason) → ShapeAnswers sys order places shape → DoesUnravelingFit sys → ReasonAnswers shape places (unraveled sys).rules None
+      → IsPrecedenceJudged sys order good
   judged_good (Some s) h fit e = absurd (cc)
   judged_good None (a, none) fit u = (fit, record { precedence = whole sys order places a none; rules = all_ordered sys order places a u })
 
-  pub judged_not : (shape : Option MeasureReason) (reason : MeasureReason) → ShapeAnswers sys order places shape → DoesUnravelingFit sys → ReasonAnswers shape places (unraveled sys).rules (Some reason)
+  pub judged_not : (shape : Option MeasureReason) (reason : MeasureReason) → ShapeAnswers sys order places shape → DoesUnravelingFit sys
+      → ReasonAnswers shape places (unraveled sys).rules (Some reason)
       → IsPrecedenceJudged sys order (not_good (measure_reason_view reason))
   judged_not (Some s) reason h fit e = let same : s ≡ reason = cc in subst (λ z. IsPrecedenceJudged sys order (not_good (measure_reason_view z))) same (h fit)
   judged_not None reason (a, none) fit (i, e, u) =

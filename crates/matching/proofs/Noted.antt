@@ -1,5 +1,6 @@
 -- Trails: what is bound, and what is taken back.
-use Rattle.std.proofs.Common.{◌≡◌, ℕ, ◌<◌, Bool, true, false, cond, List, [], ◌∷◌, ◌++◌, length, take, drop, Some, None, nat_cmp, refl, sym, ap, ◌∙◌, append-nil, append_assoc, length-append, le_refl, ◌≤◌, arith}
+use Rattle.std.proofs.Common.{◌≡◌, ℕ, ◌<◌, Bool, true, false, cond, List, [], ◌∷◌, ◌++◌, length, take, drop, Some, None, nat_cmp, refl, sym, ap, ◌∙◌, append-nil, append_assoc}
+use Rattle.std.proofs.Common.{length-append, le_refl, ◌≤◌, arith}
 use Rattle.std.proofs.lemmas.List.{take_all, drop_all, take-append-le, drop-append-le}
 use Rattle.std.specs.Ordering.{eq_by_cmp}
 use Rattle.std.specs.Cmp.{nat_cmp_total, Equal-is}
@@ -36,7 +37,8 @@ noted_one b c x t xs ys free is pushed = record { fresh = x ∷ []; noted = push
 
 -- what stands behind a place, and what stands before it
 pub noted_back : (b c : Bindings) (xs ys : List ℕ) → IsNoted b xs c ys → without c (drop (length xs) ys) ≡ b
-noted_back b c xs ys h = ap (without c) (ap (drop (length xs)) h.noted ∙ drop-append-le (length xs) xs h.fresh (le_refl (length xs)) ∙ ap (λ z. z ++ h.fresh) (drop_all (length xs) xs (le_refl (length xs)))) ∙ h.back
+noted_back b c xs ys h = ap (without c) (ap (drop (length xs)) h.noted ∙ drop-append-le (length xs) xs h.fresh (le_refl (length xs))
+    ∙ ap (λ z. z ++ h.fresh) (drop_all (length xs) xs (le_refl (length xs)))) ∙ h.back
 
 pub noted_before : (b c : Bindings) (xs ys : List ℕ) → IsNoted b xs c ys → take (length xs) ys ≡ xs
 noted_before b c xs ys h = ap (take (length xs)) h.noted ∙ take-append-le (length xs) xs h.fresh (le_refl (length xs)) ∙ take_all (length xs) xs (le_refl (length xs))

@@ -24,7 +24,8 @@ pub no_shape : (b : Bindings) (p u : Term) → (HasShape p u → ⊥) → HasNoM
 no_shape b p u h = no_instance b p u (λ k. h (shape_of p u k))
 
 -- the same of the program's terms
-pub shape_args : (p s : program.Term) (f g : ℕ) (v w : Vec program.Term Global) (ps ss : List program.Term) → p ≡ Fun f v → s ≡ Fun g w → ps ≡ v.items → ss ≡ w.items → f ≡ g → HaveShape (views ps) (views ss) ↔ HasShape (view p) (view s)
+pub shape_args : (p s : program.Term) (f g : ℕ) (v w : Vec program.Term Global) (ps ss : List program.Term) → p ≡ Fun f v → s ≡ Fun g w → ps ≡ v.items → ss ≡ w.items → f ≡ g
+    → HaveShape (views ps) (views ss) ↔ HasShape (view p) (view s)
 shape_args p s f g v w ps ss is_p is_s pe se e =
     let left : view p ≡ app f (views ps) = ap view is_p ∙ view-Fun f v ∙ ap (λ ts. app f (views ts)) (sym pe) in
     let right : view s ≡ app g (views ss) = ap view is_s ∙ view-Fun g w ∙ ap (λ ts. app g (views ts)) (sym se) in
@@ -36,8 +37,11 @@ shape_first [] ss p s lp ls ep es = absurd (omega arith)
 shape_first (q ∷ ps) [] p s lp ls ep es = absurd (omega arith)
 shape_first (q ∷ ps) (r ∷ ss) p s lp ls ep es =
     let left : take (length (q ∷ ps) - 1) (drop 1 (q ∷ ps)) ≡ ps = rest_of 1 (q ∷ ps) in
-    let right : take (length (r ∷ ss) - 1) (drop 1 (r ∷ ss)) ≡ ss = rest_of 1 (r ∷ ss) in
-    (λ h. rw (ep, es, left, right) h, λ h. subst₂ (λ a b. HasShape (view a) (view b) × HaveShape (views ps) (views ss)) ep es (subst₂ (λ a b. HasShape (view p) (view s) × HaveShape (views a) (views b)) left right h))
+    let right : take (length (r ∷ ss) - 1) (drop 1 (r ∷ ss)) ≡ ss = rest_of 1 (r ∷ ss) in (
+      λ h. rw (ep, es, left, right) h,
+      λ h. subst₂ (λ a b. HasShape (view a) (view b) × HaveShape (views ps) (views ss)) ep es
+          (subst₂ (λ a b. HasShape (view p) (view s) × HaveShape (views a) (views b)) left right h),
+    )
 
 pub shape_empty : (ps ss : List program.Term) → length ps < 1 → HaveShape (views ps) (views ss) ↔ (length ss ≡ 0)
 shape_empty [] [] h = (λ _. refl, λ _. tt)

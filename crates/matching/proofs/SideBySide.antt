@@ -1,5 +1,6 @@
 -- A subject is an instance exactly where the parts at the pattern's variables agree.
-use Rattle.std.proofs.Common.{◌≡◌, ℕ, Bool, true, false, Option, None, Some, unwrap_or, refl, sym, ap, ap₂, ◌∙◌, subst, eqb-true, eq-eqb, ◌||◌, ◌↔◌, List, [], ◌∷◌, length, get_or, drop, take, ◌-◌, Vec, Global, subst₂, ◌≤◌, ◌<◌, arith}
+use Rattle.std.proofs.Common.{◌≡◌, ℕ, Bool, true, false, Option, None, Some, unwrap_or, refl, sym, ap, ap₂, ◌∙◌, subst, eqb-true, eq-eqb, ◌||◌, ◌↔◌, List, [], ◌∷◌, length, get_or}
+use Rattle.std.proofs.Common.{drop, take, ◌-◌, Vec, Global, subst₂, ◌≤◌, ◌<◌, arith}
 use Rattle.std.proofs.lemmas.Bool.{or_left, false≢true, or_right, or_parts}
 use Rattle.rewriting.specs.Substitutions.{Matches}
 use Rattle.term_core.specs.declared.terms.Term as program
@@ -87,8 +88,11 @@ agree_first value [] ss p s lp ls ep es = absurd (omega arith)
 agree_first value (q ∷ ps) [] p s lp ls ep es = absurd (omega arith)
 agree_first value (q ∷ ps) (r ∷ ss) p s lp ls ep es =
     let left : take (length (q ∷ ps) - 1) (drop 1 (q ∷ ps)) ≡ ps = rest_of 1 (q ∷ ps) in
-    let right : take (length (r ∷ ss) - 1) (drop 1 (r ∷ ss)) ≡ ss = rest_of 1 (r ∷ ss) in
-    (λ h. rw (ep, es, left, right) h, λ h. subst₂ (λ a b. Agrees value (view a) (view b) × AgreeAll value (views ps) (views ss)) ep es (subst₂ (λ a b. Agrees value (view p) (view s) × AgreeAll value (views a) (views b)) left right h))
+    let right : take (length (r ∷ ss) - 1) (drop 1 (r ∷ ss)) ≡ ss = rest_of 1 (r ∷ ss) in (
+      λ h. rw (ep, es, left, right) h,
+      λ h. subst₂ (λ a b. Agrees value (view a) (view b) × AgreeAll value (views ps) (views ss)) ep es
+          (subst₂ (λ a b. Agrees value (view p) (view s) × AgreeAll value (views a) (views b)) left right h),
+    )
 
 pub agree_empty : (value : ℕ → Option Term) (ps ss : List program.Term) → length ps < 1 → AgreeAll value (views ps) (views ss) ↔ (length ss ≡ 0)
 agree_empty value [] [] h = (λ _. refl, λ _. tt)

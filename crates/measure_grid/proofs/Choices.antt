@@ -1,6 +1,7 @@
 -- Choices of a member of each list: what they are made of, the first and the last, which stands behind which, and that none
 -- is there twice.
-use Rattle.std.proofs.Common.{ℕ, zero, suc, ◌≡◌, ◌⊎◌, inl, inr, List, [], ◌∷◌, ◌++◌, map, flat_map, length, get_or, take, drop, slice_get, Some, refl, sym, ap, ap₂, ◌∙◌, subst, append_assoc, append-nil, arith, ◌<◌}
+use Rattle.std.proofs.Common.{ℕ, zero, suc, ◌≡◌, ◌⊎◌, inl, inr, List, [], ◌∷◌, ◌++◌, map, flat_map, length, get_or, take, drop, slice_get, Some, refl, sym, ap, ap₂, ◌∙◌, subst}
+use Rattle.std.proofs.Common.{append_assoc, append-nil, arith, ◌<◌}
 use Rattle.std.proofs.lemmas.List.{map-append}
 use Rattle.std.proofs.lemmas.List.Concat.{flat_map-append}
 use Rattle.rewriting.specs.Lists.{IsAmong, AreDistinct}

@@ -1,5 +1,6 @@
 -- From the redexes of both ends to the answer.
-use Rattle.std.proofs.Common.{◌≡◌, ◌≢◌, inl, inr, ℕ, zero, suc, ◌+◌, ◌<◌, ◌≤◌, List, [], ◌∷◌, ◌++◌, length, drop, slice_get, Option, None, Some, Result, Ok, Err, OnOk, refl, sym, ap, ap₂, ◌∙◌, subst, arith}
+use Rattle.std.proofs.Common.{◌≡◌, ◌≢◌, inl, inr, ℕ, zero, suc, ◌+◌, ◌<◌, ◌≤◌, List, [], ◌∷◌, ◌++◌, length, drop, slice_get, Option, None, Some, Result, Ok, Err, OnOk, refl, sym}
+use Rattle.std.proofs.Common.{ap, ap₂, ◌∙◌, subst, arith}
 use Rattle.std.proofs.lemmas.Option.{slice_get_within, get_or_from_slice_get}
 use Rattle.std.proofs.lemmas.List.{drop_more}
 use Rattle.rewriting.specs.Prelude.{IsOver, IsSystem, IsWellFormed, IsAmong, AreDistinct}
@@ -11,7 +12,8 @@ use Rattle.renumbering.specs.Rows.{naming}
 use Rattle.term_core.specs.declared.systems.Rule as program
 use Rattle.validity.specs.declared.CheckError.{CheckError}
 use Rattle.validity.specs.declared.CheckError.TheVariants.{Rejected, NoMemory}
-use Rattle.valid_certificates.specs.Peaks.{RedexPlace, chosen, IsRedexJudged, AreRefuted, AreNotRefuted, IsMissed, AreNotShownApart, LeadsTo, HasFileSymbols, IsPeakRejected, foreign_start, first_fails, second_fails, not_apart}
+use Rattle.valid_certificates.specs.Peaks.{RedexPlace, chosen, IsRedexJudged, AreRefuted, AreNotRefuted, IsMissed, AreNotShownApart, LeadsTo, HasFileSymbols, IsPeakRejected}
+use Rattle.valid_certificates.specs.Peaks.{foreign_start, first_fails, second_fails, not_apart}
 use Rattle.valid_certificates.specs.Laws.{ReachesApart, ValidPeaksReachApart}
 use Rattle.validity.specs.Answers.{PeakAnswers}
 use Rattle.redex_conditions.specs.Judged.{IsJudgedAt}
@@ -24,7 +26,8 @@ use Rattle.noncon_check.proofs.Walks.{pass_append, pass_fail, fail_append, pass_
 use Rattle.redex_conditions.proofs.Ends.{both}
 
 -- the redexes of an end, judged by those of the numbered end
-module _ (sys : System) (good : IsSystem sys) (row : List ℕ) (own : ℕ) (long : own ≡ length row) (distinct : AreDistinct row) (t n : Term) (is : t ≡ apply (naming row) n) (below : AreBelow (length row) n) where
+module _ (sys : System) (good : IsSystem sys) (row : List ℕ) (own : ℕ) (long : own ≡ length row) (distinct : AreDistinct row) (t n : Term) (is : t ≡ apply (naming row) n)
+    (below : AreBelow (length row) n) where
   judged_from : (w at : ℕ) (es : List Redex) (a : Result ℕ CheckError) → PlacesAnswer (IsJudgedAt sys own n) es at (redexes sys w n) a → AreJudgedFrom sys w t es at a
   judged_from w at es a h =
       record {
@@ -86,7 +89,8 @@ module _ (sys : System) (u v : Term) where
       go (Some d) e = subst (λ z. AreNotRefuted sys u v (suc at) [] z (redex_extra (suc after))) (sym (drop_some es at d e)) (ap (λ n. redex_extra (suc n)) (sym h))
   one_extra es at (r ∷ rs) after (e, h) less = next_fails es at r rs (redex_extra (suc after)) e (one_extra es (suc at) rs after h less)
 
-  missed : (es : List Redex) (at : ℕ) (r : RedexPlace) (rs : List RedexPlace) (reason : Rejection) → IsAbsent es at r → IsMissed r reason → (o : Option Redex) → slice_get es at ≡ o → AreNotRefuted sys u v (suc at) (r ∷ rs) (drop at es) reason
+  missed : (es : List Redex) (at : ℕ) (r : RedexPlace) (rs : List RedexPlace) (reason : Rejection) → IsAbsent es at r → IsMissed r reason → (o : Option Redex) → slice_get es at ≡ o
+      → AreNotRefuted sys u v (suc at) (r ∷ rs) (drop at es) reason
   missed es at r rs reason none h None e = subst (λ z. AreNotRefuted sys u v (suc at) (r ∷ rs) z reason) (sym (drop_past es at (none_past es at e))) h
   missed es at r rs reason none h (Some d) e = subst (λ z. AreNotRefuted sys u v (suc at) (r ∷ rs) z reason) (sym (drop_some es at d e)) (inl (none d e, h))
 
@@ -126,7 +130,8 @@ module _ (sys : System) (u v : Term) where
               a.places ++ h.places,
               both sys u v a.places h.places a.are h.are,
               one_fails es 0 (a.places ++ h.places) (rejected_view reason)
-                  (pass_fail J es 0 a.places mid h.places (rejected_view reason) first_passes (fail_to (IsRedexJudged sys v) J es mid h.places (rejected_view reason) (second_own h.places h.are) h.answer)),
+                  (pass_fail J es 0 a.places mid h.places (rejected_view reason) first_passes
+                  (fail_to (IsRedexJudged sys v) J es mid h.places (rejected_view reason) (second_own h.places h.are) h.answer)),
             ),
           )
 
@@ -135,7 +140,8 @@ module _ (sys : System) (u v : Term) where
         all_pass = pass_append J es 0 a.places mid b.places after first_passes (pass_to (IsRedexJudged sys v) J es mid b.places after (second_own b.places b.are) b.answer)
 
         pub extra : (n : ℕ) → n ≡ suc after → after < length es → AreNotShownApart sys u v (by_normal_forms es) (redex_extra n)
-        extra n e less = subst (λ k. AreNotShownApart sys u v (by_normal_forms es) (redex_extra k)) (sym e) (inr (differ, (a.places ++ b.places, both sys u v a.places b.places a.are b.are, one_extra es 0 (a.places ++ b.places) after all_pass less)))
+        extra n e less = subst (λ k. AreNotShownApart sys u v (by_normal_forms es) (redex_extra k)) (sym e)
+            (inr (differ, (a.places ++ b.places, both sys u v a.places b.places a.are b.are, one_extra es 0 (a.places ++ b.places) after all_pass less)))
 
         pub shown : length es ≤ after → ApartAnswers sys u v (by_normal_forms es) (Ok tt)
         shown long = (differ, (a.places ++ b.places, both sys u v a.places b.places a.are b.are, all_refuted es 0 (a.places ++ b.places) after all_pass long))
@@ -174,6 +180,7 @@ ends_judged sys peak u v (Ok _) own ends h = record { start = own; u = u; v = v;
 ends_judged sys peak u v (Err (Rejected reason)) own ends h = not_apart own u v (rejected_view reason) ends h
 ends_judged sys peak u v (Err NoMemory) own ends h = tt
 
-pub peak_sound : ValidPeaksReachApart → (sys : System) (peak : Peak) → IsSystem sys → IsOver sys.arities peak.start → (a : Result (Unit {0}) CheckError) → PeakAnswers sys peak a → OnOk a (ReachesApart sys peak)
+pub peak_sound : ValidPeaksReachApart → (sys : System) (peak : Peak) → IsSystem sys → IsOver sys.arities peak.start → (a : Result (Unit {0}) CheckError) → PeakAnswers sys peak a
+    → OnOk a (ReachesApart sys peak)
 peak_sound law sys peak good over (Ok _) h = law sys peak (well_formed sys good) over h
 peak_sound law sys peak good over (Err e) h = tt

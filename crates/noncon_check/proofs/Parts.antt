@@ -35,17 +35,20 @@ module _ (sys : System) (w own : ℕ) (es : List Redex) (t : math.Term) where
   J = IsJudgedAt sys own t
 
   -- evidence judged for a redex of a part
-  judged_in : (q : Part) → IsAmong q (parts t) → (r : RedexPlace) → IsAmong r (part_redexes sys w q) → (e : InfeasibilityEvidence) (o : Option EvidenceReason) → IsJudgedOn sys own q.term r e o → J r e o
+  judged_in : (q : Part) → IsAmong q (parts t) → (r : RedexPlace) → IsAmong r (part_redexes sys w q) → (e : InfeasibilityEvidence) (o : Option EvidenceReason)
+      → IsJudgedOn sys own q.term r e o → J r e o
   judged_in q l r m e o h = record { rule = h.rule; match = h.match; matches = matches_in t sys w q l r m h.rule h.match h.is_rule h.matches; judged = h.judged }
 
-  part_judged : (q : Part) → IsAmong q (parts t) → (at : ℕ) (a : Result ℕ CheckError) → PlacesAnswer (IsJudgedOn sys own q.term) es at (part_redexes sys w q) a → PlacesAnswer J es at (part_redexes sys w q) a
+  part_judged : (q : Part) → IsAmong q (parts t) → (at : ℕ) (a : Result ℕ CheckError) → PlacesAnswer (IsJudgedOn sys own q.term) es at (part_redexes sys w q) a
+      → PlacesAnswer J es at (part_redexes sys w q) a
   part_judged q l at a h = answers_to (IsJudgedOn sys own q.term) J es at (part_redexes sys w q) a (judged_in q l) h
 
   module _ (qs rest : List Part) (q : Part) (split : qs ≡ q ∷ rest) (ahead : AreAhead t qs) where
     first : IsAmong q (parts t)
     first = ahead_first t qs rest q split ahead
 
-    pub next_part : (at next : ℕ) (a : Result ℕ CheckError) → PlacesAnswer (IsJudgedOn sys own q.term) es at (part_redexes sys w q) (Ok next) → PlacesAnswer J es next (flat_map (part_redexes sys w) rest) a
+    pub next_part : (at next : ℕ) (a : Result ℕ CheckError) → PlacesAnswer (IsJudgedOn sys own q.term) es at (part_redexes sys w q) (Ok next)
+        → PlacesAnswer J es next (flat_map (part_redexes sys w) rest) a
         → PlacesAnswer J es at (flat_map (part_redexes sys w) qs) a
     next_part at next a h k =
         subst (λ ps. PlacesAnswer J es at (flat_map (part_redexes sys w) ps) a) (sym split)

@@ -38,17 +38,20 @@ module _ (J K : Judgement) (es : List Redex) where
   entry_to : (at : ℕ) (r : RedexPlace) (o : Option EvidenceReason) → ((e : InfeasibilityEvidence) → J r e o → K r e o) → IsEntry J es at r o → IsEntry K es at r o
   entry_to at r o f h = record { entry = h.entry; stands = h.stands; place = h.place; judged = f h.entry.evidence h.judged }
 
-  pub pass_to : (at : ℕ) (rs : List RedexPlace) (after : ℕ) → ((r : RedexPlace) → IsAmong r rs → (e : InfeasibilityEvidence) (o : Option EvidenceReason) → J r e o → K r e o) → Pass J es at rs after → Pass K es at rs after
+  pub pass_to : (at : ℕ) (rs : List RedexPlace) (after : ℕ) → ((r : RedexPlace) → IsAmong r rs → (e : InfeasibilityEvidence) (o : Option EvidenceReason) → J r e o → K r e o)
+      → Pass J es at rs after → Pass K es at rs after
   pass_to at [] after f h = h
   pass_to at (r ∷ rs) after f (e, h) = (entry_to at r None (λ x j. f r (inl refl) x None j) e, pass_to (suc at) rs after (λ q l. f q (inr l)) h)
 
-  pub fail_to : (at : ℕ) (rs : List RedexPlace) (reason : Rejection) → ((r : RedexPlace) → IsAmong r rs → (e : InfeasibilityEvidence) (o : Option EvidenceReason) → J r e o → K r e o) → Fail J es at rs reason → Fail K es at rs reason
+  pub fail_to : (at : ℕ) (rs : List RedexPlace) (reason : Rejection) → ((r : RedexPlace) → IsAmong r rs → (e : InfeasibilityEvidence) (o : Option EvidenceReason) → J r e o
+      → K r e o) → Fail J es at rs reason → Fail K es at rs reason
   fail_to at [] reason f h = absurd h
   fail_to at (r ∷ rs) reason f (inl h) = inl h
   fail_to at (r ∷ rs) reason f (inr (inl (why, e, is))) = inr (inl (why, entry_to at r (Some why) (λ x j. f r (inl refl) x (Some why) j) e, is))
   fail_to at (r ∷ rs) reason f (inr (inr (e, h))) = inr (inr (entry_to at r None (λ x j. f r (inl refl) x None j) e, fail_to (suc at) rs reason (λ q l. f q (inr l)) h))
 
-  pub answers_to : (at : ℕ) (rs : List RedexPlace) (a : Result ℕ CheckError) → ((r : RedexPlace) → IsAmong r rs → (e : InfeasibilityEvidence) (o : Option EvidenceReason) → J r e o → K r e o) → PlacesAnswer J es at rs a → PlacesAnswer K es at rs a
+  pub answers_to : (at : ℕ) (rs : List RedexPlace) (a : Result ℕ CheckError) → ((r : RedexPlace) → IsAmong r rs → (e : InfeasibilityEvidence) (o : Option EvidenceReason) → J r e o
+      → K r e o) → PlacesAnswer J es at rs a → PlacesAnswer K es at rs a
   answers_to at rs (Ok after) f h = pass_to at rs after f h
   answers_to at rs (Err (Rejected reason)) f h = fail_to at rs (rejected_view reason) f h
   answers_to at rs (Err NoMemory) f h = tt

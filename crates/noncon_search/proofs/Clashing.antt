@@ -41,7 +41,8 @@ module _ (sys : System) (u v c d : Term) where
   caps_answer h k true e = does_clash h k (sym e)
   caps_answer h k false e = never_clash h k (sym e)
 
-pub never_met : (sys : System) (u v : Term) (o p : Option program.Term) → IfSome o (λ c. StandsForCap sys u (view c)) → IfSome p (λ d. StandsForCap sys v (view d)) → DoMeet o p → IsRigidOutcome sys u v clash → ⊥
+pub never_met : (sys : System) (u v : Term) (o p : Option program.Term) → IfSome o (λ c. StandsForCap sys u (view c)) → IfSome p (λ d. StandsForCap sys v (view d)) → DoMeet o p
+    → IsRigidOutcome sys u v clash → ⊥
 never_met sys u v None p h k m = absurd m
 never_met sys u v (Some c) None h k m = absurd m
 never_met sys u v (Some c) (Some d) h k m = never_clash sys u v (view c) (view d) h k m

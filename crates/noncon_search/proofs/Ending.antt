@@ -83,12 +83,14 @@ module _ (sys : System) (rs : List Rule) (same : map rule_view rs ≡ sys.rules)
 
   -- how a walk through all starts may end
   module _ (names : NameTable) (a b : Counts) where
-    pub starts_end : (o : Option (Bor (List Overlap))) → IsOverlapList sys o → (r : Search) → (r ≡ Nothing → ⊥) → WalkAnswers names sys (peak_items sys lefts) a b (Ok r) → StartsAnswer names sys a b (Ok r)
+    pub starts_end : (o : Option (Bor (List Overlap))) → IsOverlapList sys o → (r : Search) → (r ≡ Nothing → ⊥) → WalkAnswers names sys (peak_items sys lefts) a b (Ok r)
+        → StartsAnswer names sys a b (Ok r)
     starts_end (Some os) are r other h =
         let sources = peak_items sys (map (λ o. view o.source) os.now) in (
           peak_items sys lefts ++ sources,
           items_of_all os.now are,
-          ends names sys (peak_items sys lefts ++ sources) a a b (peak_items sys lefts ++ sources) (peak_items sys lefts) sources (begins names sys (peak_items sys lefts ++ sources) a (peak_items sys lefts ++ sources) refl) refl r other h,
+          ends names sys (peak_items sys lefts ++ sources) a a b (peak_items sys lefts ++ sources) (peak_items sys lefts) sources
+              (begins names sys (peak_items sys lefts ++ sources) a (peak_items sys lefts ++ sources) refl) refl r other h,
         )
     starts_end None none r other h = (peak_items sys lefts, items_of_rules none, h)
 
@@ -104,5 +106,6 @@ module _ (sys : System) (rs : List Rule) (same : map rule_view rs ≡ sys.rules)
           peak_items sys lefts ++ sources,
           items_of_all os are,
           last_part names sys (peak_items sys lefts ++ sources) a b c sources
-              (goes_on names sys (peak_items sys lefts ++ sources) a a b (peak_items sys lefts ++ sources) (peak_items sys lefts) sources (begins names sys (peak_items sys lefts ++ sources) a (peak_items sys lefts ++ sources) refl) refl h) r k,
+              (goes_on names sys (peak_items sys lefts ++ sources) a a b (peak_items sys lefts ++ sources) (peak_items sys lefts) sources
+              (begins names sys (peak_items sys lefts ++ sources) a (peak_items sys lefts ++ sources) refl) refl h) r k,
         )

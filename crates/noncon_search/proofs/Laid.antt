@@ -45,7 +45,8 @@ module _ (n : ℕ) where
       go true p true q = subst (λ z. do_clash n (var z) v ≡ false) (eqb-true x y q) free
       go true p false q = absurd (let other : do_clash n (var x) (var y) ≡ true = rw (e, p, q) refl in false≢true (sym h ∙ other))
 
-  meets_leaf : (x : ℕ) (u v : Term) → do_clash n (var x) u ≡ false → (b : Bool) → nat_lt x n ≡ b → do_clash n (if b then var x else u) v ≡ false → (do_clash n (var x) v ≡ false) × (do_clash n u v ≡ false)
+  meets_leaf : (x : ℕ) (u v : Term) → do_clash n (var x) u ≡ false → (b : Bool) → nat_lt x n ≡ b → do_clash n (if b then var x else u) v ≡ false
+      → (do_clash n (var x) v ≡ false) × (do_clash n u v ≡ false)
   meets_leaf x u v h true e free = (free, meets_constant x u v e h free)
   meets_leaf x u v h false e free = (first_open n x v (ltb-false x n e), free)
 

@@ -38,7 +38,8 @@ module _ (sys : System) (before after : Overlay) (e : End) (end : IsEnd sys e) (
 
 -- a list of terms that the ends stand for, one end more
 module _ (list : List program.Entry) (i : ℕ) (r : program.Entry) (low : i < length list) (here : r ≡ get_or list i r) where
-  pub one_more_listed : (es : List End) (e : End) → e.listed.now ≡ r → ends_view es ++ table_view (drop i list) ≡ table_view list → ends_view (es ++ e ∷ []) ++ table_view (drop (i + 1) list) ≡ table_view list
+  pub one_more_listed : (es : List End) (e : End) → e.listed.now ≡ r → ends_view es ++ table_view (drop i list) ≡ table_view list
+      → ends_view (es ++ e ∷ []) ++ table_view (drop (i + 1) list) ≡ table_view list
   one_more_listed es e is all =
       ap (λ (z : List Reached). z ++ table_view (drop (i + 1) list)) (map-append end_view es (e ∷ [])) ∙ append_assoc (ends_view es) (end_view e ∷ []) (table_view (drop (i + 1) list))
       ∙ ap (λ (z : List Reached). ends_view es ++ z) (ap (λ x. entry_view x ∷ table_view (drop (i + 1) list)) is ∙ sym (map-drop_read entry_view list i r low here)) ∙ all

@@ -52,7 +52,8 @@ module _ (sys : System) where
       (m, k, (e, refuted_as a b c d r r.which (same r (inl refl)) e m f, is), firsts_as a b c d rs es k (λ q l. same q (inr l)) rest, up)
 
 -- rows behind others
-pub firsts_append : {X B : Type 0} (First : X → B → ℕ → Type 0) (xs ys : List X) (bs cs : List B) (n m : ℕ) → AreFirsts First xs bs n → AreFirsts First ys cs m → AreFirsts First (xs ++ ys) (bs ++ cs) (n + m)
+pub firsts_append : {X B : Type 0} (First : X → B → ℕ → Type 0) (xs ys : List X) (bs cs : List B) (n m : ℕ) → AreFirsts First xs bs n → AreFirsts First ys cs m
+    → AreFirsts First (xs ++ ys) (bs ++ cs) (n + m)
 firsts_append First [] ys [] cs n m h k = let e : m ≡ n + m = omega (arith, h) in subst (AreFirsts First ys cs) e k
 firsts_append First [] ys (b ∷ bs) cs n m h k = absurd h
 firsts_append First (x ∷ xs) ys [] cs n m h k = absurd h

@@ -46,7 +46,8 @@ module _ (names : NameTable) (sys : System) (items : List PeakItem) where
           done = w.done ++ xs;
           split = whole ∙ sym (append_assoc w.done xs ys);
           none = none_append Gives w.done xs w.none none;
-          paid = spends_same a c (cost_of peak_item_cost w.done + cost_of peak_item_cost xs) (cost_of peak_item_cost (w.done ++ xs)) (sym (cost_append peak_item_cost w.done xs)) (both_paid (cost_of peak_item_cost xs) s);
+          paid = spends_same a c (cost_of peak_item_cost w.done + cost_of peak_item_cost xs) (cost_of peak_item_cost (w.done ++ xs)) (sym (cost_append peak_item_cost w.done xs))
+              (both_paid (cost_of peak_item_cost xs) s);
         }
 
     -- the walk ended in them

@@ -1,5 +1,6 @@
 -- The bits of words, and the numbers that they stand for.
-use Rattle.std.proofs.Common.{◌≡◌, ◌↔◌, ◌⊎◌, inl, inr, ⊎_elim, ℕ, zero, suc, ◌+◌, ◌*◌, ◌/◌, ◌%◌, ◌^◌, ◌<◌, ◌≤◌, ◌≢◌, Bool, true, false, if◌then◌else◌, nat_eq, eqb-true, eq-eqb, bit_or, List, [], ◌∷◌, ◌++◌, length, get_or, Some, refl, ap, sym, subst, ◌∙◌, append-nil, arith}
+use Rattle.std.proofs.Common.{◌≡◌, ◌↔◌, ◌⊎◌, inl, inr, ⊎_elim, ℕ, zero, suc, ◌+◌, ◌*◌, ◌/◌, ◌%◌, ◌^◌, ◌<◌, ◌≤◌, ◌≢◌, Bool, true, false, if◌then◌else◌, nat_eq, eqb-true, eq-eqb}
+use Rattle.std.proofs.Common.{bit_or, List, [], ◌∷◌, ◌++◌, length, get_or, Some, refl, ap, sym, subst, ◌∙◌, append-nil, arith}
 use Rattle.std.specs.Int.{bit_at, w64}
 use Rattle.std.specs.List.{filter}
 use Rattle.std.proofs.Math.ListN.{set}
@@ -112,8 +113,10 @@ joined_more old others new p inside front q = go (cases_eq (q / 64) p)
   where
     go : (q / 64 ≡ p) ⊎ (q / 64 ≢ p) → (is_set (set new p (bit_or (get_or new p 0) (get_or others p 0))) q ≡ true) ↔ ((is_set old q ≡ true) ⊎ ((q < 64 * (p + 1)) × (is_set others q ≡ true)))
     go (inl at) =
-        let here : get_or (set new p (bit_or (get_or new p 0) (get_or others p 0))) p 0 ≡ bit_or (get_or new p 0) (get_or others p 0) = get_or-set_same new p (bit_or (get_or new p 0) (get_or others p 0)) 0 inside in
-        let bit : bit_at (get_or (set new p (bit_or (get_or new p 0) (get_or others p 0))) p 0) (q % 64) ≡ bit_at (bit_or (get_or new p 0) (get_or others p 0)) (q % 64) = ap (λ (w : ℕ). bit_at w (q % 64)) here in
+        let here : get_or (set new p (bit_or (get_or new p 0) (get_or others p 0))) p 0 ≡ bit_or (get_or new p 0) (get_or others p 0) = get_or-set_same new p
+        (bit_or (get_or new p 0) (get_or others p 0)) 0 inside in
+        let bit : bit_at (get_or (set new p (bit_or (get_or new p 0) (get_or others p 0))) p 0) (q % 64) ≡ bit_at (bit_or (get_or new p 0) (get_or others p 0)) (q % 64) = ap
+        (λ (w : ℕ). bit_at w (q % 64)) here in
         let both = bit_at_or (get_or new p 0) (get_or others p 0) (q % 64) in
         let low : q < 64 * (p + 1) = omega arith in
         let a = bit_at-lt (get_or new p 0) (q % 64) in
@@ -128,14 +131,16 @@ joined_more old others new p inside front q = go (cases_eq (q / 64) p)
               (⊎_elim (λ o. let n = bit_of new q p at ((front q).1 (inl o)) in omega arith) (λ o. let n = bit_of others q p at o.1 in omega arith) h),
         )
     go (inr other) =
-        let same : get_or (set new p (bit_or (get_or new p 0) (get_or others p 0))) (q / 64) 0 ≡ get_or new (q / 64) 0 = get_or-set_other new p (q / 64) (bit_or (get_or new p 0) (get_or others p 0)) 0 other in (
+        let same : get_or (set new p (bit_or (get_or new p 0) (get_or others p 0))) (q / 64) 0 ≡ get_or new (q / 64) 0 = get_or-set_other new p (q / 64)
+        (bit_or (get_or new p 0) (get_or others p 0)) 0 other in (
           λ s. ⊎_elim (λ o. inl o) (λ o. let low = o.0 in inr (omega arith, o.1)) ((front q).0 (set_alike _ new q same s)),
           λ h.
               set_alike new (set new p (bit_or (get_or new p 0) (get_or others p 0))) q (sym same)
               ((front q).1 (⊎_elim (λ o. inl o) (λ o. let low = o.0 in inr (omega arith, o.1)) h)),
         )
 
-pub joined_next : (old others new : List ℕ) (p w v : ℕ) → w ≡ get_or new p 0 → v ≡ get_or others p 0 → p < length new → AreJoined old others new (64 * p) → AreJoined old others (set new p (bit_or w v)) (64 * (p + 1))
+pub joined_next : (old others new : List ℕ) (p w v : ℕ) → w ≡ get_or new p 0 → v ≡ get_or others p 0 → p < length new → AreJoined old others new (64 * p)
+    → AreJoined old others (set new p (bit_or w v)) (64 * (p + 1))
 joined_next old others new p w v here there inside h =
     subst (λ (x : ℕ). AreJoined old others (set new p (bit_or x v)) (64 * (p + 1))) (sym here)
     (subst (λ (x : ℕ). AreJoined old others (set new p (bit_or (get_or new p 0) x)) (64 * (p + 1))) (sym there) (joined_more old others new p inside h))
@@ -196,7 +201,8 @@ had_all s o n h long q i = let set = (in_members s q).0 i in let low = set_withi
 pub joined_first : (old others new : List ℕ) → ((k : ℕ) → get_or new k 0 ≡ get_or old k 0) → AreJoined old others new 0
 joined_first old others new same q = (λ s. inl (set_alike new old q (same (q / 64)) s), λ h. ⊎_elim (λ s. set_alike old new q (sym (same (q / 64))) s) (λ (l, s). absurd (omega arith)) h)
 
-pub joined_all : (s o t : NumberSet) (n : ℕ) → AreJoined s.words.items o.words.items t.words.items (64 * n) → length o.words.items ≤ n → (q : ℕ) → IsAmong q (members t) ↔ (IsAmong q (members s) ⊎ IsAmong q (members o))
+pub joined_all : (s o t : NumberSet) (n : ℕ) → AreJoined s.words.items o.words.items t.words.items (64 * n) → length o.words.items ≤ n → (q : ℕ)
+    → IsAmong q (members t) ↔ (IsAmong q (members s) ⊎ IsAmong q (members o))
 joined_all s o t n h long q = (
   λ i. ⊎_elim (λ a. inl ((in_members s q).1 a)) (λ b. inr ((in_members o q).1 b.1)) ((h q).0 ((in_members t q).0 i)),
   λ e.

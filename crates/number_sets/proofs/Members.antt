@@ -1,5 +1,6 @@
 -- Elements of lists, and lists of numbers in order.
-use Rattle.std.proofs.Common.{◌≡◌, ◌↔◌, ◌⊎◌, inl, inr, ⊎_elim, ℕ, zero, suc, ◌+◌, ◌*◌, ◌<◌, ◌≤◌, Bool, true, false, cond, List, [], ◌∷◌, length, get_or, refl, ap, sym, subst, ◌∙◌, length-append, arith}
+use Rattle.std.proofs.Common.{◌≡◌, ◌↔◌, ◌⊎◌, inl, inr, ⊎_elim, ℕ, zero, suc, ◌+◌, ◌*◌, ◌<◌, ◌≤◌, Bool, true, false, cond, List, [], ◌∷◌, length, get_or, refl, ap, sym, subst, ◌∙◌}
+use Rattle.std.proofs.Common.{length-append, arith}
 use Rattle.std.specs.List.{filter, AllPairs}
 use Rattle.std.specs.List.Sorted.{IsStrictlyIncreasing}
 use Rattle.std.proofs.lemmas.Bool.{cases_lt}
@@ -11,7 +12,8 @@ use Rattle.rewriting.proofs.Members.{contained_among}
 use Rattle.number_sets.specs.Sets.{below, is_set, members}
 use Rattle.number_sets.specs.declared.words.NumberSet.{NumberSet}
 
-filtered : {X : Type 0} (p : X → Bool) (x y : X) (ys fs : List X) → (IsAmong x fs → IsAmong x ys × (p x ≡ true)) → (b : Bool) → p y ≡ b → IsAmong x (cond b (y ∷ fs) fs) → IsAmong x (y ∷ ys) × (p x ≡ true)
+filtered : {X : Type 0} (p : X → Bool) (x y : X) (ys fs : List X) → (IsAmong x fs → IsAmong x ys × (p x ≡ true)) → (b : Bool) → p y ≡ b → IsAmong x (cond b (y ∷ fs) fs)
+    → IsAmong x (y ∷ ys) × (p x ≡ true)
 filtered p x y ys fs rest true e (inl f) = (inl f, ap p f ∙ e)
 filtered p x y ys fs rest true e (inr h) = let r = rest h in (inr r.0, r.1)
 filtered p x y ys fs rest false e h = let r = rest h in (inr r.0, r.1)

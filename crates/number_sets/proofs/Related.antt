@@ -1,5 +1,6 @@
 -- Relations by their rows.
-use Rattle.std.proofs.Common.{◌≡◌, ◌↔◌, ◌⊎◌, inl, inr, ⊎_elim, ℕ, zero, suc, ◌+◌, ◌<◌, ◌≤◌, Bool, true, false, not, IsTrue, if◌then◌else◌, nat_le, leb-true, leb-false, List, [], ◌∷◌, ◌++◌, map, length, get_or, take, take_all, Option, None, Some, slice_get, refl, ap, sym, subst, ◌∙◌, arith}
+use Rattle.std.proofs.Common.{◌≡◌, ◌↔◌, ◌⊎◌, inl, inr, ⊎_elim, ℕ, zero, suc, ◌+◌, ◌<◌, ◌≤◌, Bool, true, false, not, IsTrue, if◌then◌else◌, nat_le, leb-true, leb-false, List, []}
+use Rattle.std.proofs.Common.{◌∷◌, ◌++◌, map, length, get_or, take, take_all, Option, None, Some, slice_get, refl, ap, sym, subst, ◌∙◌, arith}
 use Rattle.std.proofs.Math.ListN.{set}
 use Rattle.std.proofs.lemmas.Bool.{cases_lt}
 use Rattle.rewriting.specs.Lists.{IsAmong}
@@ -42,7 +43,8 @@ put_row S (r ∷ rows) (suc n) old new inside is step (suc p) q =
     (λ h. ⊎_elim (λ i. inl i) (λ s. let e = s.0 in inr (omega arith, s.1)) (rest.0 h), λ h. rest.1 (⊎_elim (λ i. inl i) (λ s. let e = s.0 in inr (omega arith, s.1)) h))
 
 -- a relation whose row at a number gets the numbers of S, once there is place for it
-pub put_in_row : (S : ℕ → Type 0) (first : NumberRelation) (rows made : List NumberSet) (n : ℕ) (old new : NumberSet) → ((p : ℕ) → members_in rows p ≡ row_of first p) → n + 1 ≤ length rows → old ≡ get_or rows n old
+pub put_in_row : (S : ℕ → Type 0) (first : NumberRelation) (rows made : List NumberSet) (n : ℕ) (old new : NumberSet) → ((p : ℕ) → members_in rows p ≡ row_of first p)
+    → n + 1 ≤ length rows → old ≡ get_or rows n old
     → ((q : ℕ) → IsAmong q (members new) ↔ (IsAmong q (members old) ⊎ S q)) → made ≡ set rows n new → (p q : ℕ) → IsAmong q (members_in made p) ↔ (Relates first p q ⊎ ((p ≡ n) × S q))
 put_in_row S first rows made n old new same inside is step e p q =
     subst (λ (l : List NumberSet). IsAmong q (members_in l p) ↔ (Relates first p q ⊎ ((p ≡ n) × S q))) (sym e)
@@ -167,7 +169,8 @@ pub below_none : {A : Type 0} (P : ℕ → Type 0) → (A → ⊥) → A ↔ ((s
 below_none P never = (λ a. absurd (never a), λ r. let low = r.1 in absurd (omega arith))
 
 module _ (r by old new : NumberRelation) (n : ℕ) (front : (p q : ℕ) → Relates old p q ↔ ((s : ℕ) × (s < n) × (Relates by s p × Relates r s q))) where
-  pub carried_more : (lefts rights : List ℕ) (last : NumberRelation) → new ≡ last → lefts ≡ row_of by n → rights ≡ row_of r n → ((p q : ℕ) → Relates last p q ↔ (Relates old p q ⊎ (IsAmong p lefts × IsAmong q rights)))
+  pub carried_more : (lefts rights : List ℕ) (last : NumberRelation) → new ≡ last → lefts ≡ row_of by n → rights ≡ row_of r n
+      → ((p q : ℕ) → Relates last p q ↔ (Relates old p q ⊎ (IsAmong p lefts × IsAmong q rights)))
       → (p q : ℕ) → Relates new p q ↔ ((s : ℕ) × (s < n + 1) × (Relates by s p × Relates r s q))
   carried_more lefts rights last is here there more p q =
       below_more (λ (s : ℕ). Relates by s p × Relates r s q) n (front p q)
@@ -188,7 +191,8 @@ carried_all r by made n low front p q =
 
 -- pairs that are turned, one number more
 module _ (r old new : NumberRelation) (n : ℕ) (front : (p q : ℕ) → Relates old p q ↔ ((s : ℕ) × (s < n) × ((q ≡ s) × Relates r s p))) where
-  pub turned_more : (rights alone : List ℕ) (last : NumberRelation) → new ≡ last → rights ≡ row_of r n → alone ≡ n ∷ [] → ((p q : ℕ) → Relates last p q ↔ (Relates old p q ⊎ (IsAmong p rights × IsAmong q alone)))
+  pub turned_more : (rights alone : List ℕ) (last : NumberRelation) → new ≡ last → rights ≡ row_of r n → alone ≡ n ∷ []
+      → ((p q : ℕ) → Relates last p q ↔ (Relates old p q ⊎ (IsAmong p rights × IsAmong q alone)))
       → (p q : ℕ) → Relates new p q ↔ ((s : ℕ) × (s < n + 1) × ((q ≡ s) × Relates r s p))
   turned_more rights alone last is here one more p q = below_more (λ (s : ℕ). (q ≡ s) × Relates r s p) n (front p q)
       (λ h. ⊎_elim (λ o. inl o) (λ i. inr (⊎_elim (λ e. e) (λ f. absurd f) i.1, i.0)) (step.0 h), λ h. step.1 (⊎_elim (λ o. inl o) (λ i. inr (i.1, inl i.0)) h))
@@ -204,7 +208,8 @@ module _ (r old new : NumberRelation) (n : ℕ) (front : (p q : ℕ) → Relates
       subst (λ (m : NumberRelation). Relates m p q ↔ ((s : ℕ) × (s < n + 1) × ((q ≡ s) × Relates r s p))) (sym is)
       (below_skip (λ (s : ℕ). (q ≡ s) × Relates r s p) n (front p q) (λ h. never p h.1))
 
-pub turned_all : (r made : NumberRelation) (n : ℕ) → ((p q : ℕ) → Relates r p q → p < n) → ((p q : ℕ) → Relates made p q ↔ ((s : ℕ) × (s < n) × ((q ≡ s) × Relates r s p))) → (p q : ℕ) → Relates made p q ↔ Relates r q p
+pub turned_all : (r made : NumberRelation) (n : ℕ) → ((p q : ℕ) → Relates r p q → p < n) → ((p q : ℕ) → Relates made p q ↔ ((s : ℕ) × (s < n) × ((q ≡ s) × Relates r s p)))
+    → (p q : ℕ) → Relates made p q ↔ Relates r q p
 turned_all r made n low front p q = (
   λ h. let i = (front p q).0 h in subst (λ (k : ℕ). Relates r k p) (sym i.2.0) i.2.1,
   λ h. (front p q).1 (q, low q p h, (refl, h)),
@@ -230,14 +235,16 @@ pub row_none : (rows : List NumberSet) (i : ℕ) (row : NumberSet) → i < lengt
     → (p q : ℕ) → p < i + 1 → IsAmong q (members_in rows p) → ⊥
 row_none rows i row inside is none front p q low h =
     ⊎_elim (λ (l : p < i). front p q l h)
-    (λ (l : i ≤ p). let same : p ≡ i = omega arith in subst (λ (l : List ℕ). IsAmong q l) (at_place rows i row inside is ∙ none) (subst (λ (k : ℕ). IsAmong q (members_in rows k)) same h)) (cases_lt p i)
+    (λ (l : i ≤ p). let same : p ≡ i = omega arith in subst (λ (l : List ℕ). IsAmong q l) (at_place rows i row inside is ∙ none)
+    (subst (λ (k : ℕ). IsAmong q (members_in rows k)) same h)) (cases_lt p i)
 
 pub rows_none : (r : NumberRelation) (rows : List NumberSet) → rows ≡ r.rows.items → (i : ℕ) → length rows ≤ i → ((p q : ℕ) → p < i → IsAmong q (members_in rows p) → ⊥) → (p q : ℕ) → Relates r p q → ⊥
 rows_none r rows same i long front p q h =
     let there = subst (λ (l : List NumberSet). IsAmong q (members_in l p)) (sym same) h in
     ⊎_elim (λ (l : p < i). front p q l there) (λ (l : i ≤ p). subst (λ (l : List ℕ). IsAmong q l) (past rows p (omega arith)) there) (cases_lt p i)
 
-pub row_here : (r : NumberRelation) (rows : List NumberSet) → rows ≡ r.rows.items → (i : ℕ) (row : NumberSet) → i < length rows → row ≡ get_or rows i row → (b : Bool) → IsTrue b ↔ (members row ≡ []) → b ≡ false
+pub row_here : (r : NumberRelation) (rows : List NumberSet) → rows ≡ r.rows.items → (i : ℕ) (row : NumberSet) → i < length rows → row ≡ get_or rows i row → (b : Bool)
+    → IsTrue b ↔ (members row ≡ []) → b ≡ false
     → ((p q : ℕ) → Relates r p q → ⊥) → ⊥
 row_here r rows same i row inside is b empty full none =
     let there = (has_some (members row) (members_in rows i) b empty (sym (at_place rows i row inside is))).0 (ap not full) in

@@ -15,10 +15,12 @@ pub record AreShared (old others new : List ℕ) (n : ℕ) : Type 0 where
   pub done : (k : ℕ) → k < n → get_or new k 0 ≡ bit_and (get_or old k 0) (get_or others k 0)
   pub rest : (k : ℕ) → n ≤ k → k < length new → get_or new k 0 ≡ get_or old k 0
 
-shared_at : (old others new : List ℕ) (n q : ℕ) → AreShared old others new n → length new ≤ n → q / 64 < length new → bit_at (get_or new (q / 64) 0) (q % 64) ≡ min (bit_at (get_or old (q / 64) 0) (q % 64)) (bit_at (get_or others (q / 64) 0) (q % 64))
+shared_at : (old others new : List ℕ) (n q : ℕ) → AreShared old others new n → length new ≤ n → q / 64 < length new
+    → bit_at (get_or new (q / 64) 0) (q % 64) ≡ min (bit_at (get_or old (q / 64) 0) (q % 64)) (bit_at (get_or others (q / 64) 0) (q % 64))
 shared_at old others new n q h long inside = ap (λ (w : ℕ). bit_at w (q % 64)) (h.done (q / 64) (omega arith)) ∙ bit_at_and (get_or old (q / 64) 0) (get_or others (q / 64) 0) (q % 64)
 
-pub shared_all : (s o t : NumberSet) (n : ℕ) → AreShared s.words.items o.words.items t.words.items n → length t.words.items ≤ n → (q : ℕ) → IsAmong q (members t) ↔ (IsAmong q (members s) × IsAmong q (members o))
+pub shared_all : (s o t : NumberSet) (n : ℕ) → AreShared s.words.items o.words.items t.words.items n → length t.words.items ≤ n → (q : ℕ)
+    → IsAmong q (members t) ↔ (IsAmong q (members s) × IsAmong q (members o))
 shared_all s o t n h long q = (
   λ i.
       let bit = (in_members t q).0 i in
@@ -59,7 +61,8 @@ both_at (w ∷ ws) [] p h k = absurd (omega arith)
 both_at (w ∷ ws) (v ∷ vs) zero h k = refl
 both_at (w ∷ ws) (v ∷ vs) (suc p) h k = both_at ws vs p (omega arith) (omega arith)
 
-both_bit : (ws vs : List ℕ) (q : ℕ) → q / 64 < length ws → q / 64 < length vs → bit_at (get_or (both_words ws vs) (q / 64) 0) (q % 64) ≡ min (bit_at (get_or ws (q / 64) 0) (q % 64)) (bit_at (get_or vs (q / 64) 0) (q % 64))
+both_bit : (ws vs : List ℕ) (q : ℕ) → q / 64 < length ws → q / 64 < length vs
+    → bit_at (get_or (both_words ws vs) (q / 64) 0) (q % 64) ≡ min (bit_at (get_or ws (q / 64) 0) (q % 64)) (bit_at (get_or vs (q / 64) 0) (q % 64))
 both_bit ws vs q h k = ap (λ (w : ℕ). bit_at w (q % 64)) (both_at ws vs (q / 64) h k) ∙ bit_at_and (get_or ws (q / 64) 0) (get_or vs (q / 64) 0) (q % 64)
 
 in_both : (ws vs : List ℕ) (q : ℕ) → (is_set (both_words ws vs) q ≡ true) ↔ ((is_set ws q ≡ true) × (is_set vs q ≡ true))
@@ -86,7 +89,8 @@ pub joined_both : (s a b t : NumberSet) (n : ℕ) → AreJoined s.words.items (b
     → (q : ℕ) → IsAmong q (members t) ↔ (IsAmong q (members s) ⊎ (IsAmong q (members a) × IsAmong q (members b)))
 joined_both s a b t n h long q = (
   λ i.
-      ⊎_elim (λ o. inl ((in_members s q).1 o)) (λ o. let both = (in_both a.words.items b.words.items q).0 o.1 in inr ((in_members a q).1 both.0, (in_members b q).1 both.1)) ((h q).0 ((in_members t q).0 i)),
+      ⊎_elim (λ o. inl ((in_members s q).1 o)) (λ o. let both = (in_both a.words.items b.words.items q).0 o.1 in inr ((in_members a q).1 both.0, (in_members b q).1 both.1))
+      ((h q).0 ((in_members t q).0 i)),
   λ e.
       (in_members t q).1
       ((h q).1

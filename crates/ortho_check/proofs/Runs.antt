@@ -79,13 +79,15 @@ module _ (value : OrthoRun) (sys : System) (pairs : Result PairRun Rejected) (vi
       run_confluent law kept = subst (λ v. OnOk a (IsConfluent v.system)) view (confluent_of sys law kept held_run.taken.0 a (pairs_judged sys run held_run a answers))
 
   -- entries that are rejected whatever they are
-  pub rejected_takes : (e : PairEntry) (new : Result PairRun Rejected) (reason : Rejected) → pairs ≡ Err reason → new ≡ pairs → (es : List PairEntry) → IsOrthoTally value.system (es ++ e ∷ []) (tally_of new)
+  pub rejected_takes : (e : PairEntry) (new : Result PairRun Rejected) (reason : Rejected) → pairs ≡ Err reason → new ≡ pairs → (es : List PairEntry)
+      → IsOrthoTally value.system (es ++ e ∷ []) (tally_of new)
   rejected_takes e new reason is same es =
       subst₂ (λ v p. IsOrthoTally v.system (es ++ e ∷ []) (tally_of p)) view (sym same)
       (subst (λ p. IsOrthoTally sys (es ++ e ∷ []) (tally_of p)) (sym is) (whatever_they_are (rejected_view reason) (subst (AreHeld sys) is held)))
 
 -- a run that has taken all entries of a certificate
-module _ (value : OrthoRun) (sys : System) (pairs : List program.PairEntry) (i : ℕ) (past : length pairs ≤ i) (is : value.system ≡ sys) (tallied : IsOrthoTally sys (map pair_entry_view (take i pairs)) value.tally) where
+module _ (value : OrthoRun) (sys : System) (pairs : List program.PairEntry) (i : ℕ) (past : length pairs ≤ i) (is : value.system ≡ sys)
+    (tallied : IsOrthoTally sys (map pair_entry_view (take i pairs)) value.tally) where
   pub of_whole : (P : System → List PairEntry → Type 0) → ((es : List PairEntry) → IsOrthoTally value.system es value.tally → P value.system es) → P sys (map pair_entry_view pairs)
   of_whole P h =
       subst (λ s. P s (map pair_entry_view pairs)) is

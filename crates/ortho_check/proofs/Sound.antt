@@ -35,7 +35,8 @@ numbered : (s : Substitution) (cs : List Condition) (k : ℕ) (c : Condition) �
 numbered s cs zero c e = absurd (cc)
 numbered s cs (suc k) c e = let x = instance_at s cs k c e in (k, x.0, x.1, x.2)
 
-module _ (sys : System) (m : Substitution) (p : Position) (inner outer : Rule) (part : Term) (o : Overlap) (is : IsCriticalPair m p inner outer part o.pair) (counted : o.inner_conditions ≡ length inner.conditions) where
+module _ (sys : System) (m : Substitution) (p : Position) (inner outer : Rule) (part : Term) (o : Overlap) (is : IsCriticalPair m p inner outer part o.pair)
+    (counted : o.inner_conditions ≡ length inner.conditions) where
   inner_length : o.inner_conditions ≡ length (conditions_under (compose even m) inner.conditions)
   inner_length = counted ∙ sym (length-conditions_under (compose even m) inner.conditions)
 

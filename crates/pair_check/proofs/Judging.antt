@@ -73,7 +73,8 @@ module _ (sys : System) (o : Overlap) where
   conflict_of a b c d are (Some conflict_large) h = (c, d, are, h.0, h.1)
   conflict_of a b c d are (Some _) h = absurd h
 
-  pub conflict_judged : (a b : ℕ) (c d : Condition) → AreConditionsOf o a b c d → (r : Result (Unit {0}) Refusal) → RefutesAnswers (IsConflictOf sys c d) r → RefutesAnswers (IsConflictJudged sys o a b) r
+  pub conflict_judged : (a b : ℕ) (c d : Condition) → AreConditionsOf o a b c d → (r : Result (Unit {0}) Refusal) → RefutesAnswers (IsConflictOf sys c d) r
+      → RefutesAnswers (IsConflictJudged sys o a b) r
   conflict_judged a b c d are r h = judged_too (IsConflictOf sys c d) (IsConflictJudged sys o a b) (conflict_of a b c d are) r h
 
   -- derivations from the left side of a condition

@@ -30,7 +30,8 @@ behind_clashes sys (t ∷ ts) us os c (inl (_, h)) = behind_clashes sys ts us os
 behind_clashes sys (t ∷ ts) us os c (inr (o, qs, e, is, at, h)) = absurd (clash_or_overlap sys t o (c t (inl refl)) is at)
 
 -- the overlaps behind one at the first triple
-behind_one : (sys : System) (us : List Triple) (o : Overlap) (os : List Overlap) → IsOverlapOf sys o → AreThose sys (triple o ∷ us) os → (qs : List Overlap) × AreThose sys us qs × (length os ≡ suc (length qs))
+behind_one : (sys : System) (us : List Triple) (o : Overlap) (os : List Overlap) → IsOverlapOf sys o → AreThose sys (triple o ∷ us) os
+    → (qs : List Overlap) × AreThose sys us qs × (length os ≡ suc (length qs))
 behind_one sys us o os is (inl (c, h)) = absurd (clash_or_overlap sys (triple o) o c is refl)
 behind_one sys us o os is (inr (q, qs, e, _, at, h)) = (qs, h, ap length e)
 
@@ -111,7 +112,8 @@ module _ (sys : System) (s : Search) (offered later : List Overlap) (h : IsUnder
               system = e ∙ g.system;
               earlier = g.earlier ++ k.passes.passed;
               split = g.split ∙ (ap (λ z. g.earlier ++ z) k.passes.split ∙ sym (append_assoc g.earlier k.passes.passed t.rest));
-              those = subst (AreThose sys (g.earlier ++ k.passes.passed)) (append-nil offered) (those_append sys g.earlier k.passes.passed offered [] g.those (none_there sys k.passes.passed (clashes t.rest k.passes)));
+              those = subst (AreThose sys (g.earlier ++ k.passes.passed)) (append-nil offered)
+                  (those_append sys g.earlier k.passes.passed offered [] g.those (none_there sys k.passes.passed (clashes t.rest k.passes)));
               counted = k.counted ∙ g.counted;
               few = subst (λ z. z ≤ 20000) (sym k.counted) g.few;
             };

@@ -1,5 +1,6 @@
 -- Where a run over entries stands, and what an entry makes of it.
-use Rattle.std.proofs.Common.{ℕ, ◌≡◌, ◌≢◌, ◌+◌, ◌≤◌, inl, inr, refl, true, false, List, [], ◌∷◌, ◌++◌, length, Option, None, Some, Ok, Err, is_some, sym, ap, ◌∙◌, subst, subst₂, arith, append_assoc, add-one}
+use Rattle.std.proofs.Common.{ℕ, ◌≡◌, ◌≢◌, ◌+◌, ◌≤◌, inl, inr, refl, true, false, List, [], ◌∷◌, ◌++◌, length, Option, None, Some, Ok, Err, is_some, sym, ap, ◌∙◌, subst, subst₂}
+use Rattle.std.proofs.Common.{arith, append_assoc, add-one}
 use Rattle.std.proofs.lemmas.List.{length-append}
 use Rattle.rewriting.specs.Prelude.{IsAmong, System}
 use Rattle.rewriting.proofs.Lists.{among_middle}
@@ -39,7 +40,8 @@ refused_at_start kind sys no_memory (Rejected reason) h k = absurd k
 refused_at_start kind sys e NoMemory h k = tt
 
 -- before the first entry
-pub stands_first : (sys : System) (t : Search) (os : List math.Overlap) → AreAll sys os → t.system ≡ sys → (next : Option Overlap) → OfferAnswers (search_of sys) t (Ok next) → StandsBefore sys t 0 next
+pub stands_first : (sys : System) (t : Search) (os : List math.Overlap) → AreAll sys os → t.system ≡ sys → (next : Option Overlap)
+    → OfferAnswers (search_of sys) t (Ok next) → StandsBefore sys t 0 next
 stands_first sys t os h e (Some o) k = (let (rest, under) = goes_on sys (search_of sys) [] os (begins sys os h) t (overlap_view o) e k in ([], rest, refl, under))
 stands_first sys t os h e None k = ([], refl, ended sys (search_of sys) [] os (begins sys os h) t k)
 
@@ -98,7 +100,8 @@ module _ (kind : Kind) (sys : System) where
         record {
           kind = refl;
           system = refl;
-          tally = λ os es are h. subst (λ k. AreTallied kind sys 0 os (es ++ e ∷ []) (failed (pair_extra k))) (sym (add-one n)) (extra_taken kind sys os n (ap length (overlaps_once sys os done are all) ∙ behind) es h e);
+          tally = λ os es are h. subst (λ k. AreTallied kind sys 0 os (es ++ e ∷ []) (failed (pair_extra k))) (sym (add-one n))
+              (extra_taken kind sys os n (ap length (overlaps_once sys os done are all) ∙ behind) es h e);
         }
 
     pub finish_all : (es : List PairEntry) → StandsBefore sys s n None → HasTaken (run kind sys (passed n)) es → DoSettle kind sys es
@@ -127,7 +130,8 @@ module _ (kind : Kind) (sys : System) where
           }
 
       -- it settles the overlap
-      pub take_good : (e : PairEntry) → triple_of e ≡ triple (overlap_view o) → IsPairJudged kind sys (overlap_view o) e.evidence None → DoesTake (run kind sys (passed n)) e (run kind sys (passed (n + 1)))
+      pub take_good : (e : PairEntry) → triple_of e ≡ triple (overlap_view o) → IsPairJudged kind sys (overlap_view o) e.evidence None
+          → DoesTake (run kind sys (passed n)) e (run kind sys (passed (n + 1)))
       take_good e same judged =
           record {
             kind = refl;

@@ -32,8 +32,11 @@ own_from : (sys : System) (n : ℕ) (rs : List Rule) → ((k : ℕ) (r : Rule) �
 own_from sys n [] h = tt
 own_from sys n (r ∷ rs) h =
     let first : n + 0 ≡ n = omega arith in
-    let less : n < suc n = omega arith in
-    (less, subst (λ z. rule_at sys (suc z) ≡ Some r) first (h 0 r refl), own_from sys (suc n) rs (λ k q e. (let next : n + suc k ≡ suc n + k = omega arith in subst (λ z. rule_at sys (suc z) ≡ Some q) next (h (suc k) q e))))
+    let less : n < suc n = omega arith in (
+      less,
+      subst (λ z. rule_at sys (suc z) ≡ Some r) first (h 0 r refl),
+      own_from sys (suc n) rs (λ k q e. (let next : n + suc k ≡ suc n + k = omega arith in subst (λ z. rule_at sys (suc z) ≡ Some q) next (h (suc k) q e))),
+    )
 
 pub own_origins : (sys : System) (xs : List (Option ℕ)) → xs ≡ numbers_behind 0 (length sys.rules) → AreOrigins sys sys xs
 own_origins sys xs e = subst (AreOrigins sys sys) (sym e) (own_from sys 0 sys.rules (λ k r h. (let z : 0 + k ≡ k = omega arith in subst (λ y. rule_at sys (suc y) ≡ Some r) (sym z) h)))
@@ -57,7 +60,8 @@ without n e (Some l ∷ os) (r ∷ rs) zero (a, s, h) = weaker l n e os rs a h
 without n e (Some l ∷ os) (r ∷ rs) (suc k) (a, s, h) = (a, s, without l e os rs k h)
 
 -- with another rule in place of one
-exchanged : (n : ℕ) (e : System) (os : List (Option ℕ)) (rs : List Rule) (k : ℕ) (q : Rule) → k < length os → AreOriginsFrom n e os rs → AreOriginsFrom n e (set os k None) (take k rs ++ q ∷ drop (suc k) rs)
+exchanged : (n : ℕ) (e : System) (os : List (Option ℕ)) (rs : List Rule) (k : ℕ) (q : Rule) → k < length os → AreOriginsFrom n e os rs
+    → AreOriginsFrom n e (set os k None) (take k rs ++ q ∷ drop (suc k) rs)
 exchanged n e [] rs k q inside h = absurd (omega (arith, inside))
 exchanged n e (o ∷ os) [] k q inside h = absurd h
 exchanged n e (None ∷ os) (r ∷ rs) zero q inside h = h
@@ -118,7 +122,8 @@ none_followed sys last os steps own all = record { here = sys; origins = own; re
 all_followed : (sys last : System) (os : List (Option ℕ)) → LeadOn sys last os [] → AreOrigins sys last os
 all_followed sys last os h = subst (λ z. AreOrigins sys z os) (sym h.rest) h.origins
 
-module _ (sys last : System) (os : List (Option ℕ)) (steps : List Simp) (i : ℕ) (step : Simp) (inside : i < length steps) (at : step ≡ get_or steps i step) (h : LeadOn sys last os (map simp_view (drop i steps))) where
+module _ (sys last : System) (os : List (Option ℕ)) (steps : List Simp) (i : ℕ) (step : Simp) (inside : i < length steps) (at : step ≡ get_or steps i step)
+    (h : LeadOn sys last os (map simp_view (drop i steps))) where
   first : AllSimplify h.here (simp_view step ∷ map simp_view (drop (i + 1) steps)) last
   first = subst (λ z. AllSimplify h.here z last) (map-drop_read simp_view steps i step inside at) h.rest
 

@@ -1,5 +1,6 @@
 -- The places of symbols, as one is put last or taken away.
-use Rattle.std.proofs.Common.{◌≡◌, ◌⊎◌, inl, inr, ℕ, zero, suc, ◌<◌, ◌≤◌, List, [], ◌∷◌, ◌++◌, map, length, get_or, slice_set, slice_get, Some, refl, sym, ap, ◌∙◌, subst, arith, get_or-set_other, get_or-set_same}
+use Rattle.std.proofs.Common.{◌≡◌, ◌⊎◌, inl, inr, ℕ, zero, suc, ◌<◌, ◌≤◌, List, [], ◌∷◌, ◌++◌, map, length, get_or, slice_set, slice_get, Some, refl, sym, ap, ◌∙◌, subst, arith}
+use Rattle.std.proofs.Common.{get_or-set_other, get_or-set_same}
 use Rattle.std.proofs.lemmas.Bool.{cases_lt, cases_eq}
 use Rattle.std.proofs.lemmas.List.{length-set, length-append, map-append}
 use Rattle.std.proofs.lemmas.Option.{slice_get_within}
@@ -58,7 +59,8 @@ module _ (hs : List Head) (order : Precedence) (h : Head) where
           complete = λ g j lt s. a.complete g j lt (shorter g j lt s);
           new = λ j lt. new_longer j lt (a.new j lt);
         } in
-        subst (λ z. ArePlaces hs (order ++ h ∷ []) z (slice_set ps f (suc (length order)))) (sym long) (place_more hs (order ++ h ∷ []) (length order) ps b distinct f h is (slice_get_seam order h []) free)
+        subst (λ z. ArePlaces hs (order ++ h ∷ []) z (slice_set ps f (suc (length order)))) (sym long)
+        (place_more hs (order ++ h ∷ []) (length order) ps b distinct f h is (slice_get_seam order h []) free)
 
     pub take_place : ArePlaces hs (order ++ h ∷ []) (length (order ++ h ∷ [])) ps → ArePlaces hs order (length order) (slice_set ps f 0)
     take_place a =

@@ -231,12 +231,14 @@ module _ (sys : System) where
         go after rest e behind own =
             let remaining : List Head = (at.before ++ h ∷ []) ++ rest in
             let others = behind ∙ ap (λ (z : List Head). map (with_next order) (map (behind_all (at.before ++ h ∷ [])) (picks z))) e in
-            let same : length left ≡ length remaining = (let one = ap length own in let two = ap length e in let sum = length-append at.before after in let first = length-append at.before (h ∷ []) in let both = length-append (at.before ++ h ∷ []) rest in
+            let same : length left ≡ length remaining = (let one = ap length own in let two = ap length e in let sum = length-append at.before after in
+            let first = length-append at.before (h ∷ []) in let both = length-append (at.before ++ h ∷ []) rest in
             omega (arith, one, two, sum, first, both)) in (
               remaining,
               subst (λ (k : ℕ). Walked k (length remaining) (node (order ++ x ∷ []) remaining) (n + u)) (sym (one_longer order x))
                   (subst (λ (d : ℕ). Walked (suc (length order)) d (node (order ++ x ∷ []) remaining) (n + u)) same
-                  (paths.across extensions (IsDeadPrefix sys) (PrefixGives sys) top (start sys) (length order) (length left) (node (order ++ h ∷ []) left) (node (order ++ x ∷ []) remaining) n u at.at_child bare _ others)),
+                  (paths.across extensions (IsDeadPrefix sys) (PrefixGives sys) top (start sys) (length order) (length left) (node (order ++ h ∷ []) left)
+                  (node (order ++ x ∷ []) remaining) n u at.at_child bare _ others)),
             )
 
     -- it is done with the symbols before
@@ -244,7 +246,8 @@ module _ (sys : System) where
     up_to none =
         let others = at.behind ∙ ap (λ (z : List Head). map (with_next order) (map (behind_all (at.before ++ h ∷ [])) (picks z))) nothing in
         let (m, barren, sum) = paths.up extensions (IsDeadPrefix sys) (PrefixGives sys) top (start sys) (length order) (length left) (node (order ++ h ∷ []) left) n u at.at_child bare others in
-        let size : suc (length left) ≡ length (at.before ++ h ∷ at.after) = (let one = ap length at.own in let sum = length-append at.before at.after in let other = length-append at.before (h ∷ at.after) in omega (arith, one, sum, other)) in
+        let size : suc (length left) ≡ length (at.before ++ h ∷ at.after) = (let one = ap length at.own in let sum = length-append at.before at.after in
+        let other = length-append at.before (h ∷ at.after) in omega (arith, one, sum, other)) in
         record {
           left = at.before ++ h ∷ at.after;
           paid = at.at_child.paid_above;

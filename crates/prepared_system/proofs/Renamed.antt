@@ -4,7 +4,8 @@ use Rattle.rewriting.specs.Rules.{Rule, System, rule_at}
 use Rattle.term_core.specs.RuleView.{rule_view}
 use Rattle.term_core.specs.declared.systems.Rule as Program
 
-renamed_at : (f : Rule → Rule) (xs : List Program.Rule) (rs : List Rule) (k : ℕ) (x : Program.Rule) (r : Rule) → map rule_view xs ≡ map f rs → slice_get rs k ≡ Some r → x ≡ get_or xs k x → rule_view x ≡ f r
+renamed_at : (f : Rule → Rule) (xs : List Program.Rule) (rs : List Rule) (k : ℕ) (x : Program.Rule) (r : Rule) → map rule_view xs ≡ map f rs → slice_get rs k ≡ Some r
+    → x ≡ get_or xs k x → rule_view x ≡ f r
 renamed_at f xs [] k x r e h g = absurd (cc)
 renamed_at f [] (q ∷ rs) k x r e h g = absurd (cc)
 renamed_at f (y ∷ xs) (q ∷ rs) zero x r e h g = (let a : rule_view y ≡ f q = cc in let b : q ≡ r = cc in ap rule_view g ∙ (a ∙ ap f b))
@@ -17,7 +18,8 @@ place_within f (y ∷ xs) (q ∷ rs) zero r e h = omega arith
 place_within f (y ∷ xs) (q ∷ rs) (suc k) r e h = (let rest : map rule_view xs ≡ map f rs = cc in let l = place_within f xs rs k r rest h in omega (arith, l))
 
 -- the renamed rule behind a number
-pub renamed_rule : (sys : System) (f : Rule → Rule) (xs : List Program.Rule) (i : ℕ) (x : Program.Rule) (r : Rule) → map rule_view xs ≡ map f sys.rules → rule_at sys i ≡ Some r → x ≡ get_or xs (i - 1) x → rule_view x ≡ f r
+pub renamed_rule : (sys : System) (f : Rule → Rule) (xs : List Program.Rule) (i : ℕ) (x : Program.Rule) (r : Rule) → map rule_view xs ≡ map f sys.rules → rule_at sys i ≡ Some r
+    → x ≡ get_or xs (i - 1) x → rule_view x ≡ f r
 renamed_rule sys f xs zero x r e h g = absurd (cc)
 renamed_rule sys f xs (suc i) x r e h g = let one : suc i - 1 ≡ i = omega arith in renamed_at f xs sys.rules i x r e h (subst (λ z. x ≡ get_or xs z x) one g)
 

@@ -14,7 +14,8 @@ has_room arities add r small h k o =
     let few = h.few_variables in
     omega (arith, below, few, small)
 
-pub rule_has_room : (arities : Signature) (add : ℕ) (rs : List Rule) (i : ℕ) (r : Rule) → add ≤ 1 → i < length rs → r ≡ get_or rs i r → AreRules arities (map rule_view rs) → HasRoom add (terms_of_rule (rule_view r))
+pub rule_has_room : (arities : Signature) (add : ℕ) (rs : List Rule) (i : ℕ) (r : Rule) → add ≤ 1 → i < length rs → r ≡ get_or rs i r → AreRules arities (map rule_view rs)
+    → HasRoom add (terms_of_rule (rule_view r))
 rule_has_room arities add [] i r small h e f = absurd (omega arith)
 rule_has_room arities add (s ∷ rs) zero r small h e f = subst (λ z. HasRoom add (terms_of_rule (rule_view z))) (sym e) (has_room arities add (rule_view s) small f.0)
 rule_has_room arities add (s ∷ rs) (suc i) r small h e f = rule_has_room arities add rs i r small (omega arith) e f.1

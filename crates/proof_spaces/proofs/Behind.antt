@@ -27,7 +27,8 @@ module _ (names : NameTable) (steps : List Simplification) (last : System) where
   pub ortho_lost : (left paid : ℕ) (c : Certificate) → MayEndExactly (ortho_space names last) left paid (found c) → (HasText names (simplified_certificate steps c) → ⊥)
       → MayEnd (with_steps names steps (ortho_space names last)) left paid nothing
   ortho_lost left paid c h lost =
-      lost_found (simplified_certificate steps) (HasText names) (ortho_space names last) (ortho_searchable names last).finds_within (ortho_searchable names last).finds_once left paid c lost (ends_so (ortho_space names last) left paid (found c) h)
+      lost_found (simplified_certificate steps) (HasText names) (ortho_space names last) (ortho_searchable names last).finds_within (ortho_searchable names last).finds_once left
+      paid c lost (ends_so (ortho_space names last) left paid (found c) h)
       (ortho_cost last).0 (ortho_cost last).1
 
   pub ortho_nothing : (left paid : ℕ) → MayEndExactly (ortho_space names last) left paid nothing → MayEnd (with_steps names steps (ortho_space names last)) left paid nothing
@@ -43,7 +44,8 @@ module _ (names : NameTable) (steps : List Simplification) (last : System) where
   pub peak_lost : (left paid : ℕ) (c : Certificate) → MayEndExactly (peak_space names last) left paid (found c) → (HasText names (simplified_certificate steps c) → ⊥)
       → MayEnd (with_steps names steps (peak_space names last)) left paid nothing
   peak_lost left paid c h lost =
-      lost_found (simplified_certificate steps) (HasText names) (peak_space names last) (peak_searchable names last).finds_within (peak_searchable names last).finds_once left paid c lost (ends_so (peak_space names last) left paid (found c) h)
+      lost_found (simplified_certificate steps) (HasText names) (peak_space names last) (peak_searchable names last).finds_within (peak_searchable names last).finds_once left paid
+      c lost (ends_so (peak_space names last) left paid (found c) h)
       (peak_cost last).0 (peak_cost last).1
 
   pub peak_nothing : (left paid : ℕ) → MayEndExactly (peak_space names last) left paid nothing → MayEnd (with_steps names steps (peak_space names last)) left paid nothing
@@ -60,7 +62,8 @@ module _ (names : NameTable) (steps : List Simplification) (last : System) where
   pub quasi_lost : (left paid : ℕ) (c : Certificate) → MayEndLast (quasi_space_by (pruned_measures last) names last) left paid (found c) → (HasText names (simplified_certificate steps c) → ⊥)
       → MayEndLast (with_steps names steps (quasi_space_by (pruned_measures last) names last)) left paid nothing
   quasi_lost left paid c h lost =
-      last_lost (simplified_certificate steps) (HasText names) (quasi_space_by (pruned_measures last) names last) (pruned_searchable names last).finds_within (pruned_searchable names last).finds_once left paid c lost h
+      last_lost (simplified_certificate steps) (HasText names) (quasi_space_by (pruned_measures last) names last) (pruned_searchable names last).finds_within
+      (pruned_searchable names last).finds_once left paid c lost h
 
   pub quasi_nothing : (left paid : ℕ) → MayEndLast (quasi_space_by (pruned_measures last) names last) left paid nothing
       → MayEndLast (with_steps names steps (quasi_space_by (pruned_measures last) names last)) left paid nothing
@@ -80,9 +83,11 @@ module _ (names : NameTable) (steps : List Simplification) (last : System) where
   pub second_ends_two : (left paid rest more : ℕ) (e : Ending Certificate) → MayEnd (with_steps names steps (ortho_space names last)) left paid nothing → left ≡ paid + rest
       → MayEnd (with_steps names steps (peak_space names last)) rest more e → MayEnd (two_with_steps names steps last) left (paid + more) e
   second_ends_two left paid rest more e none l h =
-      second_ends (with_steps names steps (ortho_space names last)) (with_steps names steps (peak_space names last)) (ortho_searchable names last).costs_once left paid none (omega (arith, l)) rest more e l h
+      second_ends (with_steps names steps (ortho_space names last)) (with_steps names steps (peak_space names last)) (ortho_searchable names last).costs_once left paid none
+      (omega (arith, l)) rest more e l h
 
-  pub two_end_three : (left paid : ℕ) (c : Certificate) → MayEnd (two_with_steps names steps last) left paid (found c) → MayEndLast (three_with_steps pruned_measures names steps last) left paid (found c)
+  pub two_end_three : (left paid : ℕ) (c : Certificate) → MayEnd (two_with_steps names steps last) left paid (found c)
+      → MayEndLast (three_with_steps pruned_measures names steps last) left paid (found c)
   two_end_three left paid c h = first_found (two_with_steps names steps last) (with_steps names steps (quasi_space_by (pruned_measures last) names last)) left paid c h
 
   pub two_spend_three : (left paid : ℕ) → MayEnd (two_with_steps names steps last) left paid spent → MayEndLast (three_with_steps pruned_measures names steps last) left paid spent
@@ -92,4 +97,5 @@ module _ (names : NameTable) (steps : List Simplification) (last : System) where
       → MayEndLast (with_steps names steps (quasi_space_by (pruned_measures last) names last)) rest more e
       → MayEndLast (three_with_steps pruned_measures names steps last) left (paid + more) e
   last_ends_three left paid rest more e none l h =
-      last_ends (two_with_steps names steps last) (with_steps names steps (quasi_space_by (pruned_measures last) names last)) (whole_searchable names last).costs_once left paid none (omega (arith, l)) rest more e l h
+      last_ends (two_with_steps names steps last) (with_steps names steps (quasi_space_by (pruned_measures last) names last)) (whole_searchable names last).costs_once left paid
+      none (omega (arith, l)) rest more e l h

@@ -13,7 +13,8 @@ use Rattle.quasi_space.specs.Measures.{MeasureTrials, each_measure, pruned_measu
 use Rattle.quasi_space.specs.Quasi.{quasi_space_by}
 use Rattle.quasi_space.specs.AllSpaces.{all_spaces_by}
 use Rattle.proof_spaces.specs.Proofs.{with_steps, three_with_steps, if_some, proof_space_by}
-use Rattle.proof_spaces.specs.Prices.{IsThree, IsThreeBehind, IsWhole, HoldsWith, HoldsNone, IsFirstBehind, in_first, in_second, in_third, HoldNone, NoneBehind, SomeBehind, IsProofPrice, in_own, in_behind, in_none}
+use Rattle.proof_spaces.specs.Prices.{IsThree, IsThreeBehind, IsWhole, HoldsWith, HoldsNone, IsFirstBehind, in_first, in_second, in_third, HoldNone, NoneBehind, SomeBehind}
+use Rattle.proof_spaces.specs.Prices.{IsProofPrice, in_own, in_behind, in_none}
 use Rattle.proof_spaces.specs.Laws.{PricesHaveThreeCases, CostsAreSums, PrunedCostsAreSums}
 
 module _ (by : System → MeasureTrials) (names : NameTable) where
@@ -92,8 +93,13 @@ module _ (by : System → MeasureTrials) (names : NameTable) where
       found_behind _ (in_first n (c, f, w)) = (simplified_certificate steps c, inl (inl (c, f, refl, w)))
       found_behind _ (in_second a n none x (c, f, w)) =
           (simplified_certificate steps c, inl (inr (barren_of_none steps (ortho_space names last) none, (a, n, x, (c, f, refl, w), refl))))
-      found_behind _ (in_third a b n none nor x y (c, f, w)) =
-          (simplified_certificate steps c, inr (barren_both First Second (barren_of_none steps (ortho_space names last) none) (barren_of_none steps (peak_space names last) nor), (a + b, n, (a, b, x, y, refl), (c, f, refl, w), refl)))
+      found_behind _ (in_third a b n none nor x y (c, f, w)) = (
+        simplified_certificate steps c,
+        inr (
+          barren_both First Second (barren_of_none steps (ortho_space names last) none) (barren_of_none steps (peak_space names last) nor),
+          (a + b, n, (a, b, x, y, refl), (c, f, refl, w), refl),
+        ),
+      )
 
       none_three : IsBarren (three_with_steps by names steps last) → HoldNone by names steps last
       none_three b =

@@ -89,8 +89,10 @@ module _ {M : Type 0} (judged : M → System → Judgement → Type 0) where
         (whatever_they_are (rejected_view reason) (subst (AreHeld (judged measure sys) sys) is held)))
 
   -- a run that has taken all entries of a certificate
-  module _ (value : QuasiRun M) (sys : System) (measure : M) (pairs : List program.PairEntry) (i : ℕ) (past : length pairs ≤ i) (is : value.system ≡ sys) (same : value.measure ≡ measure) (tallied : IsQuasiTally (judged measure sys) sys (map pair_entry_view (take i pairs)) value.tally) where
-    pub of_whole : (P : (Judgement → Type 0) → System → List PairEntry → Type 0) → ((es : List PairEntry) → IsQuasiTally (judged value.measure value.system) value.system es value.tally → P (judged value.measure value.system) value.system es)
+  module _ (value : QuasiRun M) (sys : System) (measure : M) (pairs : List program.PairEntry) (i : ℕ) (past : length pairs ≤ i) (is : value.system ≡ sys)
+      (same : value.measure ≡ measure) (tallied : IsQuasiTally (judged measure sys) sys (map pair_entry_view (take i pairs)) value.tally) where
+    pub of_whole : (P : (Judgement → Type 0) → System → List PairEntry → Type 0)
+        → ((es : List PairEntry) → IsQuasiTally (judged value.measure value.system) value.system es value.tally → P (judged value.measure value.system) value.system es)
         → P (judged measure sys) sys (map pair_entry_view pairs)
     of_whole P h =
         let all : IsQuasiTally (judged measure sys) sys (map pair_entry_view pairs) value.tally =
@@ -102,7 +104,8 @@ module _ {M : Type 0} (judged : M → System → Judgement → Type 0) where
   pub loop_goes_on : (value : QuasiRun M) (sys : System) (m : M) (pairs : List program.PairEntry) (i : ℕ) (e : program.PairEntry) → value.system ≡ sys → value.measure ≡ m
       → IsQuasiTally (judged m sys) sys (map pair_entry_view (take i pairs)) value.tally → i < length pairs → e ≡ get_or pairs i e → (new : QuasiRun M) → new.system ≡ value.system
       → new.measure ≡ value.measure
-      → ((es : List PairEntry) → IsQuasiTally (judged value.measure value.system) value.system es value.tally → IsQuasiTally (judged value.measure value.system) value.system (es ++ pair_entry_view e ∷ []) new.tally)
+      → ((es : List PairEntry) → IsQuasiTally (judged value.measure value.system) value.system es value.tally → IsQuasiTally (judged value.measure value.system) value.system
+      (es ++ pair_entry_view e ∷ []) new.tally)
       → record {
         system : new.system ≡ sys;
         measure : new.measure ≡ m;

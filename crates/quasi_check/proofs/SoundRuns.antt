@@ -2,7 +2,8 @@
 use Rattle.std.proofs.Common.{Bool, true, false, nat_eq, if◌then◌else◌, ℕ, List, [], sym, subst}
 use Rattle.rewriting.proofs.Common.{Term, var, app, Terms, nil, cons, Signature, IsOver, AreOver, AreValuesOver}
 use Rattle.rewriting.proofs.Over.{IsOver-apply}
-use Rattle.unifier_run.specs.Run.{Binding, value, only, extended, Binds, HaveArguments, goes_on, unifier, Takes, equal_sides, binding, arguments, append, Runs, no_equation, last_equation, next_equation}
+use Rattle.unifier_run.specs.Run.{Binding, value, only, extended, Binds, HaveArguments, goes_on, unifier, Takes, equal_sides, binding, arguments, append, Runs, no_equation}
+use Rattle.unifier_run.specs.Run.{last_equation, next_equation}
 use Rattle.unifier_run.proofs.Values.{value-extended}
 use Rattle.unifier_run.proofs.General.{ends_clash_or_large}
 

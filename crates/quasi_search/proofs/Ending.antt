@@ -48,7 +48,8 @@ module _ (names : NameTable) (sys : System) where
     valid_of (Ok Spent) h = tt
     valid_of (Err e) h = tt
 
-    nothing_of : (r : Result Search NoMemory) → Searches ending_of (MayEndLast (quasi_space names sys)) before after r → IfNothing ending_of r ((c : Certificate) → (quasi_space names sys).Holds c → IsValid sys c → ⊥)
+    nothing_of : (r : Result Search NoMemory) → Searches ending_of (MayEndLast (quasi_space names sys)) before after r
+        → IfNothing ending_of r ((c : Certificate) → (quasi_space names sys).Holds c → IsValid sys c → ⊥)
     nothing_of (Ok (Found c)) h = tt
     nothing_of (Ok Nothing) (n, s, (barren, most)) = (each_searchable names sys).searched.barren barren
     nothing_of (Ok Spent) h = tt
@@ -57,7 +58,8 @@ module _ (names : NameTable) (sys : System) where
     pub found_valid : (r : Result Search NoMemory) → Searches ending_of (MayEndLast Pruned) before after r → IfFound ending_of r (IsValid sys)
     found_valid r h = valid_of r (whole_searched r h)
 
-    pub nothing_valid : (r : Result Search NoMemory) → Searches ending_of (MayEndLast Pruned) before after r → IfNothing ending_of r ((c : Certificate) → (quasi_space names sys).Holds c → IsValid sys c → ⊥)
+    pub nothing_valid : (r : Result Search NoMemory) → Searches ending_of (MayEndLast Pruned) before after r
+        → IfNothing ending_of r ((c : Certificate) → (quasi_space names sys).Holds c → IsValid sys c → ⊥)
     nothing_valid r h = nothing_of r (whole_searched r h)
 
   -- where a rule is not good, or the overlaps have no list
@@ -94,10 +96,12 @@ module _ (names : NameTable) (sys : System) where
       good_searched m (u, spends, first) d is text = (
         whole.0 + u,
         spends_both before here after whole.0 u whole.1 spends,
-        subst (λ c. (k : ℕ) × Pruned.Finds c k × (whole.0 + u ≤ k)) (sym is) (ends_found names sys (pruned_measures sys) (pruned_tried sys) os is_open es whole.0 whole.2 before.left u m first (subst (HasText names) is text)),
+        subst (λ c. (k : ℕ) × Pruned.Finds c k × (whole.0 + u ≤ k)) (sym is)
+            (ends_found names sys (pruned_measures sys) (pruned_tried sys) os is_open es whole.0 whole.2 before.left u m first (subst (HasText names) is text)),
       )
 
-      pub long_searched : (m : MeasureCertificate) → (u : ℕ) × Spends here u after × IsPrunedFirst sys m u → (d : Certificate) → d ≡ quasi_certificate m es → (HasText names d → ⊥) → Searches ending_of (MayEndLast Pruned) before after (Ok Nothing)
+      pub long_searched : (m : MeasureCertificate) → (u : ℕ) × Spends here u after × IsPrunedFirst sys m u → (d : Certificate) → d ≡ quasi_certificate m es → (HasText names d → ⊥)
+          → Searches ending_of (MayEndLast Pruned) before after (Ok Nothing)
       long_searched m (u, spends, first) d is long = (
         whole.0 + u,
         spends_both before here after whole.0 u whole.1 spends,

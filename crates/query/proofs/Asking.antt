@@ -10,7 +10,8 @@ use Rattle.query_text.specs.Query.{IsQuery, join_system, no_tokens, wrong_syntax
 use Rattle.query_text.proofs.Queries.{one_query, never_both}
 use Rattle.query_terms.specs.Queries.{HasTooMany, IsRefused}
 use Rattle.query_terms.specs.declared.reader.QueryError.{QueryError}
-use Rattle.query_terms.specs.declared.reader.QueryError.TheVariants.{JoinSystem, BadByte, IdTooLong, CommentNotClosed, Syntax, TooMany, TooDeep, VariableWithArguments, UnknownName, ArityDiffers, NoMemory}
+use Rattle.query_terms.specs.declared.reader.QueryError.TheVariants.{JoinSystem, BadByte, IdTooLong, CommentNotClosed, Syntax, TooMany, TooDeep, VariableWithArguments, UnknownName}
+use Rattle.query_terms.specs.declared.reader.QueryError.TheVariants.{ArityDiffers, NoMemory}
 use Rattle.query_terms.specs.declared.reader.Query.{Query}
 use Rattle.query_search.specs.Answers.{HasAnswerWithin}
 use Rattle.query_search.specs.declared.reply.Reply.{Reply}
@@ -42,6 +43,7 @@ module _ (sys : System) (symbols : List (List ℕ × ℕ)) (bytes : List ℕ) wh
   pub same_within : (left : ℕ) (cs : List Condition) (names : List (List ℕ)) → IsAnswerable sys symbols bytes left → IsQuery sys symbols bytes cs names → HasAnswerWithin sys cs left
   same_within left cs names h is = subst (λ (ds : List Condition). HasAnswerWithin sys ds left) (one_query sys symbols bytes h.conditions cs h.names names h.query is).0 h.within
 
-  pub refused_answer : (left : ℕ) → IsAnswerable sys symbols bytes left → (r : Result (Query × Reply) QueryError) (e : QueryError) → IsErr r → IsErrAnd r (λ x. x ≡ e) → IsRefused sys symbols bytes e → IsAnswerTo r
+  pub refused_answer : (left : ℕ) → IsAnswerable sys symbols bytes left → (r : Result (Query × Reply) QueryError) (e : QueryError) → IsErr r → IsErrAnd r (λ x. x ≡ e)
+      → IsRefused sys symbols bytes e → IsAnswerTo r
   refused_answer left h (Ok a) e is same refused = absurd (false≢true is)
   refused_answer left h (Err x) e is same refused = same ∙ no_refusal h.conditions h.names h.query e refused

@@ -37,11 +37,13 @@ module _ (sys : System) (cs : List Condition) (b : Bindings) (start mid end : Co
   some_first [] x e = absurd cc
   some_first (s ∷ ss) x e = (let same : s ≡ x = cc in (ss, ap (λ y. y ∷ ss) same))
 
-  pub values_end : (full : Option Solution) → full ≡ first_of (solutions (condition_list sys [] 3) cs (unconditional b ∷ [])) → Spends mid lists_cost end → (r : Result Reply NoMemory) → FirstAnswers cs full r
+  pub values_end : (full : Option Solution) → full ≡ first_of (solutions (condition_list sys [] 3) cs (unconditional b ∷ [])) → Spends mid lists_cost end
+      → (r : Result Reply NoMemory) → FirstAnswers cs full r
       → WalkAnswers sys cs (try_values b ∷ []) start end r
   values_end None e s (Ok r) h =
       subst (EndsSo sys cs (try_values b ∷ []) start end) (sym h)
-      (item_bare sys cs (try_values b) start end (1 + lists_cost) (all_paid s) cost_is (none_under (sym (full_is sys cs b) ∙ no_first (solutions (condition_list sys [] 3) cs (unconditional b ∷ [])) e)))
+      (item_bare sys cs (try_values b) start end (1 + lists_cost) (all_paid s) cost_is
+      (none_under (sym (full_is sys cs b) ∙ no_first (solutions (condition_list sys [] 3) cs (unconditional b ∷ [])) e)))
   values_end (Some x) e s (Ok r) h =
       let first = some_first (solutions (condition_list sys [] 3) cs (unconditional b ∷ [])) x e in
       subst (EndsSo sys cs (try_values b ∷ []) start end) (sym h)

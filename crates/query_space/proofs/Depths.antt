@@ -32,4 +32,5 @@ module _ (sys : System) (cs : List Condition) (b : Bindings) where
   asked_is = asked_agree (condition_list sys [] 3) (query_list sys) (λ t. one_deeper sys [] 2 t) cs (unconditional b ∷ [])
 
   pub total_is : total (condition_cost sys [] 3) (asked (condition_list sys [] 3) cs (unconditional b ∷ [])) ≡ total (query_list_cost sys) (asked_under sys cs b)
-  total_is = total_same (condition_cost sys [] 3) (query_list_cost sys) (λ t. deeper_cost sys [] 2 t) (asked (condition_list sys [] 3) cs (unconditional b ∷ [])) ∙ ap (total (query_list_cost sys)) asked_is
+  total_is = total_same (condition_cost sys [] 3) (query_list_cost sys) (λ t. deeper_cost sys [] 2 t) (asked (condition_list sys [] 3) cs (unconditional b ∷ []))
+      ∙ ap (total (query_list_cost sys)) asked_is

@@ -33,7 +33,8 @@ module _ (sys : System) (cs : List Condition) (ts : List Term) (ds : List Deriva
     where
       go : IsAmong (try_values b) (map try_refuting (refutings (length cs))) ⊎ IsAmong (try_values b) (map try_values (assignments sys cs)) → IsAmong b (assignments sys cs)
       go (inl m) = let r = among_of_map try_refuting (try_values b) (refutings (length cs)) m in let e = r.2 in absurd (cc)
-      go (inr m) = let r = among_of_map try_values (try_values b) (assignments sys cs) m in let same : b ≡ r.0 = same_values (try_values b) b refl r.0 r.2 in subst (λ z. IsAmong z (assignments sys cs)) (sym same) r.1
+      go (inr m) = let r = among_of_map try_values (try_values b) (assignments sys cs) m in let same : b ≡ r.0 = same_values (try_values b) b refl r.0 r.2 in
+          subst (λ z. IsAmong z (assignments sys cs)) (sym same) r.1
 
   pub of_item : (item : QueryItem) → IsAmong item (query_items sys cs) → HoldsAnswer sys cs item (met_by ts ds) → IsOfItem sys cs ts ds
   of_item (try_refuting r) l (e, t, is) = absurd (cc)

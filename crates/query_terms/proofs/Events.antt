@@ -78,11 +78,13 @@ module _ (block : Names) (table : List (List ℕ × ℕ)) where
       (λ names. first_or (cause_at block table names record { side = side_at k; spot = s; number = n }) s.node.name.at None) (λ names. names)
   part_head k s n b = record {
     refusal = λ front. refl;
-    variables = λ names h. let e = free names record { side = side_at k; spot = s; number = n } b (no_cause _ s.node.name.at None h) in ap (λ (c : Bool). if c then with_name names s.node.name.text else names) e;
+    variables = λ names h. let e = free names record { side = side_at k; spot = s; number = n } b (no_cause _ s.node.name.at None h) in
+        ap (λ (c : Bool). if c then with_name names s.node.name.text else names) e;
   }
 
   mutual
-    part_term : (k depth argument before : ℕ) (p : Phrase) → IsPart (uses_from (side_at k) (suc before) (spots depth argument p)) (λ names. term_refusal block table names k depth before p) (λ names. with_variables block names p)
+    part_term : (k depth argument before : ℕ) (p : Phrase)
+        → IsPart (uses_from (side_at k) (suc before) (spots depth argument p)) (λ names. term_refusal block table names k depth before p) (λ names. with_variables block names p)
     part_term k depth argument before (word f) = part_word k record { node = record { name = f; brackets = false; arguments = 0 }; depth = depth; argument = argument } (suc before)
     part_term k depth argument before (call f ts) =
         let s : Spot = record { node = record { name = f; brackets = true; arguments = count ts }; depth = depth; argument = argument } in
@@ -97,7 +99,9 @@ module _ (block : Names) (table : List (List ℕ × ℕ)) where
         ∙ ap₂ (λ (d b : ℕ). first_or (cause_at block table names u) f.at (terms_refusal block table names k d b ts))
         (let e : suc depth ≡ depth + 1 = omega arith in e) (let e : suc before ≡ before + 1 = omega arith in e)) whole
 
-    part_terms : (k depth argument before : ℕ) (ps : Phrases) → IsPart (uses_from (side_at k) (suc before) (spots_of_all depth argument ps)) (λ names. terms_refusal block table names k depth before ps) (λ names. with_all_variables block names ps)
+    part_terms : (k depth argument before : ℕ) (ps : Phrases)
+        → IsPart (uses_from (side_at k) (suc before) (spots_of_all depth argument ps)) (λ names. terms_refusal block table names k depth before ps)
+        (λ names. with_all_variables block names ps)
     part_terms k depth argument before none = part_none
     part_terms k depth argument before (more t ts) =
         let first = uses_from (side_at k) (suc before) (spots depth argument t) in
@@ -115,7 +119,8 @@ module _ (block : Names) (table : List (List ℕ × ℕ)) where
   part_side : (k : ℕ) (p : Phrase) → IsPart (term_events (side_at k) p) (λ names. side_refusal block table names k p) (λ names. with_variables block names p)
   part_side k p = part_term k 1 0 0 p
 
-  part_conditions : (number : ℕ) (cs : List ConditionTree) → IsPart (condition_events 1 number cs) (λ names. conditions_refusal block table names number cs) (λ names. with_all_variables block names (sides cs))
+  part_conditions : (number : ℕ) (cs : List ConditionTree)
+      → IsPart (condition_events 1 number cs) (λ names. conditions_refusal block table names number cs) (λ names. with_all_variables block names (sides cs))
   part_conditions number [] = part_none
   part_conditions number (c ∷ cs) =
       let right = part_then (term_events (side_at number) c.right) (condition_events 1 (suc number) cs)

@@ -14,7 +14,8 @@ use Rattle.query_terms.specs.Conditions.{conditions_refusal, AreConditionsRead}
 use Rattle.query_terms.specs.declared.errors.MeaningError.{MeaningError}
 use Rattle.query_terms.proofs.Events.{refusal_is}
 
-pub block_is : (tree : QueryTree) (q : QueryText) (none block : List (List ℕ)) (items : List program.Name) → IsTreeOf q tree → none ≡ [] → block ≡ with_names none (map (λ n. n.text) (names_view items))
+pub block_is : (tree : QueryTree) (q : QueryText) (none block : List (List ℕ)) (items : List program.Name) → IsTreeOf q tree → none ≡ []
+    → block ≡ with_names none (map (λ n. n.text) (names_view items))
     → items ≡ q.variables.items → block ≡ variables_of tree
 block_is tree q none block items h empty e same =
     e ∙ ap (λ (ns : List (List ℕ)). with_names ns (map (λ (n : Name). n.text) (names_view items))) empty
@@ -27,7 +28,8 @@ module _ (table : List (List ℕ × ℕ)) (tree : QueryTree) (block names : List
       (subst (λ (ns : List (List ℕ)). Tells e (conditions_refusal (variables_of tree) table ns 1 (conditions_of tree))) none
       (subst (λ (b : List (List ℕ)). Tells e (conditions_refusal b table names 1 (conditions_of tree))) is t))
 
-  pub meaning_read : (later : List (List ℕ)) (ds : List rules.Condition) (texts : List (List ℕ)) → texts ≡ later → AreConditionsRead block table names (conditions_of tree) later ds → IsMeantBy table tree ds texts
+  pub meaning_read : (later : List (List ℕ)) (ds : List rules.Condition) (texts : List (List ℕ)) → texts ≡ later → AreConditionsRead block table names (conditions_of tree) later ds
+      → IsMeantBy table tree ds texts
   meaning_read later ds texts e h =
       let a = subst (λ (b : List (List ℕ)). AreConditionsRead b table names (conditions_of tree) later ds) is h in
       let b = subst (λ (ns : List (List ℕ)). AreConditionsRead (variables_of tree) table ns (conditions_of tree) later ds) none a in

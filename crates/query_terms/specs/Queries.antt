@@ -16,7 +16,8 @@ use Rattle.query_terms.specs.declared.errors.MeaningError.{MeaningError}
 use Rattle.query_terms.specs.declared.errors.MeaningError.TheVariants as meaning
 use Rattle.query_terms.specs.declared.reader.Query.{Query}
 use Rattle.query_terms.specs.declared.reader.QueryError.{QueryError}
-use Rattle.query_terms.specs.declared.reader.QueryError.TheVariants.{JoinSystem, BadByte, IdTooLong, CommentNotClosed, Syntax, TooMany, TooDeep, VariableWithArguments, UnknownName, ArityDiffers, NoMemory}
+use Rattle.query_terms.specs.declared.reader.QueryError.TheVariants.{JoinSystem, BadByte, IdTooLong, CommentNotClosed, Syntax, TooMany, TooDeep, VariableWithArguments, UnknownName}
+use Rattle.query_terms.specs.declared.reader.QueryError.TheVariants.{ArityDiffers, NoMemory}
 
 -- what the refusals of the parts are to the reader of queries
 abbrev pub text_error : TextError NoQuery → QueryError

@@ -40,13 +40,17 @@ module _ (block : List (List ℕ)) (table : List (List ℕ × ℕ)) where
     are : AreTermsOf block table names ps terms
 
   mutual
-    phrase_meant : (p : Phrase) (variables names : List (List ℕ)) (k level argument n : ℕ) → Clear (uses_from (side_at k) n (spots level argument p)) → Extends (with_variables block names p) variables → IsMeant variables p
+    phrase_meant : (p : Phrase) (variables names : List (List ℕ)) (k level argument n : ℕ) → Clear (uses_from (side_at k) n (spots level argument p))
+        → Extends (with_variables block names p) variables → IsMeant variables p
     phrase_meant (word f) variables names k level argument n (h, hs) g = by (is_among block f.text) refl g
       where
         by : (b : Bool) → is_among block f.text ≡ b → Extends (if b then with_name names f.text else names) variables → IsMeant variables (word f)
         by true b g =
             let place = place_with names (with_name names f.text) f.text refl in
-            record { term = var (position_or_len (bytes_eq f.text) names); is = (b, extends_position (bytes_eq f.text) (with_name names f.text) variables (position_or_len (bytes_eq f.text) names) g place) }
+            record {
+              term = var (position_or_len (bytes_eq f.text) names);
+              is = (b, extends_position (bytes_eq f.text) (with_name names f.text) variables (position_or_len (bytes_eq f.text) names) g place);
+            }
         by false b g = let s = h.there b in record { term = app s.symbol nil; is = ((b, s.number, s.arity), refl) }
     phrase_meant (call f ts) variables names k level argument n (h, hs) g = by (is_among block f.text) refl (phrases_meant ts variables names k (suc level) 1 (suc n) hs g)
       where
@@ -54,7 +58,8 @@ module _ (block : List (List ℕ)) (table : List (List ℕ × ℕ)) where
         by true b m = absurd (let wrong = h.bare b in cc)
         by false b m = let s = h.there b in record { term = app s.symbol m.terms; is = ((b, s.number, s.arity), m.are) }
 
-    phrases_meant : (ts : Phrases) (variables names : List (List ℕ)) (k level argument n : ℕ) → Clear (uses_from (side_at k) n (spots_of_all level argument ts)) → Extends (with_all_variables block names ts) variables → AreMeant variables ts
+    phrases_meant : (ts : Phrases) (variables names : List (List ℕ)) (k level argument n : ℕ) → Clear (uses_from (side_at k) n (spots_of_all level argument ts))
+        → Extends (with_all_variables block names ts) variables → AreMeant variables ts
     phrases_meant none variables names k level argument n h g = record { terms = nil; are = tt }
     phrases_meant (more t ts) variables names k level argument n h g =
         let first = spots level argument t in
@@ -68,7 +73,8 @@ module _ (block : List (List ℕ)) (table : List (List ℕ × ℕ)) where
     conditions : List Condition
     are : AreConditionsOf block table names cs conditions
 
-  conditions_meant : (cs : List ConditionTree) (variables names : List (List ℕ)) (k : ℕ) → Clear (condition_events 1 k cs) → Extends (with_all_variables block names (sides cs)) variables → ConditionsMeant variables cs
+  conditions_meant : (cs : List ConditionTree) (variables names : List (List ℕ)) (k : ℕ) → Clear (condition_events 1 k cs)
+      → Extends (with_all_variables block names (sides cs)) variables → ConditionsMeant variables cs
   conditions_meant [] variables names k h g = record { conditions = []; are = tt }
   conditions_meant (c ∷ cs) variables names k h g =
       let left = term_events (side_at k) c.left in
@@ -110,7 +116,8 @@ module _ (block : List (List ℕ)) (table : List (List ℕ × ℕ)) where
           let l = h.placed.levels in
           let d = all_levels_are ts us k (suc level) 1 (suc n) hs m.1 (omega (arith, l)) in omega (arith, d)
 
-      all_levels_are : (ps : Phrases) (ts : Terms) (k level argument n : ℕ) → Clear (uses_from (side_at k) n (spots_of_all level argument ps)) → AreTermsOf block table names ps ts → level ≤ 201 → level + depth_all ts ≤ 201
+      all_levels_are : (ps : Phrases) (ts : Terms) (k level argument n : ℕ) → Clear (uses_from (side_at k) n (spots_of_all level argument ps)) → AreTermsOf block table names ps ts
+          → level ≤ 201 → level + depth_all ts ≤ 201
       all_levels_are none nil k level argument n h m l = omega (arith, l)
       all_levels_are none (cons t ts) k level argument n h m l = absurd m
       all_levels_are (more p ps) nil k level argument n h m l = absurd m

@@ -95,7 +95,8 @@ module _ (bytes : List ℕ) where
       subst (λ (n : ℕ). n ≤ length bytes) (ap (λ (r : QueryCause × ℕ). r.1) pair) h
 
   -- the first refusal is at an event
-  refusal_within : (block : List (List ℕ)) (table : List (List ℕ × ℕ)) (front es : List Event) (cause : QueryCause) (at : ℕ) → EventsWithin bytes es → first_refusal block table front es ≡ Some (cause, at) → at ≤ length bytes
+  refusal_within : (block : List (List ℕ)) (table : List (List ℕ × ℕ)) (front es : List Event) (cause : QueryCause) (at : ℕ) → EventsWithin bytes es
+      → first_refusal block table front es ≡ Some (cause, at) → at ≤ length bytes
   refusal_within block table front [] cause at h e = absurd cc
   refusal_within block table front (x ∷ es) cause at h e =
       here_or_later (event_cause block table front x) (place x) (first_refusal block table (front ++ x ∷ []) es) cause at h.0 (refusal_within block table (front ++ x ∷ []) es cause at h.1) e

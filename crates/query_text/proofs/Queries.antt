@@ -29,7 +29,8 @@ never_own : {P : Type 0} (sys : System) → sys.own < length sys.arities → Has
 never_own sys less own = absurd (omega (arith, less, own))
 
 -- those behind the first
-behind_own : (sys : System) (symbols : List (List ℕ × ℕ)) (bytes : List ℕ) (cause other : Refusal) (at place : ℕ) → HasOwnSymbols sys → IsNoQuery sys symbols bytes cause at → IsNoQuery sys symbols bytes other place → (cause ≡ other) × (at ≡ place)
+behind_own : (sys : System) (symbols : List (List ℕ × ℕ)) (bytes : List ℕ) (cause other : Refusal) (at place : ℕ) → HasOwnSymbols sys → IsNoQuery sys symbols bytes cause at
+    → IsNoQuery sys symbols bytes other place → (cause ≡ other) × (at ≡ place)
 behind_own sys symbols bytes join_system other at place own (less, h) g = never_own sys less own
 behind_own sys symbols bytes (no_tokens c) join_system at place own h (less, g) = never_own sys less own
 behind_own sys symbols bytes (no_tokens c) (no_tokens d) at place own h g = let e = one_bad_place bytes c d at place h.1 g.1 in (ap no_tokens e.0, e.1)
@@ -45,7 +46,8 @@ behind_own sys symbols bytes (no_meaning c) wrong_syntax at place own h g = absu
 behind_own sys symbols bytes (no_meaning c) (no_meaning d) at place own h g =
     same_refusal (refusal_of symbols h.1.tree) c d at place h.1.refused (ap (refusal_of symbols) (one_query_tree bytes h.1.tree g.1.tree h.1.spelled g.1.spelled) ∙ g.1.refused)
 
-is_join : (sys : System) (symbols : List (List ℕ × ℕ)) (bytes : List ℕ) (cause : Refusal) (at : ℕ) → sys.own < length sys.arities → IsNoQuery sys symbols bytes cause at → (cause ≡ join_system) × (at ≡ 0)
+is_join : (sys : System) (symbols : List (List ℕ × ℕ)) (bytes : List ℕ) (cause : Refusal) (at : ℕ) → sys.own < length sys.arities → IsNoQuery sys symbols bytes cause at
+    → (cause ≡ join_system) × (at ≡ 0)
 is_join sys symbols bytes join_system at less h = (refl, h.1)
 is_join sys symbols bytes (no_tokens c) at less h = never_own sys less h.0
 is_join sys symbols bytes wrong_syntax at less h = never_own sys less h.0

@@ -26,20 +26,24 @@ TreeOrPlace = (bytes : List ℕ) (ts : List Token) → Spells bytes ts → ((tre
 
 -- a text is one query at most
 abbrev pub OneQuery : Type 0
-OneQuery = (sys : System) (symbols : List (List ℕ × ℕ)) (bytes : List ℕ) (cs ds : List Condition) (names others : List (List ℕ)) → IsQuery sys symbols bytes cs names → IsQuery sys symbols bytes ds others → (cs ≡ ds) × (names ≡ others)
+OneQuery = (sys : System) (symbols : List (List ℕ × ℕ)) (bytes : List ℕ) (cs ds : List Condition) (names others : List (List ℕ)) → IsQuery sys symbols bytes cs names
+    → IsQuery sys symbols bytes ds others → (cs ≡ ds) × (names ≡ others)
 
 -- two refusals of one text have one cause and one place
 abbrev pub OneRefusal : Type 0
-OneRefusal = (sys : System) (symbols : List (List ℕ × ℕ)) (bytes : List ℕ) (cause other : Refusal) (at place : ℕ) → IsNoQuery sys symbols bytes cause at → IsNoQuery sys symbols bytes other place → (cause ≡ other) × (at ≡ place)
+OneRefusal = (sys : System) (symbols : List (List ℕ × ℕ)) (bytes : List ℕ) (cause other : Refusal) (at place : ℕ) → IsNoQuery sys symbols bytes cause at
+    → IsNoQuery sys symbols bytes other place → (cause ≡ other) × (at ≡ place)
 
 -- a text that is a query is not refused
 abbrev pub NeverQueryAndRefusal : Type 0
-NeverQueryAndRefusal = (sys : System) (symbols : List (List ℕ × ℕ)) (bytes : List ℕ) (cs : List Condition) (names : List (List ℕ)) (cause : Refusal) (at : ℕ) → IsQuery sys symbols bytes cs names → IsNoQuery sys symbols bytes cause at → ⊥
+NeverQueryAndRefusal = (sys : System) (symbols : List (List ℕ × ℕ)) (bytes : List ℕ) (cs : List Condition) (names : List (List ℕ)) (cause : Refusal) (at : ℕ)
+    → IsQuery sys symbols bytes cs names → IsNoQuery sys symbols bytes cause at → ⊥
 
 -- a text is a query or is refused
 abbrev pub QueryOrRefusal : Type 0
 QueryOrRefusal =
-    (sys : System) (symbols : List (List ℕ × ℕ)) (bytes : List ℕ) → ((cs : List Condition) × (names : List (List ℕ)) × IsQuery sys symbols bytes cs names) ⊎ ((cause : Refusal) × (at : ℕ) × IsNoQuery sys symbols bytes cause at)
+    (sys : System) (symbols : List (List ℕ × ℕ)) (bytes : List ℕ) → ((cs : List Condition) × (names : List (List ℕ)) × IsQuery sys symbols bytes cs names)
+    ⊎ ((cause : Refusal) × (at : ℕ) × IsNoQuery sys symbols bytes cause at)
 
 -- the place of a refusal is in the text, or at its end
 abbrev pub RefusalsAreWithin : Type 0
@@ -57,4 +61,5 @@ pub record IsWithinLimits (symbols : List (List ℕ × ℕ)) (cs : List Conditio
   pub few_variables : length names ≤ most_variables
 
 abbrev pub QueriesAreWithinLimits : Type 0
-QueriesAreWithinLimits = (sys : System) (symbols : List (List ℕ × ℕ)) (bytes : List ℕ) (cs : List Condition) (names : List (List ℕ)) → IsQuery sys symbols bytes cs names → IsWithinLimits symbols cs names
+QueriesAreWithinLimits = (sys : System) (symbols : List (List ℕ × ℕ)) (bytes : List ℕ) (cs : List Condition) (names : List (List ℕ)) → IsQuery sys symbols bytes cs names
+    → IsWithinLimits symbols cs names

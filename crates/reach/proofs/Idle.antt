@@ -45,7 +45,8 @@ module _ (sys : System) (hyps : List Condition) (idle : IsIdle sys hyps) where
     sites_still : EachOf IsStill (sites sys hyps u.term)
     sites_still =
         each_flat_map (λ p. Unit {0}) IsStill (sites_at sys hyps u.term)
-        (λ p x. each_flat_map (λ t. Unit {0}) IsStill (sites_of_part sys hyps p) (λ t y. part_still p t) (option_to_list (subterm u.term p)) (each_any (λ t. Unit {0}) (λ t. tt) (option_to_list (subterm u.term p))))
+        (λ p x. each_flat_map (λ t. Unit {0}) IsStill (sites_of_part sys hyps p) (λ t y. part_still p t) (option_to_list (subterm u.term p))
+        (each_any (λ t. Unit {0}) (λ t. tt) (option_to_list (subterm u.term p))))
         (positions u.term) (each_any (λ p. Unit {0}) (λ p. tt) (positions u.term))
 
     no_successors : successors sys hyps inner u ≡ []
@@ -55,7 +56,8 @@ module _ (sys : System) (hyps : List Condition) (idle : IsIdle sys hyps) where
   stays zero t = no_rounds (successors sys hyps inner) t
   stays (suc d) t =
       one_round (successors sys hyps inner) d t
-      ∙ ap (with_terms (breadth_first (successors sys hyps inner) d t)) (none_of_each (successors sys hyps inner) (breadth_first (successors sys hyps inner) d t) (each_any (λ u. successors sys hyps inner u ≡ []) no_successors (breadth_first (successors sys hyps inner) d t)))
+      ∙ ap (with_terms (breadth_first (successors sys hyps inner) d t)) (none_of_each (successors sys hyps inner) (breadth_first (successors sys hyps inner) d t)
+      (each_any (λ u. successors sys hyps inner u ≡ []) no_successors (breadth_first (successors sys hyps inner) d t)))
       ∙ stays d t
 
   pub idle_list : (d depth : ℕ) (t : math.Term) → depth ≡ 0 → started t ≡ reach_list sys hyps d depth t
@@ -65,5 +67,6 @@ module _ (sys : System) (hyps : List Condition) (idle : IsIdle sys hyps) where
   idle_cost d depth t e =
       let price = condition_cost sys hyps 0 in
       let many = ap length (stays d t) in
-      let free = total_none (λ (u : lists.Reached). total price (asked_from sys hyps inner u.term)) (λ u. no_prices price (no_cost sys hyps) (asked_from sys hyps inner u.term)) (expanded (successors sys hyps inner) d t) in
+      let free = total_none (λ (u : lists.Reached). total price (asked_from sys hyps inner u.term)) (λ u. no_prices price (no_cost sys hyps) (asked_from sys hyps inner u.term))
+      (expanded (successors sys hyps inner) d t) in
       ap (λ c. reach_cost sys hyps d c t) e ∙ omega (arith, many, free)

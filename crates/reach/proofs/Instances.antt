@@ -1,5 +1,6 @@
 -- Cells of instances that are not built, and the room that they leave.
-use Rattle.std.proofs.Common.{◌≡◌, ℕ, suc, ◌+◌, ◌-◌, ◌*◌, ◌<◌, ◌≤◌, ◌⊎◌, inl, inr, Result, OnOk, List, [], ◌∷◌, ◌++◌, length, append_assoc, Option, None, Some, IfSome, IfNone, refl, sym, ap, ◌∙◌, Vec, Global, arith}
+use Rattle.std.proofs.Common.{◌≡◌, ℕ, suc, ◌+◌, ◌-◌, ◌*◌, ◌<◌, ◌≤◌, ◌⊎◌, inl, inr, Result, OnOk, List, [], ◌∷◌, ◌++◌, length, append_assoc, Option, None, Some, IfSome, IfNone}
+use Rattle.std.proofs.Common.{refl, sym, ap, ◌∙◌, Vec, Global, arith}
 use Rattle.std.specs.FinMap.{get}
 use Rattle.rewriting.specs.Terms as math
 use Rattle.rewriting.specs.Prelude.{app, nil, cons, count, size, size_all, depth, Bindings, apply, apply_all, values_of}
@@ -44,7 +45,8 @@ module _ (b : Bindings) (t : Term) (f : ℕ) (v : Vec Term Global) (is : t ≡ F
       (λ x. x ∙ ap (λ z. z ++ all_cells ts) e ∙ append_assoc old ((65536 * f + n + 1) ∷ []) (all_cells ts) ∙ ap (λ z. old ++ z) (sym all)) h
 
   -- the room that a symbol's arguments leave
-  pub symbol_room : (room : ℕ) (o : Option ℕ) → (room ≡ 0 → ⊥) → IfSome o (λ left. left + size_all (apply_all (values_of b) (views v.items)) ≡ room - 1) → IfSome o (λ left. left + size (apply (values_of b) (view t)) ≡ room)
+  pub symbol_room : (room : ℕ) (o : Option ℕ) → (room ≡ 0 → ⊥) → IfSome o (λ left. left + size_all (apply_all (values_of b) (views v.items)) ≡ room - 1)
+      → IfSome o (λ left. left + size (apply (values_of b) (view t)) ≡ room)
   symbol_room room None some h = h
   symbol_room room (Some left) some h = let e = size_is in omega (arith, some, h, e)
 

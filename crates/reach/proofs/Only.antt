@@ -1,5 +1,6 @@
 -- A condition whose list is of its start alone.
-use Rattle.std.proofs.Common.{◌≡◌, ℕ, ◌+◌, ◌-◌, ◌≤◌, inl, inr, ◌&&◌, nat_eq, Bool, true, false, cond, List, [], ◌∷◌, ◌++◌, flat_map, option_to_list, option_map, None, Result, Ok, Vec, Global, eqb-true, refl, sym, ap, ◌∙◌, append-nil, subst, subst₂, arith}
+use Rattle.std.proofs.Common.{◌≡◌, ℕ, ◌+◌, ◌-◌, ◌≤◌, inl, inr, ◌&&◌, nat_eq, Bool, true, false, cond, List, [], ◌∷◌, ◌++◌, flat_map, option_to_list, option_map, None, Result, Ok}
+use Rattle.std.proofs.Common.{Vec, Global, eqb-true, refl, sym, ap, ◌∙◌, append-nil, subst, subst₂, arith}
 use Rattle.std.proofs.lemmas.Bool.{and_from, cond-true}
 use Rattle.rewriting.specs.Terms as math
 use Rattle.rewriting.specs.Prelude.{var, app, Covers, Bindings, apply, values_of, Condition, is_covered, is_fit, match_onto, match_all_onto}

@@ -1,5 +1,6 @@
 -- Steps of a term ask for no list where no rule with the root of a part has conditions.
-use Rattle.std.proofs.Common.{◌≡◌, ℕ, zero, suc, ◌≤◌, true, nat_eq, eqb-true, vec_len, List, [], ◌∷◌, if◌then◌else◌, length, map, option_to_list, Option, None, Some, option_and_then, Vec, Global, refl, sym, ap, ◌∙◌, subst, arith}
+use Rattle.std.proofs.Common.{◌≡◌, ℕ, zero, suc, ◌≤◌, true, nat_eq, eqb-true, vec_len, List, [], ◌∷◌, if◌then◌else◌, length, map, option_to_list, Option, None, Some}
+use Rattle.std.proofs.Common.{option_and_then, Vec, Global, refl, sym, ap, ◌∙◌, subst, arith}
 use Rattle.std.specs.FinMap.{empty}
 use Rattle.rewriting.specs.Terms as math
 use Rattle.rewriting.specs.Prelude.{Terms, var, app, nil, cons, Position, positions, subterm, argument, argument_of, Condition, Rule, System, rule_at, IsSystem, match_onto, is_same}
@@ -89,7 +90,8 @@ module _ (sys : System) where
     quiet_asks t h =
         none_of_each (asked_at inner) (sites sys hyps t)
         (each_flat_map (λ p. Unit {0}) AsksNone (sites_at sys hyps t)
-        (λ p x. each_flat_map (IsBare sys) AsksNone (sites_of_part sys hyps p) (λ u b. part_asks p u b) (option_to_list (subterm t p)) (each_of_option (IsBare sys) (subterm t p) (λ u e. quiet_whole u (quiet_part t p u h e))))
+        (λ p x. each_flat_map (IsBare sys) AsksNone (sites_of_part sys hyps p) (λ u b. part_asks p u b) (option_to_list (subterm t p))
+        (each_of_option (IsBare sys) (subterm t p) (λ u e. quiet_whole u (quiet_part t p u h e))))
         (positions t) (each_any (λ p. Unit {0}) (λ p. tt) (positions t)))
 
 -- a full list takes nothing of a term, and where its steps ask for no list, or none is made, nothing is paid

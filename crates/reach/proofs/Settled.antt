@@ -43,7 +43,8 @@ module _ (inner : math.Term → List lists.Reached) (l : List lists.Reached) (u 
       where
         go : (o : Option Bindings) → match_onto s.values c.right w.term ≡ o → EachOf (IsSettled l) (given_by (option_map (λ (v : Bindings). record { values = v; by = s.by ++ w.by ∷ [] }) o))
         go None e = tt
-        go (Some v) e = each_append (IsSettled l) (given record { values = v; by = s.by ++ w.by ∷ [] }) [] (given_settled record { values = v; by = s.by ++ w.by ∷ [] } (found_least s.values v c.right w.term e).extends) tt
+        go (Some v) e = each_append (IsSettled l) (given record { values = v; by = s.by ++ w.by ∷ [] }) []
+            (given_settled record { values = v; by = s.by ++ w.by ∷ [] } (found_least s.values v c.right w.term e).extends) tt
 
     pub entries_settled : (cs : List Condition) (ws : List lists.Reached) → cs ≡ []
         → EachOf (IsSettled l) (flat_map (λ w. flat_map given (flat_map (followed inner cs) (option_to_list (extended c s w)))) ws)

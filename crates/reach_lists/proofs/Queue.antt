@@ -1,5 +1,6 @@
 -- The list that is made level by level is the one of a queue.
-use Rattle.std.proofs.Common.{◌≡◌, ℕ, zero, suc, ◌+◌, ◌≤◌, ◌<◌, nat_lt, Bool, true, false, List, [], ◌∷◌, ◌++◌, length, flat_map, drop, slice_get, Option, None, Some, refl, sym, ap, ◌∙◌, subst, append_assoc, append-nil, length-append, drop_at, le_refl, arith}
+use Rattle.std.proofs.Common.{◌≡◌, ℕ, zero, suc, ◌+◌, ◌≤◌, ◌<◌, nat_lt, Bool, true, false, List, [], ◌∷◌, ◌++◌, length, flat_map, drop, slice_get, Option, None, Some, refl, sym}
+use Rattle.std.proofs.Common.{ap, ◌∙◌, subst, append_assoc, append-nil, length-append, drop_at, le_refl, arith}
 use Rattle.std.proofs.lemmas.List.{length-map, map-append}
 use Rattle.std.proofs.lemmas.Bool.{cond-true, cond-false, lt-ltb, le-ltb}
 use Rattle.rewriting.specs.Terms.{Term}
@@ -183,7 +184,14 @@ module _ (next : Reached → List Reached) (d : ℕ) (t : Term) where
       ∙ drop_at (queued_terms s.before) (queued_terms s.seg) (length (queued_terms s.before)) refl
 
   ready : (e : ℕ) → e ≤ d → IsReady e
-  ready zero h = record { before = []; seg = start; far = (refl, tt); terms = sym (no_rounds next t); count = refl; is = λ fuel. (let none : 0 + fuel ≡ fuel = omega arith in ap (λ n. queue_from next d 0 n start) none) }
+  ready zero h = record {
+    before = [];
+    seg = start;
+    far = (refl, tt);
+    terms = sym (no_rounds next t);
+    count = refl;
+    is = λ fuel. (let none : 0 + fuel ≡ fuel = omega arith in ap (λ n. queue_from next d 0 n start) none);
+  }
   ready (suc e) h =
       let s = ready e (omega (arith, h)) in
       let l = level next d e h s.before s.seg s.far in

@@ -1,5 +1,6 @@
 -- Values for the variables without one, and the instances of conditions.
-use Rattle.std.proofs.Common.{ℕ, ◌≡◌, ◌⊎◌, inl, inr, ◌+◌, ◌<◌, ◌≤◌, Bool, true, false, cond, Option, None, Some, unwrap_or, option_map, List, [], ◌∷◌, map, length, drop, get_or, nat_cmp, refl, sym, ap, ap₂, ◌∙◌, subst, arith, Result, Ok, Err, OnOk}
+use Rattle.std.proofs.Common.{ℕ, ◌≡◌, ◌⊎◌, inl, inr, ◌+◌, ◌<◌, ◌≤◌, Bool, true, false, cond, Option, None, Some, unwrap_or, option_map, List, [], ◌∷◌, map, length, drop, get_or}
+use Rattle.std.proofs.Common.{nat_cmp, refl, sym, ap, ap₂, ◌∙◌, subst, arith, Result, Ok, Err, OnOk}
 use Rattle.std.specs.Ordering.{eq_by_cmp}
 use Rattle.std.proofs.lemmas.Bool.{cases_lt, or_right, or_left}
 use Rattle.std.proofs.lemmas.List.{length-map, drop_all}

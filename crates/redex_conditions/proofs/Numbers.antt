@@ -1,5 +1,6 @@
 -- Evidence judged for a redex of a numbered end is judged for the redex of the end.
-use Rattle.std.proofs.Common.{ℕ, suc, ◌≡◌, ◌⊎◌, inl, inr, ◌+◌, ◌-◌, ◌*◌, ◌<◌, true, List, [], ◌∷◌, map, length, Option, None, Some, option_map, cond, Bool, false, nat_cmp, refl, sym, ap, ap₂, ◌∙◌, subst, arith, eqb-true, eq-eqb, nat_eq, if◌then◌else◌, zero, get_or}
+use Rattle.std.proofs.Common.{ℕ, suc, ◌≡◌, ◌⊎◌, inl, inr, ◌+◌, ◌-◌, ◌*◌, ◌<◌, true, List, [], ◌∷◌, map, length, Option, None, Some, option_map, cond, Bool, false, nat_cmp, refl}
+use Rattle.std.proofs.Common.{sym, ap, ap₂, ◌∙◌, subst, arith, eqb-true, eq-eqb, nat_eq, if◌then◌else◌, zero, get_or}
 use Rattle.std.specs.Ordering.{eq_by_cmp}
 use Rattle.std.specs.Cmp.{nat_cmp_total}
 use Rattle.std.specs.FinMap.{get, empty, entries, find, from_entries, get-entries, get-from_entries}
@@ -162,11 +163,13 @@ module _ (row : List ℕ) (distinct : AreDistinct row) (t n : Term) (is : t ≡ 
   values_spread sys i p r m h k =
       ap (value_or_own k) (get-moved (naming row) m k)
       ∙ value_spread m k (get m k) refl
-      (λ u e. values_have (AreBelow (length row)) (below_inherits (length row)) empty m r.left h.redex h.matches (part_below (length row) n p h.redex h.stands below) (λ x v q. absurd (nothing_bound x v q)) k u e)
+      (λ u e. values_have (AreBelow (length row)) (below_inherits (length row)) empty m r.left h.redex h.matches (part_below (length row) n p h.redex h.stands below)
+      (λ x v q. absurd (nothing_bound x v q)) k u e)
 
   spread_conditions : (a b : Substitution) → ((k : ℕ) → a k ≡ apply (spreading row) (b k)) → (cs : List Condition) → conditions_under a cs ≡ conditions_under (spreading row) (conditions_under b cs)
   spread_conditions a b same [] = refl
-  spread_conditions a b same (c ∷ cs) = ap₂ (λ (d : Condition) (ds : List Condition). d ∷ ds) (ap₂ (λ (l r : Term). record { left = l; right = r }) (side c.left) (side c.right)) (spread_conditions a b same cs)
+  spread_conditions a b same (c ∷ cs) = ap₂ (λ (d : Condition) (ds : List Condition). d ∷ ds) (ap₂ (λ (l r : Term). record { left = l; right = r }) (side c.left) (side c.right))
+      (spread_conditions a b same cs)
     where
       side : (u : Term) → apply a u ≡ apply (spreading row) (apply b u)
       side u = apply-agree a (compose b (spreading row)) u (λ x o. same x) ∙ sym (apply-apply b (spreading row) u)

@@ -70,7 +70,8 @@ module _ (rho : ℕ → ℕ) where
           lefts = h.lefts;
           are = subst (λ ts. AreCapsOf sys any ts h.lefts) (sym (lefts-renamed cs)) (caps_kept sys (left_sides cs) h.lefts h.are);
           outcome =
-              subst₂ (λ p q. IsOutcome p q (renamed_outcome (woven rho) stays o)) (all_woven_evens rho (all_filled var 0 h.lefts)) (all_woven_odds rho (right_sides cs) ∙ ap (apply_all odd) (sym (rights-renamed cs)))
+              subst₂ (λ p q. IsOutcome p q (renamed_outcome (woven rho) stays o)) (all_woven_evens rho (all_filled var 0 h.lefts))
+              (all_woven_odds rho (right_sides cs) ∙ ap (apply_all odd) (sym (rights-renamed cs)))
               (runs_with_names (woven rho) (woven_one_to_one rho one_to_one) h.outcome);
         }
 
@@ -105,7 +106,8 @@ module _ (rho : ℕ → ℕ) where
     by_caps_to sys cs (Some unfeasible_large) h = absurd h
 
     -- evidence for conditions is the same for renamed ones
-    pub judged_to : (sys : System) (cs : List Condition) (e : InfeasibilityEvidence) (o : Option EvidenceReason) → IsInfeasibilityJudged sys cs e o → IsInfeasibilityJudged sys (conditions_renamed cs) e o
+    pub judged_to : (sys : System) (cs : List Condition) (e : InfeasibilityEvidence) (o : Option EvidenceReason) → IsInfeasibilityJudged sys cs e o
+        → IsInfeasibilityJudged sys (conditions_renamed cs) e o
     judged_to sys cs by_caps o h = by_caps_to sys cs o h
     judged_to sys cs (by_automaton k a) o h = by_automaton_to rho sys cs k a o h
 
@@ -114,7 +116,8 @@ module _ (rho : ℕ → ℕ) where
     are_judged_to sys cs e o (inr (large, is)) = inr (λ fit. large (fit_from cs fit), is)
 
     -- and for renamed conditions as for these, which have some judgement, the renamed ones one at most
-    judged_from : (sys : System) (cs : List Condition) (e : InfeasibilityEvidence) (o : Option EvidenceReason) → IsInfeasibilityJudged sys (conditions_renamed cs) e o → IsInfeasibilityJudged sys cs e o
+    judged_from : (sys : System) (cs : List Condition) (e : InfeasibilityEvidence) (o : Option EvidenceReason) → IsInfeasibilityJudged sys (conditions_renamed cs) e o
+        → IsInfeasibilityJudged sys cs e o
     judged_from sys cs e o h =
         let some = infeasibility_total sys cs e in
         subst (IsInfeasibilityJudged sys cs e) (evidence_once sys (conditions_renamed cs) e some.0 o (judged_to sys cs e some.0 some.1) h) some.1

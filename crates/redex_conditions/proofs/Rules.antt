@@ -17,7 +17,8 @@ sound_at arities [] i d h l = absurd (omega (arith, l))
 sound_at arities (q ∷ rs) zero d h l = h.0
 sound_at arities (q ∷ rs) (suc i) d h l = sound_at arities rs i d h.1 (omega (arith, l))
 
-pub sound_is : (sys : System) (rs : List program.Rule) → map rule_view rs ≡ sys.rules → AreSound sys.arities rs → (n : ℕ) → IsSome (rule_at sys n) → (d : program.Rule) → IsSound sys.arities (get_or rs (n - 1) d)
+pub sound_is : (sys : System) (rs : List program.Rule) → map rule_view rs ≡ sys.rules → AreSound sys.arities rs → (n : ℕ) → IsSome (rule_at sys n) → (d : program.Rule)
+    → IsSound sys.arities (get_or rs (n - 1) d)
 sound_is sys rs same sound n h d = sound_at sys.arities rs (n - 1) d sound (number_low sys rs same n h).1
 
 -- a rule that matches is hit

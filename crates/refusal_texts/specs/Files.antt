@@ -2,11 +2,13 @@
 use Rattle.std.specs.Prelude.{ℕ, List, Option, Some, None, option_map, codes}
 use Rattle.file_text.specs.Tokens.{bad_byte, long_id, open_comment}
 use Rattle.file_text.specs.Refusals.{wrong_syntax, unknown_block, repeated_block, other_condition_type, missing_rules}
-use Rattle.cops_read.specs.Refusals.{MeaningCause, conditions_without_type, variable_with_arguments, arity_differs, left_variable, too_deep, too_many_rules, too_many_conditions, too_many_arguments, too_many_nodes, too_many_variables, too_many_symbols}
+use Rattle.cops_read.specs.Refusals.{MeaningCause, conditions_without_type, variable_with_arguments, arity_differs, left_variable, too_deep, too_many_rules, too_many_conditions}
+use Rattle.cops_read.specs.Refusals.{too_many_arguments, too_many_nodes, too_many_variables, too_many_symbols}
 use Rattle.cops_read.specs.File.{FileCause, no_tokens, no_tree, no_meaning}
 use Rattle.cops_read.specs.Counts.{cause_of_count}
 use Rattle.cops_read.specs.declared.errors.ReadError.{ReadError}
-use Rattle.cops_read.specs.declared.errors.ReadError.TheVariants.{BadByte, IdTooLong, CommentNotClosed, Syntax, UnknownBlock, RepeatedBlock, ConditionTypeOther, MissingRules, ConditionsWithoutType, VariableWithArguments, ArityDiffers, LeftVariable, TooDeep, TooMany, NoMemory}
+use Rattle.cops_read.specs.declared.errors.ReadError.TheVariants.{BadByte, IdTooLong, CommentNotClosed, Syntax, UnknownBlock, RepeatedBlock, ConditionTypeOther, MissingRules}
+use Rattle.cops_read.specs.declared.errors.ReadError.TheVariants.{ConditionsWithoutType, VariableWithArguments, ArityDiffers, LeftVariable, TooDeep, TooMany, NoMemory}
 
 abbrev pub meaning_words : MeaningCause → List ℕ
 meaning_words conditions_without_type = codes "conditions without type"

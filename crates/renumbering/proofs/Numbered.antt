@@ -1,5 +1,6 @@
 -- Terms with numbers for their variables, argument by argument.
-use Rattle.std.proofs.Common.{◌≡◌, ℕ, zero, suc, ◌+◌, ◌<◌, ◌≤◌, ◌⊎◌, inl, inr, true, false, eqb-true, List, [], ◌∷◌, ◌++◌, length, get_or, slice_get, take, drop, Some, Vec, Global, refl, sym, ap, ap₂, ◌∙◌, subst, arith}
+use Rattle.std.proofs.Common.{◌≡◌, ℕ, zero, suc, ◌+◌, ◌<◌, ◌≤◌, ◌⊎◌, inl, inr, true, false, eqb-true, List, [], ◌∷◌, ◌++◌, length, get_or, slice_get, take, drop, Some, Vec, Global}
+use Rattle.std.proofs.Common.{refl, sym, ap, ap₂, ◌∙◌, subst, arith}
 use Rattle.std.proofs.lemmas.Option.{slice_get_within, get_or_from_slice_get}
 use Rattle.rewriting.specs.Terms as math
 use Rattle.rewriting.specs.Prelude.{var, app, Terms, nil, cons, occurs, occurs_in, with_variables, with_variables_of, Substitution, apply, apply_all, IsFront}

@@ -103,7 +103,8 @@ sorted_across order (z ∷ xs) ys (first, s) x y (inl e) b = subst (λ q. order 
 sorted_across order (z ∷ xs) ys (first, s) x y (inr a) b = sorted_across order xs ys s x y a b
 
 -- a map that keeps the order keeps lists sorted
-pub sorted_map : {X Y : Type 0} (order : X → X → Type 0) (other : Y → Y → Type 0) (f : X → Y) (xs : List X) → ((x y : X) → order x y → other (f x) (f y)) → IsSorted order xs → IsSorted other (map f xs)
+pub sorted_map : {X Y : Type 0} (order : X → X → Type 0) (other : Y → Y → Type 0) (f : X → Y) (xs : List X) → ((x y : X) → order x y → other (f x) (f y))
+    → IsSorted order xs → IsSorted other (map f xs)
 sorted_map order other f [] h s = tt
 sorted_map {X} {Y} order other f (x ∷ xs) h (first, s) =
     (before_each other (f x) (map f xs) (λ y a. before y (among_of_map f y xs a)), sorted_map order other f xs h s)

@@ -242,7 +242,8 @@ mutual
   search_inside P Q test k nil = inl (λ l p t u here e. absurd (cc))
   search_inside P Q test k (cons t ts) = go (search_subterms (λ p. P (k ∷ p)) (λ p. Q (k ∷ p)) (λ p u. test (k ∷ p) u) t) (search_inside P Q test (suc k) ts)
     where
-      go : AllSubterms (λ p. P (k ∷ p)) t ⊎ FirstSubterm (λ p. P (k ∷ p)) (λ p. Q (k ∷ p)) t → AllInside P (suc k) ts ⊎ FirstInside P Q (suc k) ts → AllInside P k (cons t ts) ⊎ FirstInside P Q k (cons t ts)
+      go : AllSubterms (λ p. P (k ∷ p)) t ⊎ FirstSubterm (λ p. P (k ∷ p)) (λ p. Q (k ∷ p)) t → AllInside P (suc k) ts ⊎ FirstInside P Q (suc k) ts
+          → AllInside P k (cons t ts) ⊎ FirstInside P Q k (cons t ts)
       go (inr f) h = inr (in_first P Q k t ts f)
       go (inl h) (inl all) = inl (all_more P k t ts h all)
       go (inl h) (inr i) = inr (in_later P Q k t ts h i)

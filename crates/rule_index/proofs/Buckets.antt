@@ -23,7 +23,8 @@ put ls g f n h = go (nat_eq f g) refl
     go false e = get_or-set_other ls g f (listed ls g ++ n ∷ []) [] (eqb-false f g e)
 
 -- the number of a rule is put last in one bucket
-pub number_added : (left : Term) (g : ℕ) (w : Vec Term Global) (vs : List (Vec ℕ Global)) (b v : Vec ℕ Global) (n : ℕ) → left ≡ Fun g w → IsRootBelow (length vs) (view left) → v.items ≡ (get_or vs g b).items ++ n ∷ []
+pub number_added : (left : Term) (g : ℕ) (w : Vec Term Global) (vs : List (Vec ℕ Global)) (b v : Vec ℕ Global) (n : ℕ) → left ≡ Fun g w → IsRootBelow (length vs) (view left)
+    → v.items ≡ (get_or vs g b).items ++ n ∷ []
     → (f : ℕ) → listed (lists (set vs g v)) f ≡ (if has_root f (view left) then (listed (lists vs) f ++ n ∷ []) else listed (lists vs) f)
 number_added left g w vs b v n is below new f =
     let shown : view left ≡ math.app g (views w.items) = ap view is ∙ view-Fun g w in

@@ -1,5 +1,6 @@
 -- The deepest level of a walk: an argument is taken there, or the level is left.
-use Rattle.std.proofs.Common.{◌≡◌, ℕ, zero, suc, ◌+◌, ◌-◌, ◌<◌, ◌≤◌, ◌==◌, Bool, true, false, List, [], ◌∷◌, ◌++◌, length, length-set, take, get_or, set, refl, sym, ap, ap₂, ◌∙◌, subst, append_assoc, eqb-true, arith}
+use Rattle.std.proofs.Common.{◌≡◌, ℕ, zero, suc, ◌+◌, ◌-◌, ◌<◌, ◌≤◌, ◌==◌, Bool, true, false, List, [], ◌∷◌, ◌++◌, length, length-set, take, get_or, set, refl, sym, ap, ap₂, ◌∙◌}
+use Rattle.std.proofs.Common.{subst, append_assoc, eqb-true, arith}
 use Rattle.std.specs.Borrow.{Bor}
 use Rattle.std.proofs.lemmas.Bool.{false≢true}
 use Rattle.std.proofs.lemmas.List.{take_more, take_more_set, map-append, length-map}
@@ -32,7 +33,8 @@ last_split xs k d e = sym (take-length xs) ∙ ap (λ n. take n xs) (sym e) ∙ 
 last_set : {A : Type 0} (xs : List A) (k : ℕ) (y : A) → k + 1 ≡ length xs → set xs k y ≡ take k xs ++ y ∷ []
 last_set xs k y e = sym (take-length (set xs k y)) ∙ ap (λ n. take n (set xs k y)) (simp length-set (sym e)) ∙ take_more_set xs k y (omega (arith, e))
 
-module _ (path : List ℕ) (later : List (Bor (List Term))) (held : AreLevels path (levels_of later)) (k : ℕ) (last : k + 1 ≡ length later) (args : Bor (List Term)) (there : args ≡ get_or later k args) where
+module _ (path : List ℕ) (later : List (Bor (List Term))) (held : AreLevels path (levels_of later)) (k : ℕ) (last : k + 1 ≡ length later) (args : Bor (List Term))
+    (there : args ≡ get_or later k args) where
   abbrev n : ℕ
   n = get_or path k 0
 
@@ -55,7 +57,8 @@ module _ (path : List ℕ) (later : List (Bor (List Term))) (held : AreLevels pa
   later_is = ap levels_of (last_split later k args last ∙ ap (λ b. take k later ++ b ∷ []) (sym there)) ∙ with_last (take k later) args
 
   above : AreLevels (take k path) (levels_of (take k later)) × (n + size_all (views args.now) ≤ 10000)
-  above = level_less (take k path) (levels_of (take k later)) n (views args.now) (subst (λ ps. AreLevels ps (levels_of (take k later) ++ views args.now ∷ [])) path_is (subst (AreLevels path) later_is held))
+  above = level_less (take k path) (levels_of (take k later)) n (views args.now) (subst (λ ps. AreLevels ps (levels_of (take k later) ++ views args.now ∷ [])) path_is
+      (subst (AreLevels path) later_is held))
 
   abbrev those_above : List Part
   those_above = later_parts [] (take k path) (levels_of (take k later))

@@ -14,7 +14,8 @@ module _ {X Y : Type 0} (f : X → List Y) where
   later_of : (z : X) (xs : List X) (y : Y) → (x : X) × IsAmong x xs × IsAmong y (f x) → (x : X) × IsAmong x (z ∷ xs) × IsAmong y (f x)
   later_of z xs y (x, h, k) = (x, inr h, k)
 
-  first_of : (z : X) (xs : List X) (y : Y) → (IsAmong y (flat_map f xs) → (x : X) × IsAmong x xs × IsAmong y (f x)) → IsAmong y (f z) ⊎ IsAmong y (flat_map f xs) → (x : X) × IsAmong x (z ∷ xs) × IsAmong y (f x)
+  first_of : (z : X) (xs : List X) (y : Y) → (IsAmong y (flat_map f xs) → (x : X) × IsAmong x xs × IsAmong y (f x)) → IsAmong y (f z) ⊎ IsAmong y (flat_map f xs)
+      → (x : X) × IsAmong x (z ∷ xs) × IsAmong y (f x)
   first_of z xs y rest (inl k) = (z, inl refl, k)
   first_of z xs y rest (inr h) = later_of z xs y (rest h)
 

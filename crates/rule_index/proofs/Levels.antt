@@ -1,5 +1,6 @@
 -- The parts of a term level by level are those position by position.
-use Rattle.std.proofs.Common.{◌≡◌, ℕ, suc, ◌+◌, ◌≤◌, List, [], ◌∷◌, ◌++◌, map, flat_map, length, Option, option_to_list, Some, None, refl, sym, ap, ap₂, ◌∙◌, subst, subst₂, append_assoc, append-nil, arith}
+use Rattle.std.proofs.Common.{◌≡◌, ℕ, suc, ◌+◌, ◌≤◌, List, [], ◌∷◌, ◌++◌, map, flat_map, length, Option, option_to_list, Some, None, refl, sym, ap, ap₂, ◌∙◌, subst, subst₂}
+use Rattle.std.proofs.Common.{append_assoc, append-nil, arith}
 use Rattle.std.specs.Borrow.{Bor}
 use Rattle.std.proofs.lemmas.List.Concat.{flat_map-append}
 use Rattle.rewriting.specs.Prelude.{Term, Terms, var, app, nil, cons, size_all, Position, argument, subterm, positions, positions_from}
@@ -99,11 +100,13 @@ begins t path tss e h =
 pub entered_levels : (path new : List ℕ) (tss news : List Terms) (ts : Terms) → AreLevels path tss → size_all ts ≤ 10000 → new ≡ path ++ 0 ∷ [] → news ≡ tss ++ ts ∷ [] → AreLevels new news
 entered_levels path new tss news ts h few e k = subst₂ AreLevels (sym e) (sym k) (level_more path tss 0 ts h (omega (arith, few)))
 
-pub entered_parts : (path new : List ℕ) (tss news : List Terms) (ts : Terms) → AreLevels path tss → new ≡ path ++ 0 ∷ [] → news ≡ tss ++ ts ∷ [] → parts_among path 1 ts ++ later_parts [] path tss ≡ later_parts [] new news
+pub entered_parts : (path new : List ℕ) (tss news : List Terms) (ts : Terms) → AreLevels path tss → new ≡ path ++ 0 ∷ [] → news ≡ tss ++ ts ∷ []
+    → parts_among path 1 ts ++ later_parts [] path tss ≡ later_parts [] new news
 entered_parts path new tss news ts h e k = sym (ap₂ (later_parts []) e k ∙ deepest [] path tss 0 ts h)
 
 -- and then stands before its arguments
-pub stands : (before : List Part) (o : Option (Bor program.Term)) (p : Position) (later : List Part) (args : List program.Term) → Leads before o p later → AreArgumentsOf o args → IsNext before o p (parts_among p 1 (views args) ++ later)
+pub stands : (before : List Part) (o : Option (Bor program.Term)) (p : Position) (later : List Part) (args : List program.Term) → Leads before o p later → AreArgumentsOf o args
+    → IsNext before o p (parts_among p 1 (views args) ++ later)
 stands before None p later args (e, h) none = (e, ap₂ (λ (us : List program.Term) rest. parts_among p 1 (views us) ++ rest) none h)
 stands before (Some t) p later args (small, e) are =
     e ∙ ap (λ z. z ++ later) (first_part p (view t.now)) ∙ ap (λ ts. part p (view t.now) ∷ (parts_among p 1 ts ++ later)) (sym are)

@@ -16,7 +16,8 @@ module _ (sys : System) (rs : List Rule) (same : map rule_view rs ≡ sys.rules)
       go : (i < length rs) ⊎ (length rs ≤ i) → i < length rs
       go (inl l) = l
       go (inr m) =
-          absurd (let none : rule_at sys (suc i) ≡ None = sym (ap (λ z. slice_get z i) same) ∙ slice_get-map rule_view rs i ∙ ap (option_map rule_view) (slice_get_past rs i m) in false≢true (sym (ap is_some none) ∙ h))
+          absurd (let none : rule_at sys (suc i) ≡ None = sym (ap (λ z. slice_get z i) same) ∙ slice_get-map rule_view rs i ∙ ap (option_map rule_view) (slice_get_past rs i m) in
+          false≢true (sym (ap is_some none) ∙ h))
 
   pub number_low : (n : ℕ) → IsSome (rule_at sys n) → (1 ≤ n) × (n - 1 < length rs)
   number_low zero h = absurd (false≢true h)

@@ -51,7 +51,8 @@ mutual
   from_sorted : (k : ℕ) (ts : Terms) → IsSorted IsBefore (positions_from k ts)
   from_sorted k nil = tt
   from_sorted k (cons t ts) =
-      sorted_append IsBefore (map (λ q. k ∷ q) (positions t)) (positions_from (suc k) ts) (sorted_map IsBefore IsBefore (λ q. k ∷ q) (positions t) (λ p q h. inr (refl, h)) (positions_sorted t)) (from_sorted (suc k) ts) (first_earlier k t ts)
+      sorted_append IsBefore (map (λ q. k ∷ q) (positions t)) (positions_from (suc k) ts) (sorted_map IsBefore IsBefore (λ q. k ∷ q) (positions t) (λ p q h. inr (refl, h))
+      (positions_sorted t)) (from_sorted (suc k) ts) (first_earlier k t ts)
 
 abbrev pub ComesBefore : Part → Part → Type 0
 ComesBefore a b = IsBefore a.position b.position

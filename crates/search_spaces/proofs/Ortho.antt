@@ -52,7 +52,8 @@ module _ (names : NameTable) (sys : System) where
   pub ortho_finds_once : FindsOnce (ortho_space names sys)
   ortho_finds_once c d n m f g =
       let same = open_once g.overlaps f.overlaps g.is_open f.is_open in
-      let entries = firsts_once (IsOrthoEntry sys) (entry_once ortho sys ortho_items) f.overlaps f.entries g.entries n m f.firsts (subst (λ z. AreFirsts (IsOrthoEntry sys) z g.entries m) same g.firsts) in
+      let entries = firsts_once (IsOrthoEntry sys) (entry_once ortho sys ortho_items) f.overlaps f.entries g.entries n m f.firsts
+      (subst (λ z. AreFirsts (IsOrthoEntry sys) z g.entries m) same g.firsts) in
       (entries.0, f.certificate ∙ ap ortho_certificate entries.1 ∙ sym g.certificate)
 
   pub ortho_finds_within : (c : Certificate) (n m : ℕ) → IsOrthoFound names sys c n → IsOrthoCost sys m → n ≤ m
@@ -72,16 +73,19 @@ module _ (names : NameTable) (sys : System) where
 
     pub ends_at_row : (left n : ℕ) → EndsAtRow (IsOrthoEntry sys) (overlap_cost ortho_items) os n → MayEndExactly (ortho_space names sys) left n nothing
     ends_at_row left n h = (
-      (λ c m f. none_of_rows (IsOrthoEntry sys) (entry_once ortho sys ortho_items) os f.entries m (ends_none (IsOrthoEntry sys) (overlap_cost ortho_items) (entry_within ortho sys ortho_items) os n h) (firsts_of c m f)),
+      (λ c m f. none_of_rows (IsOrthoEntry sys) (entry_once ortho sys ortho_items) os f.entries m
+          (ends_none (IsOrthoEntry sys) (overlap_cost ortho_items) (entry_within ortho sys ortho_items) os n h) (firsts_of c m f)),
       (cost_of (overlap_cost ortho_items) os, inl (os, is_open, refl), ends_within (IsOrthoEntry sys) (overlap_cost ortho_items) (entry_within ortho sys ortho_items) os n h),
     )
 
-    pub ends_found : (left n : ℕ) (es : List PairEntry) → AreFirsts (IsOrthoEntry sys) os es n → HasText names (ortho_certificate es) → MayEndExactly (ortho_space names sys) left n (found (ortho_certificate es))
+    pub ends_found : (left n : ℕ) (es : List PairEntry) → AreFirsts (IsOrthoEntry sys) os es n → HasText names (ortho_certificate es)
+        → MayEndExactly (ortho_space names sys) left n (found (ortho_certificate es))
     ends_found left n es h t = record { overlaps = os; is_open = is_open; entries = es; firsts = h; certificate = refl; text = t }
 
     pub ends_too_long : (left n : ℕ) (es : List PairEntry) → AreFirsts (IsOrthoEntry sys) os es n → (HasText names (ortho_certificate es) → ⊥) → MayEndExactly (ortho_space names sys) left n nothing
     ends_too_long left n es h long = (
-      (λ c m f. long (subst (HasText names) (f.certificate ∙ ap ortho_certificate (sym (firsts_once (IsOrthoEntry sys) (entry_once ortho sys ortho_items) os es f.entries n m h (firsts_of c m f)).1)) f.text)),
+      (λ c m f. long (subst (HasText names) (f.certificate
+          ∙ ap ortho_certificate (sym (firsts_once (IsOrthoEntry sys) (entry_once ortho sys ortho_items) os es f.entries n m h (firsts_of c m f)).1)) f.text)),
       (cost_of (overlap_cost ortho_items) os, inl (os, is_open, refl), firsts_within (IsOrthoEntry sys) (overlap_cost ortho_items) (entry_within ortho sys ortho_items) os es n h),
     )
 

@@ -112,7 +112,8 @@ module _ (ar : Signature) (S : Relation Term) (r : Rule) (k : ℕ) (c : Conditio
           record {
             by = b.by;
             values = b.values;
-            holds = Meets-append S b.by front (map (left_under (replacing x c.left)) behind) (meets_front S b.by front (c ∷ behind) met) (meets_inlined b.by h behind (meets_behind S b.by front (c ∷ behind) met).1);
+            holds = Meets-append S b.by front (map (left_under (replacing x c.left)) behind) (meets_front S b.by front (c ∷ behind) met)
+                (meets_inlined b.by h behind (meets_behind S b.by front (c ∷ behind) met).1);
             left = b.left;
             right = refl;
           },

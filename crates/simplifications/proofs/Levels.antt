@@ -30,7 +30,8 @@ module _ (sys : System) (n : ℕ) (r : Rule) (is : slice_get sys.rules n ≡ Som
       where
         go : (c.rule ≡ r) ⊎ IsAmong c.rule (with_in_place sys n []).rules → Star (level (with_in_place sys n []) (suc m)) u v
         go (inl e) = absurd (no_feasible sys r.conditions m c.by c.values (subst (λ q. Meets (Star (level sys m)) c.by q.conditions) e c.holds) never)
-        go (inr a) = one_step (with_in_place sys n []) m c.rule u v (rule_of_among (with_in_place sys n []) c.rule a) (by_its_rule sys (Star (level sys m)) (Star (level (with_in_place sys n []) m)) f u v c)
+        go (inr a) = one_step (with_in_place sys n []) m c.rule u v (rule_of_among (with_in_place sys n []) c.rule a)
+            (by_its_rule sys (Star (level sys m)) (Star (level (with_in_place sys n []) m)) f u v c)
 
     pub dropped_from : Carries (with_in_place sys n []) sys
     dropped_from m f u v c = go (kept_or_new sys.rules [] n r c.rule is (among_of_rule (with_in_place sys n []) c.rule c.is_rule))
@@ -99,7 +100,8 @@ step_keeps sys next (inlined (suc n) (suc k)) well h =
     (inlined_from sys n h.rule h.is_rule k h.condition h.name h.is_condition h.names (condition_over sys.arities h.rule (well (suc n) h.rule h.is_rule) k h.condition h.name h.is_condition)))
 
 -- rules over the symbols stay rules over them
-pub step_over : (sys : System) (n : ℕ) (r : Rule) (qs : List Rule) → IsWellFormed sys → slice_get sys.rules n ≡ Some r → ((q : Rule) → IsAmong q qs → IsRuleOver sys.arities q) → IsWellFormed (with_in_place sys n qs)
+pub step_over : (sys : System) (n : ℕ) (r : Rule) (qs : List Rule) → IsWellFormed sys → slice_get sys.rules n ≡ Some r → ((q : Rule) → IsAmong q qs → IsRuleOver sys.arities q)
+    → IsWellFormed (with_in_place sys n qs)
 step_over sys n r qs well is new i q e = go (kept_or_new sys.rules qs n r q is (among_of_rule (with_in_place sys n qs) q (i, e)))
   where
     go : IsAmong q sys.rules ⊎ IsAmong q qs → IsRuleOver sys.arities q

@@ -9,13 +9,15 @@ use Rattle.certificates.specs.Prelude.{not_inline, inlined_large, bad_evidence}
 use Rattle.judged_evidence.specs.Evidence.{IsInfeasibilityJudged}
 use Rattle.judged_evidence.proofs.Judged.{infeasibility_total, evidence_once}
 use Rattle.simplifications.specs.Inlining.{Names, inlined_rule, numbered}
-use Rattle.simplifications.specs.Simplifying.{with_in_place, Simplifies, IsRefused, no_rule_to_drop, evidence_fails, no_rule_to_change, no_condition, names_nothing, result_large, AllSimplify, FailsFrom}
+use Rattle.simplifications.specs.Simplifying.{with_in_place, Simplifies, IsRefused, no_rule_to_drop, evidence_fails, no_rule_to_change, no_condition, names_nothing, result_large}
+use Rattle.simplifications.specs.Simplifying.{AllSimplify, FailsFrom}
 use Rattle.simplifications.specs.Laws.{SimplificationsHaveOneAnswer}
 
 same_name : (r : Rule) (k : ℕ) (c : Condition) (x y : ℕ) → Names r k c x → Names r k c y → x ≡ y
 same_name r k c x y h g = let e = h.variable in let f = g.variable in let s : var x ≡ var y = sym e ∙ f in cc
 
-evidence_apart : (sys : System) (q r : Rule) (e : InfeasibilityEvidence) (why : EvidenceReason) → q ≡ r → IsInfeasibilityJudged sys q.conditions e None → IsInfeasibilityJudged sys r.conditions e (Some why) → ⊥
+evidence_apart : (sys : System) (q r : Rule) (e : InfeasibilityEvidence) (why : EvidenceReason) → q ≡ r → IsInfeasibilityJudged sys q.conditions e None
+    → IsInfeasibilityJudged sys r.conditions e (Some why) → ⊥
 evidence_apart sys q r e why same h g =
     let one : None ≡ Some why = evidence_once sys r.conditions e None (Some why) (subst (λ z. IsInfeasibilityJudged sys z.conditions e None) same h) g in cc
 
@@ -32,7 +34,8 @@ module _ (sys : System) where
       subst (λ z. Each Fits (terms_of_rule (inlined_rule z k d.left y))) e
       (subst (λ z. Each Fits (terms_of_rule (inlined_rule q k z.left y))) f (subst (λ z. Each Fits (terms_of_rule (inlined_rule q k c.left z))) g h))
 
-  result_moved : (n : ℕ) (q r : Rule) (k : ℕ) (c d : Condition) (x y : ℕ) → q ≡ r → c ≡ d → x ≡ y → with_in_place sys n (numbered (inlined_rule q k c.left x) ∷ []) ≡ with_in_place sys n (numbered (inlined_rule r k d.left y) ∷ [])
+  result_moved : (n : ℕ) (q r : Rule) (k : ℕ) (c d : Condition) (x y : ℕ) → q ≡ r → c ≡ d → x ≡ y
+      → with_in_place sys n (numbered (inlined_rule q k c.left x) ∷ []) ≡ with_in_place sys n (numbered (inlined_rule r k d.left y) ∷ [])
   result_moved n q r k c d x y e f g =
       ap (λ z. with_in_place sys n (numbered (inlined_rule q k c.left z) ∷ [])) g
       ∙ ap (λ z. with_in_place sys n (numbered (inlined_rule q k z.left y) ∷ [])) f
@@ -156,13 +159,15 @@ module _ (sys : System) where
       go (None, j) = inl (with_in_place sys n [], record { rule = r; is_rule = h; never_met = j; result = refl })
       go (Some why, j) = inr (bad_evidence why, evidence_fails (suc n) e r why h j)
 
-  large_or_not : (n k : ℕ) (r : Rule) (c : Condition) (x : ℕ) → slice_get sys.rules n ≡ Some r → slice_get r.conditions k ≡ Some c → Names r k c x → Dec (Each Fits (terms_of_rule (inlined_rule r k c.left x)))
+  large_or_not : (n k : ℕ) (r : Rule) (c : Condition) (x : ℕ) → slice_get sys.rules n ≡ Some r → slice_get r.conditions k ≡ Some c → Names r k c x
+      → Dec (Each Fits (terms_of_rule (inlined_rule r k c.left x)))
       → Answer (inlined (suc n) (suc k))
   large_or_not n k r c x is at names (yes f) =
       inl (with_in_place sys n (numbered (inlined_rule r k c.left x) ∷ []), record { rule = r; is_rule = is; condition = c; is_condition = at; name = x; names = names; fits = f; result = refl })
   large_or_not n k r c x is at names (no f) = inr (inlined_large, result_large (suc n) k r c x is at names f)
 
-  name_total : (n k : ℕ) (r : Rule) (c : Condition) → slice_get sys.rules n ≡ Some r → slice_get r.conditions k ≡ Some c → ((x : ℕ) × Names r k c x) ⊎ ((x : ℕ) → Names r k c x → ⊥) → Answer (inlined (suc n) (suc k))
+  name_total : (n k : ℕ) (r : Rule) (c : Condition) → slice_get sys.rules n ≡ Some r → slice_get r.conditions k ≡ Some c → ((x : ℕ) × Names r k c x) ⊎ ((x : ℕ) → Names r k c x → ⊥)
+      → Answer (inlined (suc n) (suc k))
   name_total n k r c is at (inl (x, names)) = large_or_not n k r c x is at names (all_fit (terms_of_rule (inlined_rule r k c.left x)))
   name_total n k r c is at (inr none) = inr (not_inline, names_nothing (suc n) k r c is at none)
 

@@ -12,7 +12,8 @@ use Rattle.simplifications.specs.Inlining.{replacing, left_under, inlined_rule, 
 use Rattle.simplifications.specs.Simplifying.{with_in_place, Simplifies}
 use Rattle.simplifications.specs.Laws.{parts, SimplificationsMakeSystems, SimplificationsShrink}
 use Rattle.simplifications.proofs.Anew.{numbered_counts, fits_renamed}
-use Rattle.simplifications.proofs.Parts.{each_append, each_front, each_behind, each_left_under, each_rule_under, terms_under, all_small, count_sides, length_replaced, length_without, count_replaced, rules_replaced}
+use Rattle.simplifications.proofs.Parts.{each_append, each_front, each_behind, each_left_under, each_rule_under, terms_under, all_small, count_sides, length_replaced}
+use Rattle.simplifications.proofs.Parts.{length_without, count_replaced, rules_replaced}
 use Rattle.simplifications.proofs.Rules.{split_at}
 
 module _ (ar : Signature) (r : Rule) (h : IsRuleOver ar r) (k : ℕ) (c : Condition) (x : ℕ) (at : slice_get r.conditions k ≡ Some c) where
@@ -81,7 +82,8 @@ fewer_conditions r k c x at =
     omega (arith, e, f)
 
 -- rules in place of one, with no more conditions
-pub system_with : (sys : System) (n : ℕ) (r : Rule) (qs : List Rule) → IsSystem sys → slice_get sys.rules n ≡ Some r → AreRules sys.arities qs → length qs ≤ 1 → condition_count qs ≤ length r.conditions → IsSystem (with_in_place sys n qs)
+pub system_with : (sys : System) (n : ℕ) (r : Rule) (qs : List Rule) → IsSystem sys → slice_get sys.rules n ≡ Some r → AreRules sys.arities qs → length qs ≤ 1
+    → condition_count qs ≤ length r.conditions → IsSystem (with_in_place sys n qs)
 system_with sys n r qs h is rules one few =
     let a = length_replaced sys.rules qs n r is in
     let b = count_replaced sys.rules qs n r is in

@@ -1,5 +1,6 @@
 -- The parts of a rule with a condition inlined_rule.
-use Rattle.std.proofs.Common.{◌≡◌, ℕ, suc, ◌+◌, ◌-◌, ◌<◌, ◌≤◌, ◌^◌, Bool, true, false, cond, refl, sym, ap, ◌∙◌, subst, List, [], ◌∷◌, ◌++◌, length, map, take, drop, get_or, slice_get, Some, Err, nat_eq, eqb-true, eq-eqb, nat_cmp, unwrap_or, if◌then◌else◌, arith}
+use Rattle.std.proofs.Common.{◌≡◌, ℕ, suc, ◌+◌, ◌-◌, ◌<◌, ◌≤◌, ◌^◌, Bool, true, false, cond, refl, sym, ap, ◌∙◌, subst, List, [], ◌∷◌, ◌++◌, length, map, take, drop, get_or}
+use Rattle.std.proofs.Common.{slice_get, Some, Err, nat_eq, eqb-true, eq-eqb, nat_cmp, unwrap_or, if◌then◌else◌, arith}
 use Rattle.std.specs.Ordering.{eq_by_cmp}
 use Rattle.std.specs.Cmp.{nat_cmp_total}
 use Rattle.std.specs.FinMap.{get, insert, empty, get-insert, get-empty}
@@ -54,7 +55,8 @@ module _ (r : Rule) (k x : ℕ) (c : Cond) (inside : k < length r.conds.items) (
 
   same_lefts : (ds : List math.Condition) → map (left_under (values_of b)) ds ≡ map (left_under (replacing x (view c.left))) ds
   same_lefts [] = refl
-  same_lefts (d ∷ ds) = ap (λ z. (record { left = z; right = d.right }) ∷ map (left_under (values_of b)) ds) (same_value d.left) ∙ ap (λ z. left_under (replacing x (view c.left)) d ∷ z) (same_lefts ds)
+  same_lefts (d ∷ ds) = ap (λ z. (record { left = z; right = d.right }) ∷ map (left_under (values_of b)) ds) (same_value d.left)
+      ∙ ap (λ z. left_under (replacing x (view c.left)) d ∷ z) (same_lefts ds)
 
   abbrev rest : List math.Condition
   rest = map condition_view (take (length r.conds.items - (k + 1)) (drop (k + 1) r.conds.items))
@@ -105,7 +107,8 @@ module _ (r : Rule) (k x : ℕ) (c : Cond) (inside : k < length r.conds.items) (
         ap (λ z. z ++ map condition_view two) (front_view condition_view r.conds.items k) ∙ ap (λ z. take k cs ++ z) (behind_are ∙ lefts)
 
     pub made_is : rule_of (view r.left) (view right) (front ++ map condition_view two) ≡ made
-    made_is = ap (λ z. rule_of (view r.left) z (front ++ map condition_view two)) (answer.0 ∙ same_value (view r.right)) ∙ ap (λ z. rule_of (view r.left) (apply (replacing x (view c.left)) (view r.right)) z) conditions_are
+    made_is = ap (λ z. rule_of (view r.left) z (front ++ map condition_view two)) (answer.0 ∙ same_value (view r.right))
+        ∙ ap (λ z. rule_of (view r.left) (apply (replacing x (view c.left)) (view r.right)) z) conditions_are
 
     made_fits : Each Fits (terms_of_rule made)
     made_fits =
@@ -125,7 +128,9 @@ module _ (r : Rule) (k x : ℕ) (c : Cond) (inside : k < length r.conds.items) (
         subst (λ z. length (rule_variables z) < 2 ^ 31) (sym made_is) (few_variables_of made (omega (arith, shorter, same, few)) made_fits)
 
     pub made_answer : (q : Rule) → rule_view q ≡ numbered (rule_of (view r.left) (view right) (front ++ map condition_view two)) → q.vars ≡ length (rule_variables (rule_view q))
-        → (d : math.Condition) → slice_get cs k ≡ Some d → (rule_view q ≡ numbered (inlined_rule (rule_view r) k d.left x)) × (q.vars ≡ length (rule_variables (rule_view q))) × Each Fits (terms_of_rule (inlined_rule (rule_view r) k d.left x))
+        → (d : math.Condition) → slice_get cs k ≡ Some d → (rule_view q ≡ numbered (inlined_rule (rule_view r) k d.left x)) × (q.vars ≡ length (rule_variables (rule_view q)))
+        × Each Fits (terms_of_rule (inlined_rule (rule_view r) k d.left x))
     made_answer q is counted =
-        that_one (λ d. (rule_view q ≡ numbered (inlined_rule (rule_view r) k d.left x)) × (q.vars ≡ length (rule_variables (rule_view q))) × Each Fits (terms_of_rule (inlined_rule (rule_view r) k d.left x)))
+        that_one (λ d. (rule_view q ≡ numbered (inlined_rule (rule_view r) k d.left x)) × (q.vars ≡ length (rule_variables (rule_view q)))
+        × Each Fits (terms_of_rule (inlined_rule (rule_view r) k d.left x)))
         (is ∙ ap numbered made_is, counted, made_fits)

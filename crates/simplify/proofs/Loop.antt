@@ -30,7 +30,8 @@ module _ (sys here : System) (ss : List Simplification) (i : ℕ) (s : Simplific
   next_step next h =
       record {
         good = λ last g. o.good last (subst (λ z. AllSimplify here z last) (sym split) (next, h, g));
-        bad = λ n why g. o.bad n why (subst (λ z. FailsFrom (i + 1) here z n why) (sym split) (inr (next, h, subst (λ k. FailsFrom k next (drop (i + 1) ss) n why) (let e : i + 1 + 1 ≡ suc (i + 1) = omega arith in e) g)));
+        bad = λ n why g. o.bad n why (subst (λ z. FailsFrom (i + 1) here z n why) (sym split)
+            (inr (next, h, subst (λ k. FailsFrom k next (drop (i + 1) ss) n why) (let e : i + 1 + 1 ≡ suc (i + 1) = omega arith in e) g)));
         falls = let less = shrink here next s h in let so_far = o.falls in omega (arith, less, so_far);
       }
 

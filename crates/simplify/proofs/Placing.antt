@@ -1,5 +1,6 @@
 -- Variables by their places in a row that grows.
-use Rattle.std.proofs.Common.{◌≡◌, ℕ, zero, suc, ◌<◌, ◌⊎◌, inl, inr, Bool, true, false, refl, sym, ap, ap₂, ◌∙◌, subst, List, [], ◌∷◌, ◌++◌, length, get_or, nat_eq, eqb-true, eq-eqb, append-nil, append_assoc, arith}
+use Rattle.std.proofs.Common.{◌≡◌, ℕ, zero, suc, ◌<◌, ◌⊎◌, inl, inr, Bool, true, false, refl, sym, ap, ap₂, ◌∙◌, subst, List, [], ◌∷◌, ◌++◌, length, get_or, nat_eq, eqb-true}
+use Rattle.std.proofs.Common.{eq-eqb, append-nil, append_assoc, arith}
 use Rattle.std.proofs.lemmas.List.{length-map}
 use Rattle.rewriting.specs.Prelude.{IsAmong, AreDistinct, IsFront, conditions_under, terms_of_rule, rule_variables, index_in}
 use Rattle.rewriting.proofs.Common.{Term, Terms, var, app, nil, cons, apply, apply_all, compose, occurs, with_variables, with_variables_of, variables_of, Condition, Rule, sides}

@@ -73,7 +73,8 @@ module _ (sys : math.System) (sound : IsSystem sys) (rs : List Rule) (are : map 
         (record { rule = rule_view r; is_rule = here; never_met = subst (λ z. IsInfeasibilityJudged sys (map condition_view z) ev None) same j; result = refl }) in
         (record { inside = within; system = step_makes sys (with_in_place sys i []) (dropped number ev) sound good; counted = tt }, good)
 
-    pub bad_drop : (ev : InfeasibilityEvidence) (why : EvidenceReason) (cs : List Cond) → cs ≡ r.conds.items → IsInfeasibilityJudged sys (map condition_view cs) ev (Some why) → IsRefused sys (dropped number ev) (bad_evidence why)
+    pub bad_drop : (ev : InfeasibilityEvidence) (why : EvidenceReason) (cs : List Cond) → cs ≡ r.conds.items → IsInfeasibilityJudged sys (map condition_view cs) ev (Some why)
+        → IsRefused sys (dropped number ev) (bad_evidence why)
     bad_drop ev why cs same j = evidence_fails number ev (rule_view r) why at_number (subst (λ z. IsInfeasibilityJudged sys (map condition_view z) ev (Some why)) same j)
 
     none_there : (cond : ℕ) → (cond ≡ 0) ⊎ (length r.conds.items < cond) → hypothesis_at (map condition_view r.conds.items) cond ≡ None
@@ -102,13 +103,15 @@ module _ (sys : math.System) (sound : IsSystem sys) (rs : List Rule) (are : map 
           subst (λ z. IsRefused sys (inlined number z) not_inline) places (names_nothing number k (rule_view r) c.0 at_number c.1 (λ x n. none c.0 x c.1 n))
 
       module _ (x : ℕ) (names : (c : math.Condition) → slice_get (rule_view r).conditions k ≡ Some c → Names (rule_view r) k c x) where
-        pub too_large_here : ((c : math.Condition) → slice_get (rule_view r).conditions k ≡ Some c → Each Fits (terms_of_rule (inlined_rule (rule_view r) k c.left x)) → ⊥) → IsRefused sys (inlined number cond) inlined_large
+        pub too_large_here : ((c : math.Condition) → slice_get (rule_view r).conditions k ≡ Some c → Each Fits (terms_of_rule (inlined_rule (rule_view r) k c.left x)) → ⊥)
+            → IsRefused sys (inlined number cond) inlined_large
         too_large_here large =
             let c = condition_there in
             subst (λ z. IsRefused sys (inlined number z) inlined_large) places (result_large number k (rule_view r) c.0 x at_number c.1 (names c.0 c.1) (large c.0 c.1))
 
         pub good_inline : (new : Rule)
-            → ((c : math.Condition) → slice_get (rule_view r).conditions k ≡ Some c → (rule_view new ≡ numbered (inlined_rule (rule_view r) k c.left x)) × (new.vars ≡ length (rule_variables (rule_view new))) × Each Fits (terms_of_rule (inlined_rule (rule_view r) k c.left x)))
+            → ((c : math.Condition) → slice_get (rule_view r).conditions k ≡ Some c → (rule_view new ≡ numbered (inlined_rule (rule_view r) k c.left x))
+            × (new.vars ≡ length (rule_variables (rule_view new))) × Each Fits (terms_of_rule (inlined_rule (rule_view r) k c.left x)))
             → IsChangeOf sys (record { place = i; rule = Some new }) × Simplifies sys (inlined number cond) (with_in_place sys i (rule_view new ∷ []))
         good_inline new answer =
             let c = condition_there in

@@ -50,7 +50,8 @@ counted_append [] qs h k = k
 counted_append (p ∷ ps) qs (h, hs) k = (h, counted_append ps qs hs k)
 
 -- copies tell the same numbers
-pub counted_copies : (old new copied : List Rule) → AreCounted old → AreCounted copied → map rule_view new ≡ map rule_view old ++ map rule_view copied → counts new ≡ counts old ++ counts copied → AreCounted new
+pub counted_copies : (old new copied : List Rule) → AreCounted old → AreCounted copied → map rule_view new ≡ map rule_view old ++ map rule_view copied
+    → counts new ≡ counts old ++ counts copied → AreCounted new
 counted_copies old new copied h k e f =
     let both = counted_append old copied h k in
     counted_of new (f ∙ sym (map-append (λ (r : Rule). r.vars) old copied) ∙ counts_of (old ++ copied) both ∙ ap variable_counts (map-append rule_view old copied ∙ sym e))

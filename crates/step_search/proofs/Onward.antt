@@ -52,7 +52,8 @@ module _ (sys here : System) (steps : List Simp) (start now end : Counts) (g : G
         made = g.leads;
         within = paid_within sys here (map simp_view steps) g.tried g.paid g.leads;
         standard = standard_at_end sys here (map simp_view steps) g.tried g.paid g.leads none;
-        spent = spends_same start end (g.paid + cost_of one (tries here)) (g.paid + all_tries here) (ap (λ z. g.paid + z) (counted here)) (spends_both start now end g.paid (cost_of one (tries here)) g.spent paid);
+        spent = spends_same start end (g.paid + cost_of one (tries here)) (g.paid + all_tries here) (ap (λ z. g.paid + z) (counted here))
+            (spends_both start now end g.paid (cost_of one (tries here)) g.spent paid);
       }
 
   pub runs_out : WalkAnswers here (tries here) now end (Ok Spent) → RunsOut sys start end

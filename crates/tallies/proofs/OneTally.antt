@@ -10,7 +10,9 @@ use Rattle.certificates.specs.Prelude.{pair_large, pair_missing}
 use Rattle.valid_certificates.specs.Kinds.{Kind, ortho, quasi}
 use Rattle.valid_certificates.specs.PairEvidence.{IsPairJudged, IsAllowed}
 use Rattle.valid_certificates.specs.Entries.{AreNotSettled, DoNotSettle, pair_is_large, pairs_are_many, entry_fails}
-use Rattle.valid_certificates.specs.Confluence.{IsInOrthoClasses, IsBlameOf, IsOrthoRejected, not_left_linear, not_type3, not_oriented, not_right_stable, ortho_pairs_fail, AreRightSidesIrreducible, IsFirstReducible, IsQuasiRejected, not_deterministic, side_is_reducible, measure_is_bad, unraveling_is_large, quasi_pairs_fail}
+use Rattle.valid_certificates.specs.Confluence.{IsInOrthoClasses, IsBlameOf, IsOrthoRejected, not_left_linear, not_type3, not_oriented, not_right_stable, ortho_pairs_fail}
+use Rattle.valid_certificates.specs.Confluence.{AreRightSidesIrreducible, IsFirstReducible, IsQuasiRejected, not_deterministic, side_is_reducible, measure_is_bad}
+use Rattle.valid_certificates.specs.Confluence.{unraveling_is_large, quasi_pairs_fail}
 use Rattle.valid_certificates.specs.Certificates.{IsMeasureJudged}
 use Rattle.valid_certificates.proofs.OneBlame.{blame_excludes}
 use Rattle.valid_certificates.proofs.OneCertificate.{certificate_answer}

@@ -7,7 +7,9 @@ use Rattle.certificates.specs.Prelude.{PairEntry, ortho_certificate, quasi_certi
 use Rattle.interpretations.specs.Judgement.{Judgement}
 use Rattle.valid_certificates.specs.Kinds.{Kind, ortho, quasi}
 use Rattle.valid_certificates.specs.Entries.{DoSettle, DoNotSettle, pair_is_large, pairs_are_many, entry_fails}
-use Rattle.valid_certificates.specs.Confluence.{IsInOrthoClasses, IsValidOrtho, IsOrthoRejected, not_left_linear, not_type3, not_oriented, not_right_stable, ortho_pairs_fail, AreRightSidesIrreducible, IsValidQuasi, IsQuasiRejected, not_deterministic, side_is_reducible, measure_is_bad, unraveling_is_large, quasi_pairs_fail}
+use Rattle.valid_certificates.specs.Confluence.{IsInOrthoClasses, IsValidOrtho, IsOrthoRejected, not_left_linear, not_type3, not_oriented, not_right_stable, ortho_pairs_fail}
+use Rattle.valid_certificates.specs.Confluence.{AreRightSidesIrreducible, IsValidQuasi, IsQuasiRejected, not_deterministic, side_is_reducible, measure_is_bad, unraveling_is_large}
+use Rattle.valid_certificates.specs.Confluence.{quasi_pairs_fail}
 use Rattle.valid_certificates.specs.Certificates.{IsMeasureJudged}
 use Rattle.valid_certificates.proofs.EntriesTotal.{HasAnswer}
 use Rattle.valid_certificates.proofs.Total.{every_certificate}

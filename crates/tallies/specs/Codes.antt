@@ -3,7 +3,14 @@ use Rattle.std.specs.Prelude.{ℕ, ◌≡◌, ◌⊎◌, List, [], ◌∷◌, Bo
 use mathlib.Core.Logic.{inl, inr}
 use Rattle.std.specs.Coded.{Coded, code_by, coded×, coded⊎, coded_ℕ, coded_bool, coded_list, coded_option}
 use Rattle.rewriting.specs.Prelude.{coded_system, System}
-use Rattle.certificates.specs.Reasons.{StepReason, no_such_rule, no_such_hypothesis, no_redex, wrong_count, unbound, condition_fails, too_large, BadStep, Class, left_linear, type3, extended_oriented, right_stable, deterministic, Blame, MeasureReason, wrong_shape, wrong_coefficient, overflow_at, smaller_variable, smaller_constant, not_ordered, EvidenceReason, not_allowed, not_root, sides_differ, tcap_unifies, tcap_large, conflict_number, conflict_left, conflict_unifies, conflict_large, auto_number, auto_any, auto_misses, auto_wide, auto_not_closed, auto_wide_right, auto_reaches, join_left, join_right, join_differs, unfeasible_number, unfeasible_first, unfeasible_second, first_reducible, second_reducible, unfeasible_unifies, unfeasible_large, SimplificationReason, missing_rule, missing_condition, not_inline, inlined_large, bad_evidence, Rejection, class_fails, not_irreducible, measure_fails, unraveling_large, pair_large, too_many_pairs, pair_missing, pair_extra, evidence_fails, foreign, first_bad, second_bad, same_term, not_normal, redex_extra, redex_fails, caps_unify, caps_large, simplification_fails}
+use Rattle.certificates.specs.Reasons.{StepReason, no_such_rule, no_such_hypothesis, no_redex, wrong_count, unbound, condition_fails, too_large, BadStep, Class, left_linear, type3}
+use Rattle.certificates.specs.Reasons.{extended_oriented, right_stable, deterministic, Blame, MeasureReason, wrong_shape, wrong_coefficient, overflow_at, smaller_variable}
+use Rattle.certificates.specs.Reasons.{smaller_constant, not_ordered, EvidenceReason, not_allowed, not_root, sides_differ, tcap_unifies, tcap_large, conflict_number, conflict_left}
+use Rattle.certificates.specs.Reasons.{conflict_unifies, conflict_large, auto_number, auto_any, auto_misses, auto_wide, auto_not_closed, auto_wide_right, auto_reaches, join_left}
+use Rattle.certificates.specs.Reasons.{join_right, join_differs, unfeasible_number, unfeasible_first, unfeasible_second, first_reducible, second_reducible, unfeasible_unifies}
+use Rattle.certificates.specs.Reasons.{unfeasible_large, SimplificationReason, missing_rule, missing_condition, not_inline, inlined_large, bad_evidence, Rejection, class_fails}
+use Rattle.certificates.specs.Reasons.{not_irreducible, measure_fails, unraveling_large, pair_large, too_many_pairs, pair_missing, pair_extra, evidence_fails, foreign, first_bad}
+use Rattle.certificates.specs.Reasons.{second_bad, same_term, not_normal, redex_extra, redex_fails, caps_unify, caps_large, simplification_fails}
 use Rattle.valid_certificates.specs.Kinds.{Kind, ortho, quasi}
 use Rattle.tallies.specs.Tally.{Tally, passed, failed}
 use Rattle.tallies.specs.Runs.{PairRun, OrthoRun, QuasiRun}
@@ -260,7 +267,9 @@ rejection_back (simplification_fails n why) = refl
 abbrev pub coded_rejection : Coded Rejection
 coded_rejection =
     code_by RejectionParts
-    (coded⊎ (coded× coded_ℕ (coded× coded_ℕ (coded× (coded_list coded_ℕ) coded_ℕ))) (coded⊎ coded_blame (coded⊎ coded_measure_reason (coded⊎ (coded× coded_ℕ coded_bad_step) (coded⊎ (coded× coded_ℕ (coded× coded_ℕ coded_evidence_reason)) (coded× coded_ℕ coded_simplification_reason))))))
+    (coded⊎ (coded× coded_ℕ (coded× coded_ℕ (coded× (coded_list coded_ℕ) coded_ℕ)))
+    (coded⊎ coded_blame (coded⊎ coded_measure_reason
+    (coded⊎ (coded× coded_ℕ coded_bad_step) (coded⊎ (coded× coded_ℕ (coded× coded_ℕ coded_evidence_reason)) (coded× coded_ℕ coded_simplification_reason))))))
     rejection_parts rejection_of rejection_back
 
 -- a tally, as a number or a reason

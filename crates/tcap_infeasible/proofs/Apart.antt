@@ -1,5 +1,6 @@
 -- Caps with holes from 2^31 on, and terms with numbers below for their variables.
-use Rattle.std.proofs.Common.{ℕ, suc, ◌≡◌, ◌+◌, ◌-◌, ◌*◌, ◌^◌, ◌<◌, ◌≤◌, inl, inr, Bool, true, false, nat_lt, if◌then◌else◌, List, [], ◌∷◌, length, get_or, refl, sym, ap, ap₂, ◌∙◌, subst, subst₂, arith}
+use Rattle.std.proofs.Common.{ℕ, suc, ◌≡◌, ◌+◌, ◌-◌, ◌*◌, ◌^◌, ◌<◌, ◌≤◌, inl, inr, Bool, true, false, nat_lt, if◌then◌else◌, List, [], ◌∷◌, length, get_or, refl, sym, ap, ap₂, ◌∙◌}
+use Rattle.std.proofs.Common.{subst, subst₂, arith}
 use Rattle.std.proofs.lemmas.Bool.{ltb-true, lt-ltb}
 use Rattle.rewriting.specs.Prelude.{Term, Terms, var, app, nil, cons, count, Substitution, apply, apply_all, compose, even, odd, Condition, System, left_sides, right_sides, AreDistinct}
 use Rattle.rewriting.proofs.Instances.{apply_all-apply_all, apply_all-agree}
@@ -64,7 +65,8 @@ module _ (sys : System) (row : List ℕ) where
         ap₂ cons (left_apart t d j is) (ap (λ z. apply_all (names (apart row)) (all_filled var z ds)) more ∙ lefts_apart ts ds (j + holes d) are))
 
 -- the run on the program's terms is the run that the definition asks for
-pub judged_run : (sys : System) (cs : List Condition) (lefts : Caps) (ts us : Terms) (o : Outcome) → AreCapsOf sys any (left_sides cs) lefts → ts ≡ all_filled var (2 ^ 31) lefts → (h : HaveRow (right_sides cs) us)
+pub judged_run : (sys : System) (cs : List Condition) (lefts : Caps) (ts us : Terms) (o : Outcome) → AreCapsOf sys any (left_sides cs) lefts → ts ≡ all_filled var (2 ^ 31) lefts
+    → (h : HaveRow (right_sides cs) us)
     → IsOutcome ts us o → IsCapOutcome sys cs (renamed_outcome (apart h.row) stays o)
 judged_run sys cs lefts ts us o are shown h run =
     let start : 2 ^ 31 ≡ 2 ^ 31 + 0 = omega arith in
@@ -92,7 +94,9 @@ count_caps : (sys : System) (s : Substitution) (n : ℕ) (ts : Terms) (cs : Caps
 count_caps sys s n nil cs e = subst (λ z. count (all_filled s n z) ≡ 0) (sym e) refl
 count_caps sys s n (cons t ts) cs (d, ds, e, is, are) = subst (λ z. count (all_filled s n z) ≡ suc (count ts)) (sym e) (ap suc (count_caps sys s (n + holes d) ts ds are))
 
-pub same_length : (sys : System) (cs : List Condition) (lefts : Caps) (ts us : List T.Term) → AreCapsOf sys any (left_sides cs) lefts → views ts ≡ all_filled var (2 ^ 31) lefts → HaveRow (right_sides cs) (views us)
+pub same_length : (sys : System) (cs : List Condition) (lefts : Caps) (ts us : List T.Term) → AreCapsOf sys any (left_sides cs) lefts → views ts ≡ all_filled var (2 ^ 31) lefts
+    → HaveRow (right_sides cs) (views us)
     → length ts ≡ length us
 same_length sys cs lefts ts us are shown h =
-    sym (count_views ts) ∙ (ap count shown ∙ (count_caps sys var (2 ^ 31) (left_sides cs) lefts are ∙ (count_lefts cs ∙ (sym (count_rights cs) ∙ (ap count h.names ∙ (count-apply (naming h.row) (views us) ∙ count_views us))))))
+    sym (count_views ts) ∙ (ap count shown ∙ (count_caps sys var (2 ^ 31) (left_sides cs) lefts are
+    ∙ (count_lefts cs ∙ (sym (count_rights cs) ∙ (ap count h.names ∙ (count-apply (naming h.row) (views us) ∙ count_views us))))))

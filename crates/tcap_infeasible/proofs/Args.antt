@@ -1,5 +1,6 @@
 -- The caps of a symbol's arguments, one after the other.
-use Rattle.std.proofs.Common.{ℕ, zero, suc, ◌≡◌, ◌+◌, ◌^◌, ◌<◌, ◌≤◌, inl, inr, true, List, [], ◌∷◌, ◌++◌, length, take, get_or, Vec, Global, Result, Ok, Err, refl, sym, ap, ap₂, ◌∙◌, subst, arith, add-one, eq-eqb}
+use Rattle.std.proofs.Common.{ℕ, zero, suc, ◌≡◌, ◌+◌, ◌^◌, ◌<◌, ◌≤◌, inl, inr, true, List, [], ◌∷◌, ◌++◌, length, take, get_or, Vec, Global, Result, Ok, Err, refl, sym, ap, ap₂}
+use Rattle.std.proofs.Common.{◌∙◌, subst, arith, add-one, eq-eqb}
 use Rattle.std.proofs.lemmas.List.{take_all}
 use Rattle.rewriting.specs.Terms as math
 use Rattle.rewriting.specs.Prelude.{Terms, app, nil, cons, size, size_all, depth, depth_all, Fits, Substitution, occurs, System}
@@ -24,7 +25,8 @@ abbrev pub with_cap : Caps → MathCap → Caps
 with_cap no_caps c = caps c no_caps
 with_cap (caps d ds) c = caps d (with_cap ds c)
 
-with_are : (sys : System) (leaf : ℕ → MathCap) (ts : Terms) (cs : Caps) (t : math.Term) (c : MathCap) → AreCapsOf sys leaf ts cs → IsCapOf sys leaf t c → AreCapsOf sys leaf (append ts (cons t nil)) (with_cap cs c)
+with_are : (sys : System) (leaf : ℕ → MathCap) (ts : Terms) (cs : Caps) (t : math.Term) (c : MathCap) → AreCapsOf sys leaf ts cs → IsCapOf sys leaf t c
+    → AreCapsOf sys leaf (append ts (cons t nil)) (with_cap cs c)
 with_are sys leaf nil cs t c e is = subst (λ z. AreCapsOf sys leaf (cons t nil) (with_cap z c)) (sym e) (c, no_caps, refl, is, refl)
 with_are sys leaf (cons u us) cs t c (d, ds, e, first, rest) is =
     subst (λ z. AreCapsOf sys leaf (cons u (append us (cons t nil))) (with_cap z c)) (sym e) (d, with_cap ds c, refl, first, with_are sys leaf us ds t c rest is)
@@ -86,8 +88,10 @@ capped_next sys leaf ts k us start next more t u h e before (c, is, shown, count
     record {
       shapes = with_cap before.shapes c;
       are = subst (λ z. AreCapsOf sys (leaf_of leaf) (views z) (with_cap before.shapes c)) (sym (ap (λ z. take z ts) (add-one k) ∙ take_suc ts k t h e))
-          (subst (λ z. AreCapsOf sys (leaf_of leaf) z (with_cap before.shapes c)) (sym (views_with (take k ts) t)) (with_are sys (leaf_of leaf) (views (take k ts)) before.shapes (view t) c before.are is));
-      shown = views_with us u ∙ (ap₂ (λ x y. append x (cons y nil)) before.shown (shown ∙ ap (λ z. filled (standing leaf) z c) before.counted) ∙ sym (with_filled (standing leaf) start before.shapes c));
+          (subst (λ z. AreCapsOf sys (leaf_of leaf) z (with_cap before.shapes c)) (sym (views_with (take k ts) t))
+          (with_are sys (leaf_of leaf) (views (take k ts)) before.shapes (view t) c before.are is));
+      shown = views_with us u ∙ (ap₂ (λ x y. append x (cons y nil)) before.shown (shown ∙ ap (λ z. filled (standing leaf) z c) before.counted)
+          ∙ sym (with_filled (standing leaf) start before.shapes c));
       counted = (let a = with_holes before.shapes c in let b = before.counted in omega (arith, a, b, counted));
     }
 
@@ -164,9 +168,11 @@ args_held sys leaf t f v items k us start next is same h capped fit low constant
     based : IsBased sys leaf (node f capped.shapes)
     based = node_based sys leaf f (views items) capped.shapes (subst (HasConstants sys leaf) shape constant) are
 
-pub whole_cap : (sys : System) (leaf : Leaf) (t : Term) (f : ℕ) (v : Vec Term Global) (items : List Term) (k : ℕ) (us : List Term) (start next more : ℕ) (r : Result Cap NoMemory) → t ≡ Fun f v → items ≡ v.items → length items ≤ k
+pub whole_cap : (sys : System) (leaf : Leaf) (t : Term) (f : ℕ) (v : Vec Term Global) (items : List Term) (k : ℕ) (us : List Term) (start next more : ℕ) (r : Result Cap NoMemory)
+    → t ≡ Fun f v → items ≡ v.items → length items ≤ k
     → AreCapped sys leaf items k us start next → Fits (view t) → 2 ^ 31 ≤ start → HasConstants sys leaf (view t)
-    → ((s : Substitution) (c : MathCap) → IsHeld sys f (app f (views us)) start c → app f (views us) ≡ filled s start c → next ≡ start + holes c → TopAnswers sys s c start more r) → FrozenAnswers sys leaf (view t) start more r
+    → ((s : Substitution) (c : MathCap) → IsHeld sys f (app f (views us)) start c → app f (views us) ≡ filled s start c → next ≡ start + holes c → TopAnswers sys s c start more r)
+    → FrozenAnswers sys leaf (view t) start more r
 whole_cap sys leaf t f v items k us start next more r is same h capped fit low constant top =
     subst (λ z. FrozenAnswers sys leaf z start more r) (sym shape)
     (go r (top (standing leaf) (node f capped.shapes) (args_held sys leaf t f v items k us start next is same h capped fit low constant) (ap (app f) capped.shown) capped.counted))

@@ -1,5 +1,6 @@
 -- Clashes of terms as the program walks them.
-use Rattle.std.proofs.Common.{ℕ, ◌≡◌, ◌≢◌, ◌⊎◌, inl, inr, ◌+◌, ◌<◌, ◌≤◌, ◌&&◌, ◌||◌, Bool, true, false, not, nat_eq, nat_lt, List, length, drop, get_or, Vec, Global, refl, sym, ap, ap₂, ◌∙◌, eq-eqb, eqb-true}
+use Rattle.std.proofs.Common.{ℕ, ◌≡◌, ◌≢◌, ◌⊎◌, inl, inr, ◌+◌, ◌<◌, ◌≤◌, ◌&&◌, ◌||◌, Bool, true, false, not, nat_eq, nat_lt, List, length, drop, get_or, Vec, Global, refl, sym, ap}
+use Rattle.std.proofs.Common.{ap₂, ◌∙◌, eq-eqb, eqb-true}
 use Rattle.std.proofs.lemmas.Bool.{le-ltb, and_left, and_right}
 use Rattle.rewriting.specs.Terms as math
 use Rattle.rewriting.specs.Terms.{var, app, count}

@@ -47,8 +47,10 @@ mutual
   all_once base x n no_caps = omega arith
   all_once base x n (caps c cs) = one_side (leb_tells (n + holes c) x) (outside base x n c) (all_outside base x (n + holes c) cs) (once base x n c) (all_once base x (n + holes c) cs)
     where
-      one_side : ((leb (n + holes c) x ≡ true) × (n + holes c ≤ x)) ⊎ ((leb (n + holes c) x ≡ false) × (x < n + holes c)) → ((x < n) ⊎ (n + holes c ≤ x) → occurrences x (filled (constants base) n c) ≡ 0)
-          → ((x < n + holes c) ⊎ (n + holes c + holes_in cs ≤ x) → occurrences_in x (all_filled (constants base) (n + holes c) cs) ≡ 0) → occurrences x (filled (constants base) n c) ≤ 1 → occurrences_in x (all_filled (constants base) (n + holes c) cs) ≤ 1
+      one_side : ((leb (n + holes c) x ≡ true) × (n + holes c ≤ x)) ⊎ ((leb (n + holes c) x ≡ false) × (x < n + holes c))
+          → ((x < n) ⊎ (n + holes c ≤ x) → occurrences x (filled (constants base) n c) ≡ 0)
+          → ((x < n + holes c) ⊎ (n + holes c + holes_in cs ≤ x) → occurrences_in x (all_filled (constants base) (n + holes c) cs) ≡ 0)
+          → occurrences x (filled (constants base) n c) ≤ 1 → occurrences_in x (all_filled (constants base) (n + holes c) cs) ≤ 1
           → occurrences x (filled (constants base) n c) + occurrences_in x (all_filled (constants base) (n + holes c) cs) ≤ 1
       one_side (inl (e, l)) f g a b = (let none = f (inr l) in omega (arith, none, b))
       one_side (inr (e, l)) f g a b = (let none = g (inl l) in omega (arith, none, a))
@@ -96,7 +98,8 @@ cap_linear : (sys : System) (leaf : Leaf) (t : Term) (c : Cap) (n : ℕ) → IsC
 cap_linear sys leaf t c n is = let k = with_constants sys leaf t c n is in subst IsLinearInParts (sym k.1) (linear_in_parts _ (λ x. once k.0 x n c))
 
 -- caps whose holes are numbered in one row
-pub caps_apart : (sys : System) (leaf : Leaf) (u v : Term) (c d : Cap) (n : ℕ) → IsCapOf sys (leaf_of leaf) u c → IsCapOf sys (leaf_of leaf) v d → Fits u → Fits v → AreLinearApart (filled (standing leaf) n c) (filled (standing leaf) (n + holes c) d)
+pub caps_apart : (sys : System) (leaf : Leaf) (u v : Term) (c d : Cap) (n : ℕ) → IsCapOf sys (leaf_of leaf) u c → IsCapOf sys (leaf_of leaf) v d → Fits u → Fits v
+    → AreLinearApart (filled (standing leaf) n c) (filled (standing leaf) (n + holes c) d)
 caps_apart sys leaf u v c d n is are fit fits =
     record {
       left = cap_linear sys leaf u c n is;
@@ -113,7 +116,8 @@ caps_apart sys leaf u v c d n is are fit fits =
     }
 
 -- two terms of the program that are such caps
-module _ (sys : System) (leaf : Leaf) (u v : Term) (p q : program.Term) (n m : ℕ) (first : FrozenAnswers sys leaf u (2 ^ 31) n (Ok (Capped p))) (second : FrozenAnswers sys leaf v n m (Ok (Capped q))) where
+module _ (sys : System) (leaf : Leaf) (u v : Term) (p q : program.Term) (n m : ℕ) (first : FrozenAnswers sys leaf u (2 ^ 31) n (Ok (Capped p)))
+    (second : FrozenAnswers sys leaf v n m (Ok (Capped q))) where
   second_shown : view q ≡ filled (standing leaf) (2 ^ 31 + holes first.0) second.0
   second_shown = second.2 ∙ ap (λ z. filled (standing leaf) z second.0) first.3
 

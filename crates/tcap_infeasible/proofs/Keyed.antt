@@ -1,5 +1,6 @@
 -- Where places of rows stand for variables and for symbols past those of a system, what they stand for.
-use Rattle.std.proofs.Common.{ℕ, zero, suc, ◌≡◌, ◌+◌, ◌-◌, ◌<◌, ◌≤◌, inl, inr, Bool, true, false, nat_lt, if◌then◌else◌, List, [], ◌∷◌, length, max, Some, refl, sym, ap, ap₂, ◌∙◌, subst, arith, slice_get, eqb-true, ◌++◌}
+use Rattle.std.proofs.Common.{ℕ, zero, suc, ◌≡◌, ◌+◌, ◌-◌, ◌<◌, ◌≤◌, inl, inr, Bool, true, false, nat_lt, if◌then◌else◌, List, [], ◌∷◌, length, max, Some, refl, sym, ap, ap₂, ◌∙◌}
+use Rattle.std.proofs.Common.{subst, arith, slice_get, eqb-true, ◌++◌}
 use Rattle.std.proofs.lemmas.Bool.{ltb-true, lt-ltb}
 use Rattle.std.proofs.lemmas.Option.{slice_get_within, get_or_from_slice_get}
 use Rattle.rewriting.specs.Prelude.{Term, Terms, var, app, nil, cons, size, size_all, depth, depth_all, Fits, occurs, occurs_in, AreDistinct, IsFront}
@@ -112,7 +113,8 @@ key_spaced n foreign row f g key = spaced_within n foreign row g (key_low n fore
 mutual
   pub keyed_renamed : (n : ℕ) (foreign row : List ℕ) (t u : Term) → IsKeyed n foreign row t u → t ≡ renamed (filling row) (spaced n foreign row) u
   keyed_renamed n foreign row (var x) u (m, e, at) =
-      (let value : filling row m ≡ x = filling_within row m (slice_get_within row m x at) ∙ get_or_from_slice_get row m x 0 at in ap var (sym value) ∙ ap (renamed (filling row) (spaced n foreign row)) (sym e))
+      (let value : filling row m ≡ x = filling_within row m (slice_get_within row m x at) ∙ get_or_from_slice_get row m x 0 at in ap var (sym value)
+      ∙ ap (renamed (filling row) (spaced n foreign row)) (sym e))
   keyed_renamed n foreign row (app f ts) u (g, us, e, key, all) =
       ap₂ app (sym (key_spaced n foreign row f g key)) (all_keyed_renamed n foreign row ts us all) ∙ ap (renamed (filling row) (spaced n foreign row)) (sym e)
 
@@ -175,7 +177,8 @@ mutual
   keyed_grows n foreign more_foreign row more (app f ts) u symbols front (g, us, e, key, all) =
       (g, us, e, key_grows n foreign more_foreign f g symbols key, all_keyed_grows n foreign more_foreign row more ts us symbols front all)
 
-  pub all_keyed_grows : (n : ℕ) (foreign more_foreign row more : List ℕ) (ts us : Terms) → IsFront foreign more_foreign → IsFront row more → AreKeyed n foreign row ts us → AreKeyed n more_foreign more ts us
+  pub all_keyed_grows : (n : ℕ) (foreign more_foreign row more : List ℕ) (ts us : Terms) → IsFront foreign more_foreign → IsFront row more → AreKeyed n foreign row ts us
+      → AreKeyed n more_foreign more ts us
   all_keyed_grows n foreign more_foreign row more nil us symbols front e = e
   all_keyed_grows n foreign more_foreign row more (cons t ts) us symbols front (v, vs, e, one, all) =
       (v, vs, e, keyed_grows n foreign more_foreign row more t v symbols front one, all_keyed_grows n foreign more_foreign row more ts vs symbols front all)

@@ -104,8 +104,10 @@ rest b c t u ts us m d =
       left = m.left.1;
       right = m.right.1;
       apart = λ x o p. m.apart x (or_right _ _ o) (or_right _ _ p);
-      left_new = λ x o. d.new x (m.left_new x (or_right _ _ o)) (ap (λ a. a || false) (false_from_ne_true _ (λ h. m.left.2 x h o))) (ap (λ a. a || false) (false_from_ne_true _ (λ h. m.apart x (or_right _ _ o) (or_left _ _ h))));
-      right_new = λ x o. d.new x (m.right_new x (or_right _ _ o)) (ap (λ a. a || false) (false_from_ne_true _ (λ h. m.apart x (or_left _ _ h) (or_right _ _ o)))) (ap (λ a. a || false) (false_from_ne_true _ (λ h. m.right.2 x h o)));
+      left_new = λ x o. d.new x (m.left_new x (or_right _ _ o)) (ap (λ a. a || false) (false_from_ne_true _ (λ h. m.left.2 x h o)))
+          (ap (λ a. a || false) (false_from_ne_true _ (λ h. m.apart x (or_right _ _ o) (or_left _ _ h))));
+      right_new = λ x o. d.new x (m.right_new x (or_right _ _ o)) (ap (λ a. a || false) (false_from_ne_true _ (λ h. m.apart x (or_left _ _ h) (or_right _ _ o))))
+          (ap (λ a. a || false) (false_from_ne_true _ (λ h. m.right.2 x h o)));
       left_fit = m.left_fit.1;
       right_fit = m.right_fit.1;
     }
@@ -113,7 +115,8 @@ rest b c t u ts us m d =
 itself : (x : ℕ) → nat_eq x x ≡ true
 itself x = eq-eqb x x refl
 
-of_solved : (b : List Binding) (x : ℕ) (v : Term) (t u : Term) → AreSolved b (with_one b x v) (cons t nil) (cons u nil) → ((y : ℕ) → occurs y t ≡ false → occurs y u ≡ false → (nat_eq y x ≡ false) × (occurs y v ≡ false))
+of_solved : (b : List Binding) (x : ℕ) (v : Term) (t u : Term) → AreSolved b (with_one b x v) (cons t nil) (cons u nil)
+    → ((y : ℕ) → occurs y t ≡ false → occurs y u ≡ false → (nat_eq y x ≡ false) × (occurs y v ≡ false))
     → Met b (with_one b x v) (cons t nil) (cons u nil)
 of_solved b x v t u s others =
     record {
@@ -125,7 +128,8 @@ of_solved b x v t u s others =
 met_left : (b : List Binding) (x : ℕ) (u : Term) → Meet b (var x) u → Met b (with_one b x u) (cons (var x) nil) (cons u nil)
 met_left b x u m =
     of_solved b x u (var x) u
-    (bound_left b (with_one b x u) x u (Ok Solved) m.good free (subst Fits (sym free) m.left_fits, subst Fits (sym same) m.right_fits) (λ e. m.apart x (itself x) (ap (occurs x) (sym same ∙ e) ∙ itself x))
+    (bound_left b (with_one b x u) x u (Ok Solved) m.good free (subst Fits (sym free) m.left_fits, subst Fits (sym same) m.right_fits)
+    (λ e. m.apart x (itself x) (ap (occurs x) (sym same ∙ e) ∙ itself x))
     (ap (occurs x) same ∙ absent, sym (ap (extended b x) same ∙ extended_one b x u here), fit_one b x u m.good.fit m.right_fits))
     (λ y o p. (o, p))
   where
@@ -180,7 +184,9 @@ both_fit b t u m = (subst Fits (sym (stays b t m.left_new)) m.left_fits, subst F
 opened : (b c : List Binding) (f g : ℕ) (ts us : Terms) → Meet b (app f ts) (app g us) → f ≡ g → count ts ≡ count us → Met b c ts us → Met b c (cons (app f ts) nil) (cons (app g us) nil)
 opened b c f g ts us m e k d =
     record {
-      runs = λ vs ws o r. subst (λ z. Runs b (cons (app f ts) vs) (cons (app z us) ws) o) e (open_equation b f ts us vs ws o m.good.settled (subst (λ z. Fits (apply (value b) (app f ts)) × Fits (apply (value b) (app z us))) (sym e) (both_fit b (app f ts) (app g us) m)) k (d.runs vs ws o r));
+      runs = λ vs ws o r. subst (λ z. Runs b (cons (app f ts) vs) (cons (app z us) ws) o) e
+          (open_equation b f ts us vs ws o m.good.settled (subst (λ z. Fits (apply (value b) (app f ts)) × Fits (apply (value b) (app z us))) (sym e)
+          (both_fit b (app f ts) (app g us) m)) k (d.runs vs ws o r));
       good = d.good;
       new = λ x h o p. d.new x h (or_parts _ _ o).0 (or_parts _ _ p).0;
     }
@@ -225,7 +231,8 @@ mutual
       go (other_counts d e) h = ends_roots b b f g ts us (both_fit b (app f ts) (app g us) m) (inr d) vs ws
       go (same_roots e k s) h =
           subst (λ z. Runs b (cons (app f ts) vs) (cons (app z us) ws) clash) e
-          (open_equation b f ts us vs ws clash m.good.settled (subst (λ z. Fits (apply (value b) (app f ts)) × Fits (apply (value b) (app z us))) (sym e) (both_fit b (app f ts) (app g us) m)) k (h k (sym s ∙ n)))
+          (open_equation b f ts us vs ws clash m.good.settled (subst (λ z. Fits (apply (value b) (app f ts)) × Fits (apply (value b) (app z us))) (sym e)
+          (both_fit b (app f ts) (app g us) m)) k (h k (sym s ∙ n)))
 
   all_ended : (b : List Binding) (ts us : Terms) → AllMeet b ts us → count ts ≡ count us → do_any_clash 0 ts us ≡ true → (vs ws : Terms) → Runs b (append ts vs) (append us ws) clash
   all_ended b nil us m k n vs ws = absurd (cc)
@@ -234,7 +241,8 @@ mutual
       go (do_clash 0 t u) refl (λ e. ended b t u (first b t u ts us m) e (append ts vs) (append us ws)) (λ c d e. all_ended c ts us (rest b c t u ts us m d) (omega (arith, k)) e vs ws)
     where
       go : (a : Bool) → do_clash 0 t u ≡ a → (do_clash 0 t u ≡ true → Runs b (cons t (append ts vs)) (cons u (append us ws)) clash)
-          → ((c : List Binding) → Met b c (cons t nil) (cons u nil) → do_any_clash 0 ts us ≡ true → Runs c (append ts vs) (append us ws) clash) → Runs b (cons t (append ts vs)) (cons u (append us ws)) clash
+          → ((c : List Binding) → Met b c (cons t nil) (cons u nil) → do_any_clash 0 ts us ≡ true → Runs c (append ts vs) (append us ws) clash)
+          → Runs b (cons t (append ts vs)) (cons u (append us ws)) clash
       go true e f g = f e
       go false e f g =
           (let d = solved b t u (first b t u ts us m) e in d.1.runs (append ts vs) (append us ws) clash (g d.0 d.1 (subst (λ q. (q || do_any_clash 0 ts us) ≡ true) e n)))

@@ -36,7 +36,8 @@ hole_thaws fresh j t h = go t
     go (app f ts) = record { lies = (low, high); value = ap (λ z. var (fresh + z)) back }
 
 module _ (sys : System) (fresh limit : ℕ) (room : fresh + limit ≤ 2 ^ 32) where
-  any_top : (f : ℕ) (ts : Terms) (cs : Caps) (c : MathCap) (j : ℕ) → IsTop sys (node f cs) c → j + holes c ≤ limit → (j + holes_in cs ≤ limit → AllThaw fresh ts (all_filled var (2 ^ 31 + j) cs) (all_filled var (fresh + j) cs))
+  any_top : (f : ℕ) (ts : Terms) (cs : Caps) (c : MathCap) (j : ℕ) → IsTop sys (node f cs) c → j + holes c ≤ limit
+      → (j + holes_in cs ≤ limit → AllThaw fresh ts (all_filled var (2 ^ 31 + j) cs) (all_filled var (fresh + j) cs))
       → Thaws fresh (app f ts) (filled var (2 ^ 31 + j) c) (filled var (fresh + j) c)
   any_top f ts cs c j (inl (k, e)) h all =
       subst (λ z. Thaws fresh (app f ts) (filled var (2 ^ 31 + j) z) (filled var (fresh + j) z)) (sym e)
@@ -77,7 +78,8 @@ module _ (sys : System) (fresh limit : ℕ) (room : fresh + limit ≤ 2 ^ 32) wh
     abbrev all_name : Caps → Caps
     all_name cs = all_named (filling row) symbols cs
 
-    kept_top : (f g : ℕ) (ts : Terms) (cs : Caps) (c : MathCap) (j : ℕ) → symbols g ≡ f → IsTop sys (node g cs) c → j + holes c ≤ limit → (j + holes_in cs ≤ limit → AllThaw fresh ts (all_filled (constants base) (2 ^ 31 + j) cs) (all_filled var (fresh + j) (all_name cs)))
+    kept_top : (f g : ℕ) (ts : Terms) (cs : Caps) (c : MathCap) (j : ℕ) → symbols g ≡ f → IsTop sys (node g cs) c → j + holes c ≤ limit
+        → (j + holes_in cs ≤ limit → AllThaw fresh ts (all_filled (constants base) (2 ^ 31 + j) cs) (all_filled var (fresh + j) (all_name cs)))
         → Thaws fresh (app f ts) (filled (constants base) (2 ^ 31 + j) c) (filled var (fresh + j) (name c))
     kept_top f g ts cs c j same (inl (k, e)) h all =
         subst (λ z. Thaws fresh (app f ts) (filled (constants base) (2 ^ 31 + j) z) (filled var (fresh + j) (name z))) (sym e)
@@ -90,7 +92,8 @@ module _ (sys : System) (fresh limit : ℕ) (room : fresh + limit ≤ 2 ^ 32) wh
     leaf_thaws x m j at = record { lies = tt; value = ap var (sym (filling_within row m (slice_get_within row m x at) ∙ get_or_from_slice_get row m x 0 at)) }
 
     mutual
-      pub kept_thaws : (t u : math.Term) (c : MathCap) (j : ℕ) → IsKeyed (length sys.arities) foreign row t u → IsCapOf sys kept u c → j + holes c ≤ limit → Thaws fresh t (filled (constants base) (2 ^ 31 + j) c) (filled var (fresh + j) (name c))
+      pub kept_thaws : (t u : math.Term) (c : MathCap) (j : ℕ) → IsKeyed (length sys.arities) foreign row t u → IsCapOf sys kept u c → j + holes c ≤ limit
+          → Thaws fresh t (filled (constants base) (2 ^ 31 + j) c) (filled var (fresh + j) (name c))
       kept_thaws (var x) u c j (m, e, at) is h =
           (let same : c ≡ kept m = subst (λ z. IsCapOf sys kept z c) e is in
           subst (λ z. Thaws fresh (var x) (filled (constants base) (2 ^ 31 + j) z) (filled var (fresh + j) (name z))) (sym same) (leaf_thaws x m j at))
@@ -98,7 +101,8 @@ module _ (sys : System) (fresh limit : ℕ) (room : fresh + limit ≤ 2 ^ 32) wh
           (let a : (cs : Caps) × AreCapsOf sys kept us cs × IsTop sys (node g cs) c = subst (λ z. IsCapOf sys kept z c) e is in
           kept_top f g ts a.0 c j (key_spaced (length sys.arities) foreign row f g key) a.2 h (λ k. kept_all_thaw ts us a.0 j all a.1 k))
 
-      kept_all_thaw : (ts us : Terms) (cs : Caps) (j : ℕ) → AreKeyed (length sys.arities) foreign row ts us → AreCapsOf sys kept us cs → j + holes_in cs ≤ limit → AllThaw fresh ts (all_filled (constants base) (2 ^ 31 + j) cs) (all_filled var (fresh + j) (all_name cs))
+      kept_all_thaw : (ts us : Terms) (cs : Caps) (j : ℕ) → AreKeyed (length sys.arities) foreign row ts us → AreCapsOf sys kept us cs → j + holes_in cs ≤ limit
+          → AllThaw fresh ts (all_filled (constants base) (2 ^ 31 + j) cs) (all_filled var (fresh + j) (all_name cs))
       kept_all_thaw nil us cs j e are h =
           (let same : cs ≡ no_caps = subst (λ z. AreCapsOf sys kept z cs) e are in
           subst (λ z. AllThaw fresh nil (all_filled (constants base) (2 ^ 31 + j) z) (all_filled var (fresh + j) (all_name z))) (sym same) (record { lie = tt; values = refl }))
@@ -111,5 +115,6 @@ module _ (sys : System) (fresh limit : ℕ) (room : fresh + limit ≤ 2 ^ 32) wh
           let low : 2 ^ 31 + j + holes a.0 ≡ 2 ^ 31 + (j + holes a.0) = omega arith in
           let count = named_holes (filling row) symbols a.0 in
           let high : fresh + j + holes (name a.0) ≡ fresh + (j + holes a.0) = omega (arith, count) in
-          subst₂ (λ x y. AllThaw fresh (cons t ts) (cons (filled (constants base) (2 ^ 31 + j) a.0) (all_filled (constants base) x a.1)) (cons (filled var (fresh + j) (name a.0)) (all_filled var y (all_name a.1)))) (sym low) (sym high)
+          subst₂ (λ x y. AllThaw fresh (cons t ts) (cons (filled (constants base) (2 ^ 31 + j) a.0) (all_filled (constants base) x a.1))
+          (cons (filled var (fresh + j) (name a.0)) (all_filled var y (all_name a.1)))) (sym low) (sym high)
           (record { lie = (one.lies, rest.lie); values = ap₂ cons one.value rest.values })))

@@ -6,7 +6,8 @@ use Rattle.unifier_run.specs.Run.{Outcome, unifier, clash, too_large}
 use Rattle.unifier_run.specs.Overlaps.{IsOutcomeOf}
 use Rattle.unifier_run.specs.Irreducible.{IsFirstRule, DoRulesClash}
 use Rattle.unifier_run.proofs.Renamed.{renamed, all_renamed}
-use Rattle.caps.specs.Caps.{Cap, Caps, hole, kept, node, no_caps, caps, holes, holes_in, filled, all_filled, past_symbols, past_symbols_of, past, constants, frozen_from, frozen, IsTop, IsCapOf, AreCapsOf, IsCapLarge, AreCapsLarge}
+use Rattle.caps.specs.Caps.{Cap, Caps, hole, kept, node, no_caps, caps, holes, holes_in, filled, all_filled, past_symbols, past_symbols_of, past, constants, frozen_from, frozen}
+use Rattle.caps.specs.Caps.{IsTop, IsCapOf, AreCapsOf, IsCapLarge, AreCapsLarge}
 use Rattle.tcap_infeasible.specs.declared.capping.Leaf.TheVariants.{Kept}
 use Rattle.term_core.specs.SystemView.{HasSymbolsBelow, HaveSymbolsBelow}
 use Rattle.tcap_infeasible.proofs.Rebased.{HasLike, HasFirstLike, alike_same, clash_like, first_unifier, first_large, forth_like, symbols_stay, names_after, lowered, lifted}
@@ -88,7 +89,8 @@ module _ (sys : System) (foreign row : List ℕ) (sound : IsSystem sys) (foreign
       let over = (is_rule_at sys.arities sys.rules i r sound.rules at).is_over.over.0 in
       lowered sys r.left over (name c) far_base (name_past c low) o
       (forth_like (λ x. x) symbols (λ x y e. e) symbols_one (apply even r.left) (apply odd (frozen_from place_base c)) (apply even r.left) (apply odd (frozen_from far_base (name c)))
-      (symbols_stay symbols sys.arities (spaced_below (length sys.arities) foreign row) r.left over) (names_after symbols (λ k. 2 * k + 1) (frozen_from place_base c) ∙ ap (apply odd) (held_named 0 c)) o
+      (symbols_stay symbols sys.arities (spaced_below (length sys.arities) foreign row) r.left over) (names_after symbols (λ k. 2 * k + 1) (frozen_from place_base c)
+      ∙ ap (apply odd) (held_named 0 c)) o
       (lifted sys r.left over c place_base (omega (arith, low)) o (o, alike_same o, run)))
 
   clash_named : (c : Cap) → past_symbols c ≤ place_base → DoRulesClash sys (frozen sys c) → DoRulesClash sys (frozen sys (name c))

@@ -1,5 +1,6 @@
 -- From the caps of two terms with holes in one row to caps with holes of their own.
-use Rattle.std.proofs.Common.{ℕ, zero, suc, ◌≡◌, ◌+◌, ◌-◌, ◌*◌, ◌^◌, ◌<◌, ◌≤◌, inl, inr, Bool, true, false, nat_lt, if◌then◌else◌, List, [], length, refl, sym, ap, ap₂, ◌∙◌, subst, subst₂, arith, length-append, Result, Ok, Err}
+use Rattle.std.proofs.Common.{ℕ, zero, suc, ◌≡◌, ◌+◌, ◌-◌, ◌*◌, ◌^◌, ◌<◌, ◌≤◌, inl, inr, Bool, true, false, nat_lt, if◌then◌else◌, List, [], length, refl, sym, ap, ap₂, ◌∙◌, subst}
+use Rattle.std.proofs.Common.{subst₂, arith, length-append, Result, Ok, Err}
 use Rattle.std.proofs.lemmas.Bool.{ltb-true, lt-ltb}
 use Rattle.rewriting.specs.Prelude.{Term, var, app, nil, cons, size, Fits, apply, apply_all, even, odd, System, IsSystem, IsWellFormed, AreDistinct, IsFront}
 use Rattle.rewriting.proofs.Systems.{is_rule_at}
@@ -83,12 +84,15 @@ module _ (sys : System) (foreign row : List ℕ) (rho g : ℕ → ℕ) (start li
   end_base = end_of (length sys.arities) foreign
 
   mutual
-    pub held_to : (j : ℕ) (c : Cap) → j + holes c ≤ limit → renamed rho symbols (filled (constants start_base) (start + j) c) ≡ apply (λ k. var (g k)) (filled (constants end_base) j (named (filling row) symbols c))
+    pub held_to : (j : ℕ) (c : Cap) → j + holes c ≤ limit
+        → renamed rho symbols (filled (constants start_base) (start + j) c) ≡ apply (λ k. var (g k)) (filled (constants end_base) j (named (filling row) symbols c))
     held_to j hole h = ap var (same j (omega (arith, h)))
     held_to j (kept x) h = ap (λ z. app z nil) (spaced_past (length sys.arities) foreign row x)
     held_to j (node f cs) h = ap (app (symbols f)) (all_held_to j cs h)
 
-    pub all_held_to : (j : ℕ) (cs : Caps) → j + holes_in cs ≤ limit → all_renamed rho symbols (all_filled (constants start_base) (start + j) cs) ≡ apply_all (λ k. var (g k)) (all_filled (constants end_base) j (all_named (filling row) symbols cs))
+    pub all_held_to : (j : ℕ) (cs : Caps) → j + holes_in cs ≤ limit
+        → all_renamed rho symbols (all_filled (constants start_base) (start + j) cs) ≡ apply_all (λ k. var (g k))
+        (all_filled (constants end_base) j (all_named (filling row) symbols cs))
     all_held_to j no_caps h = refl
     all_held_to j (caps c cs) h =
         (let more : start + j + holes c ≡ start + (j + holes c) = omega arith in
@@ -101,7 +105,8 @@ frozen_pair : (sys : System) (c d : Cap) (base : ℕ) (o : Outcome) → past_bot
     → EndLike (apply even (frozen_from (past_both sys c d) c)) (apply odd (frozen_from (past_both sys c d) d)) o
 frozen_pair sys c d base o far h =
     let least = past_both sys c d in
-    back_like (λ x. x) (raised least (base - least)) (λ x y e. e) (raised_one least (base - least)) (apply even (frozen_from least c)) (apply odd (frozen_from least d)) (apply even (frozen_from base c)) (apply odd (frozen_from base d))
+    back_like (λ x. x) (raised least (base - least)) (λ x y e. e) (raised_one least (base - least)) (apply even (frozen_from least c)) (apply odd (frozen_from least d))
+    (apply even (frozen_from base c)) (apply odd (frozen_from base d))
     (raised_frozen (λ k. 2 * k) least base c (omega arith) far) (raised_frozen (λ k. 2 * k + 1) least base d (omega arith) far) o h
 
 -- an outcome of the kind for two terms
@@ -117,7 +122,8 @@ pair_unifier sys leaf u v b (p, (c, e), h) = (c, subst (IsPairOutcome sys leaf u
 pair_large : (sys : System) (leaf : ℕ → Cap) (u v : Term) → HasPairLike sys leaf u v too_large → IsPairOutcome sys leaf u v too_large
 pair_large sys leaf u v (p, e, h) = subst (IsPairOutcome sys leaf u v) e h
 
-module _ (sys : System) (foreign row : List ℕ) (sound : IsSystem sys) (foreign_distinct : AreDistinct foreign) (distinct : AreDistinct row) (u v x y : Term) (first_keys : IsKeyed (length sys.arities) foreign row u x) (second_keys : IsKeyed (length sys.arities) foreign row v y) where
+module _ (sys : System) (foreign row : List ℕ) (sound : IsSystem sys) (foreign_distinct : AreDistinct foreign) (distinct : AreDistinct row) (u v x y : Term)
+    (first_keys : IsKeyed (length sys.arities) foreign row u x) (second_keys : IsKeyed (length sys.arities) foreign row v y) where
   abbrev symbols_of : ℕ → ℕ
   symbols_of f = spaced (length sys.arities) foreign row f
 
@@ -132,7 +138,8 @@ module _ (sys : System) (foreign row : List ℕ) (sound : IsSystem sys) (foreign
 
   cap_of : (t z : Term) (c : Cap) → IsKeyed (length sys.arities) foreign row t z → IsCapOf sys kept z c → IsCapOf sys kept t (name_of c)
   cap_of t z c keys is =
-      subst (λ q. IsCapOf sys kept q (name_of c)) (sym (keyed_renamed (length sys.arities) foreign row t z keys)) (cap_named sys foreign row sound foreign_distinct distinct z c (keyed_symbols (length sys.arities) foreign row t z keys) is)
+      subst (λ q. IsCapOf sys kept q (name_of c)) (sym (keyed_renamed (length sys.arities) foreign row t z keys))
+      (cap_named sys foreign row sound foreign_distinct distinct z c (keyed_symbols (length sys.arities) foreign row t z keys) is)
 
   name_low : (t z : Term) (c : Cap) → IsKeyed (length sys.arities) foreign row t z → IsCapOf sys kept z c → past sys (name_of c) ≤ far
   name_low t z c keys is = name_past sys foreign row sound foreign_distinct distinct c (cap_past sys (Kept places_from) places_from z c (keyed_symbols (length sys.arities) foreign row t z keys) is)
@@ -145,8 +152,10 @@ module _ (sys : System) (foreign row : List ℕ) (sound : IsSystem sys) (foreign
       let first_low = name_low u x h.first first_keys h.is_first in
       let second_low = name_low v y h.second second_keys h.is_second in
       let there = forth rho symbols_of (woven_one (holes h.first)) (symbols_one sys foreign row sound foreign_distinct distinct)
-      (filled (constants places_from) (2 ^ 31) h.first) (filled (constants places_from) (2 ^ 31 + holes h.first) h.second) (apply even (frozen_from far (name_of h.first))) (apply odd (frozen_from far (name_of h.second)))
-      (ap (λ z. renamed rho symbols_of (filled (constants places_from) z h.first)) first_start ∙ held_to sys foreign row rho (λ k. 2 * k) (2 ^ 31) (holes h.first) (λ j less. woven_first (holes h.first) j less) 0 h.first (omega arith))
+      (filled (constants places_from) (2 ^ 31) h.first) (filled (constants places_from) (2 ^ 31 + holes h.first) h.second) (apply even (frozen_from far (name_of h.first)))
+      (apply odd (frozen_from far (name_of h.second)))
+      (ap (λ z. renamed rho symbols_of (filled (constants places_from) z h.first)) first_start ∙ held_to sys foreign row rho (λ k. 2 * k) (2 ^ 31) (holes h.first)
+      (λ j less. woven_first (holes h.first) j less) 0 h.first (omega arith))
       (ap (λ z. renamed rho symbols_of (filled (constants places_from) z h.second)) second_start
       ∙ held_to sys foreign row rho (λ k. 2 * k + 1) (2 ^ 31 + holes h.first) (holes h.second) (λ j less. woven_second (holes h.first) j) 0 h.second (omega arith))
       o h.outcome in
@@ -164,7 +173,8 @@ module _ (sys : System) (foreign row : List ℕ) (sound : IsSystem sys) (foreign
 
   one_large : (t z : Term) → IsKeyed (length sys.arities) foreign row t z → IsCapLarge sys kept z → IsCapLarge sys kept t
   one_large t z keys large =
-      subst (IsCapLarge sys kept) (sym (keyed_renamed (length sys.arities) foreign row t z keys)) (large_named sys foreign row sound foreign_distinct distinct z (keyed_symbols (length sys.arities) foreign row t z keys) large)
+      subst (IsCapLarge sys kept) (sym (keyed_renamed (length sys.arities) foreign row t z keys))
+      (large_named sys foreign row sound foreign_distinct distinct z (keyed_symbols (length sys.arities) foreign row t z keys) large)
 
   pub pair_answers : (r : Result ComparedCaps NoMemory) → FrozenPairAnswers sys (Kept places_from) x y r → PairAnswers sys kept u v r
   pair_answers (Ok Clash) h = pair_clash sys kept u v (pair_outcome clash h)
@@ -231,7 +241,8 @@ module _ (sys : System) (u v : Term) where
   opened_apart (Err e) h = tt
 
 -- the places of a term leave room for constants behind those of its foreign symbols
-pub places_base : (sys : System) (n base : ℕ) (places foreign row : List ℕ) (t u : Term) → n ≡ length sys.arities → base ≡ length sys.arities + length foreign → IsSystem sys → length places ≤ length foreign → length foreign ≤ 2 ^ 30 → length row ≤ 2 ^ 30 → IsKeyed n places row t u
+pub places_base : (sys : System) (n base : ℕ) (places foreign row : List ℕ) (t u : Term) → n ≡ length sys.arities → base ≡ length sys.arities + length foreign → IsSystem sys
+    → length places ≤ length foreign → length foreign ≤ 2 ^ 30 → length row ≤ 2 ^ 30 → IsKeyed n places row t u
     → HasConstants sys (Kept base) u
 places_base sys n base places foreign row t u count is sound within few_foreign few keys =
     record {
@@ -245,10 +256,13 @@ well_formed sys sound zero r e = absurd (cc)
 well_formed sys sound (suc i) r e = (is_rule_at sys.arities sys.rules i r sound.rules e).is_over
 
 -- terms that have got places in the same rows, the first of them before the second
-pub places_answer : (sys : System) (n base : ℕ) (foreign more_foreign row more : List ℕ) (u v x y : Term) (r : Result ComparedCaps NoMemory) → n ≡ length sys.arities → base ≡ length sys.arities + length more_foreign → IsSystem sys → AreDistinct more_foreign → AreDistinct more
+pub places_answer : (sys : System) (n base : ℕ) (foreign more_foreign row more : List ℕ) (u v x y : Term) (r : Result ComparedCaps NoMemory) → n ≡ length sys.arities
+    → base ≡ length sys.arities + length more_foreign → IsSystem sys → AreDistinct more_foreign → AreDistinct more
     → IsFront foreign more_foreign → IsFront row more → IsKeyed n foreign row u x → IsKeyed n more_foreign more v y → FrozenPairAnswers sys (Kept base) x y r → PairAnswers sys kept u v r
 places_answer sys n base foreign more_foreign row more u v x y r count is sound foreign_distinct distinct symbols front first second h =
-    pair_answers sys more_foreign more sound foreign_distinct distinct u v x y (subst (λ z. IsKeyed z more_foreign more u x) count (keyed_grows n foreign more_foreign row more u x symbols front first)) (subst (λ z. IsKeyed z more_foreign more v y) count second) r
+    pair_answers sys more_foreign more sound foreign_distinct distinct u v x y
+    (subst (λ z. IsKeyed z more_foreign more u x) count (keyed_grows n foreign more_foreign row more u x symbols front first))
+    (subst (λ z. IsKeyed z more_foreign more v y) count second) r
     (subst (λ z. FrozenPairAnswers sys (Kept z) x y r) is h)
 
 pub answer_apart : (sys : System) (u v : Term) (r : Result ComparedCaps NoMemory) → IsSystem sys → PairAnswers sys kept u v r → GivesApart sys u v r

@@ -31,7 +31,8 @@ pub record HavePlaces (n : ℕ) (start_foreign foreign start row : List ℕ) (ts
   pub grown : length row ≤ length start + size_all (views (take k ts))
   pub are : AreKeyed n foreign row (views (take k ts)) (views us)
 
-keyed_with : (n : ℕ) (foreign row : List ℕ) (ts us : Terms) (t u : math.Term) → AreKeyed n foreign row ts us → IsKeyed n foreign row t u → AreKeyed n foreign row (append ts (cons t nil)) (append us (cons u nil))
+keyed_with : (n : ℕ) (foreign row : List ℕ) (ts us : Terms) (t u : math.Term) → AreKeyed n foreign row ts us → IsKeyed n foreign row t u
+    → AreKeyed n foreign row (append ts (cons t nil)) (append us (cons u nil))
 keyed_with n foreign row nil us t u e one = subst (λ z. AreKeyed n foreign row (cons t nil) (append z (cons u nil))) (sym e) (u, nil, refl, one, refl)
 keyed_with n foreign row (cons x ts) us t u (v, vs, e, first, rest) one =
     subst (λ z. AreKeyed n foreign row (cons x (append ts (cons t nil))) (append z (cons u nil))) (sym e) (v, append vs (cons u nil), refl, first, keyed_with n foreign row ts vs t u rest one)
@@ -50,7 +51,8 @@ pub record IsPlaced (n : ℕ) (foreign more_foreign row more : List ℕ) (t u : 
   pub grown : length more ≤ length row + size t
   pub is : IsKeyed n more_foreign more t u
 
-pub one_place : (n : ℕ) (start_foreign foreign more_foreign start row more : List ℕ) (ts : List Term) (k : ℕ) (us vs : List Term) (t u : Term) → k < length ts → t ≡ get_or ts k t → HavePlaces n start_foreign foreign start row ts k us
+pub one_place : (n : ℕ) (start_foreign foreign more_foreign start row more : List ℕ) (ts : List Term) (k : ℕ) (us vs : List Term) (t u : Term) → k < length ts → t ≡ get_or ts k t
+    → HavePlaces n start_foreign foreign start row ts k us
     → IsPlaced n foreign more_foreign row more (view t) (view u) → vs ≡ us ++ u ∷ [] → HavePlaces n start_foreign more_foreign start more ts (k + 1) vs
 one_place n start_foreign foreign more_foreign start row more ts k us vs t u h e before one pushed =
     let taken : views (take (k + 1) ts) ≡ append (views (take k ts)) (cons (view t) nil) = ap (λ z. views (take z ts)) (add-one k) ∙ (ap views (take_suc ts k t h e) ∙ views_with (take k ts) t) in
@@ -63,7 +65,8 @@ one_place n start_foreign foreign more_foreign start row more ts k us vs t u h e
       foreign_grown = (let old = before.foreign_grown in let new = one.foreign_grown in omega (arith, sized, old, new));
       grown = (let old = before.grown in let new = one.grown in omega (arith, sized, old, new));
       are = subst₂ (AreKeyed n more_foreign more) (sym taken) (sym (ap views pushed ∙ views_with us u))
-          (keyed_with n more_foreign more (views (take k ts)) (views us) (view t) (view u) (all_keyed_grows n foreign more_foreign row more (views (take k ts)) (views us) one.foreign_front one.front before.are) one.is);
+          (keyed_with n more_foreign more (views (take k ts)) (views us) (view t) (view u)
+          (all_keyed_grows n foreign more_foreign row more (views (take k ts)) (views us) one.foreign_front one.front before.are) one.is);
     }
 
 module _ (t : Term) (f : ℕ) (v : Vec Term Global) (items : List Term) (k : ℕ) (is : t ≡ Fun f v) (same : items ≡ v.items) where
@@ -71,14 +74,16 @@ module _ (t : Term) (f : ℕ) (v : Vec Term Global) (items : List Term) (k : ℕ
   shape = ap view is ∙ (view-Fun f v ∙ ap (λ z. app f (views z)) (sym same))
 
   module _ (n : ℕ) (old_foreign start_foreign foreign start row : List ℕ) (one : length start_foreign ≤ length old_foreign + 1) where
-    pub place_room : (us : List Term) (arg : Term) → k < length items → arg ≡ get_or items k arg → HavePlaces n start_foreign foreign start row items k us → length old_foreign + size (view t) ≤ 2 ^ 31 → length foreign + size (view arg) ≤ 2 ^ 31
+    pub place_room : (us : List Term) (arg : Term) → k < length items → arg ≡ get_or items k arg → HavePlaces n start_foreign foreign start row items k us
+        → length old_foreign + size (view t) ≤ 2 ^ 31 → length foreign + size (view arg) ≤ 2 ^ 31
     place_room us arg h at places room =
         let whole : size (view t) ≡ suc (size_all (views items)) = ap size shape in
         let part = size_take items k arg h at in
         let grown = places.foreign_grown in
         omega (arith, whole, part, grown, one, room)
 
-    pub whole_grown : (us : List Term) → length items ≤ k → HavePlaces n start_foreign foreign start row items k us → (length foreign ≤ length old_foreign + size (view t)) × (length row ≤ length start + size (view t))
+    pub whole_grown : (us : List Term) → length items ≤ k → HavePlaces n start_foreign foreign start row items k us
+        → (length foreign ≤ length old_foreign + size (view t)) × (length row ≤ length start + size (view t))
     whole_grown us h places =
         let whole : size (view t) ≡ suc (size_all (views items)) = ap size shape in
         let all : size_all (views (take k items)) ≡ size_all (views items) = ap (λ z. size_all (views z)) (take_all k items h) in
@@ -86,7 +91,8 @@ module _ (t : Term) (f : ℕ) (v : Vec Term Global) (items : List Term) (k : ℕ
         let variables = places.grown in
         (omega (arith, whole, all, symbols, one), omega (arith, whole, all, variables))
 
-    pub whole_keyed : (w : Vec Term Global) (g : ℕ) → length items ≤ k → HavePlaces n start_foreign foreign start row items k w.items → IsKey n start_foreign f g → IsKeyed n foreign row (view t) (view (Fun g w))
+    pub whole_keyed : (w : Vec Term Global) (g : ℕ) → length items ≤ k → HavePlaces n start_foreign foreign start row items k w.items → IsKey n start_foreign f g
+        → IsKeyed n foreign row (view t) (view (Fun g w))
     whole_keyed w g h places key =
         subst₂ (IsKeyed n foreign row) (sym shape) (sym (view-Fun g w))
         (g, views w.items, refl, key_grows n start_foreign foreign f g places.foreign_front key, subst (λ z. AreKeyed n foreign row (views z) (views w.items)) (take_all k items h) places.are)

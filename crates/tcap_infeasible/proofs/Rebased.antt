@@ -60,7 +60,8 @@ pub first_large : (sys : System) (t : Term) → HasFirstLike sys t too_large →
 first_large sys t (p, e, first) = subst (IsFirstRule sys t) e first
 
 -- a renaming that is one to one, forth and back
-module _ (rho sigma : ℕ → ℕ) (one : (x y : ℕ) → rho x ≡ rho y → x ≡ y) (symbols_one : (f g : ℕ) → sigma f ≡ sigma g → f ≡ g) (x y v w : Term) (first : renamed rho sigma x ≡ v) (second : renamed rho sigma y ≡ w) where
+module _ (rho sigma : ℕ → ℕ) (one : (x y : ℕ) → rho x ≡ rho y → x ≡ y) (symbols_one : (f g : ℕ) → sigma f ≡ sigma g → f ≡ g) (x y v w : Term) (first : renamed rho sigma x ≡ v)
+    (second : renamed rho sigma y ≡ w) where
   pub forth : (o : Outcome) → IsOutcome (cons x nil) (cons y nil) o → IsOutcome (cons v nil) (cons w nil) (renamed_outcome rho sigma o)
   forth o run = subst₂ (λ p q. IsOutcome (cons p nil) (cons q nil) (renamed_outcome rho sigma o)) first second (runs_to rho sigma one symbols_one run)
 
@@ -128,7 +129,8 @@ mutual
   all_raised_filled b d n (caps c cs) h = ap₂ cons (raised_filled b d n c (omega (arith, h))) (all_raised_filled b d (n + holes c) cs (omega (arith, h)))
 
 -- with names for its holes
-pub raised_frozen : (g : ℕ → ℕ) (b base : ℕ) (c : Cap) → past_symbols c ≤ b → b ≤ base → renamed (λ x. x) (raised b (base - b)) (apply (λ k. var (g k)) (frozen_from b c)) ≡ apply (λ k. var (g k)) (frozen_from base c)
+pub raised_frozen : (g : ℕ → ℕ) (b base : ℕ) (c : Cap) → past_symbols c ≤ b → b ≤ base
+    → renamed (λ x. x) (raised b (base - b)) (apply (λ k. var (g k)) (frozen_from b c)) ≡ apply (λ k. var (g k)) (frozen_from base c)
 raised_frozen g b base c h far =
     let e : b + (base - b) ≡ base = omega (arith, far) in
     names_after (raised b (base - b)) g (frozen_from b c) ∙ ap (apply (λ k. var (g k))) (raised_filled b (base - b) 0 c h ∙ ap (λ z. filled (constants z) 0 c) e)
@@ -142,7 +144,9 @@ module _ (sys : System) (l : Term) (over : IsOver sys.arities l) (c : Cap) (base
   cap_raised = raised_frozen (λ k. 2 * k + 1) (past sys c) base c (omega arith) far
 
   pub lowered : (o : Outcome) → HasLike l (frozen_from base c) o → HasLike l (frozen sys c) o
-  lowered o h = back_like (λ x. x) (raised (past sys c) (base - past sys c)) (λ x y e. e) (raised_one (past sys c) (base - past sys c)) (apply even l) (apply odd (frozen sys c)) (apply even l) (apply odd (frozen_from base c)) left_stays cap_raised o h
+  lowered o h = back_like (λ x. x) (raised (past sys c) (base - past sys c)) (λ x y e. e) (raised_one (past sys c) (base - past sys c)) (apply even l) (apply odd (frozen sys c))
+      (apply even l) (apply odd (frozen_from base c)) left_stays cap_raised o h
 
   pub lifted : (o : Outcome) → HasLike l (frozen sys c) o → HasLike l (frozen_from base c) o
-  lifted o h = forth_like (λ x. x) (raised (past sys c) (base - past sys c)) (λ x y e. e) (raised_one (past sys c) (base - past sys c)) (apply even l) (apply odd (frozen sys c)) (apply even l) (apply odd (frozen_from base c)) left_stays cap_raised o h
+  lifted o h = forth_like (λ x. x) (raised (past sys c) (base - past sys c)) (λ x y e. e) (raised_one (past sys c) (base - past sys c)) (apply even l) (apply odd (frozen sys c))
+      (apply even l) (apply odd (frozen_from base c)) left_stays cap_raised o h

@@ -1,5 +1,6 @@
 -- The tries of a root's rules, as the program makes them.
-use Rattle.std.proofs.Common.{ℕ, zero, suc, ◌≡◌, ◌+◌, ◌-◌, ◌<◌, ◌≤◌, ◌↔◌, Bool, false, true, IsTrue, IsSome, List, [], ◌∷◌, map, length, drop, get_or, Some, refl, sym, ap, ◌∙◌, subst, arith, slice_get, add-one}
+use Rattle.std.proofs.Common.{ℕ, zero, suc, ◌≡◌, ◌+◌, ◌-◌, ◌<◌, ◌≤◌, ◌↔◌, Bool, false, true, IsTrue, IsSome, List, [], ◌∷◌, map, length, drop, get_or, Some, refl, sym, ap, ◌∙◌}
+use Rattle.std.proofs.Common.{subst, arith, slice_get, add-one}
 use Rattle.std.proofs.Math.Seq.{drop-cons}
 use Rattle.std.proofs.lemmas.List.{length-map}
 use Rattle.rewriting.specs.Prelude.{Term, cons, nil, Fits, occurs, IsLinear, IsDisjoint, System, rule_at, IsSystem}
@@ -40,7 +41,8 @@ module _ (sys : System) (f : ℕ) (t : Term) (numbers : List ℕ) (k : ℕ) (sou
       let l : length sys.rules ≡ length rules = ap length (sym same) ∙ simp length-map in
       omega (arith, e, w, l)
 
-  at_place : (rules : List Rule) (d : Rule) → map rule_view rules ≡ sys.rules → (n : Next sys f t (get_or numbers k 0) (drop (suc k) numbers)) → n.rule ≡ rule_view (get_or rules (get_or numbers k 0 - 1) d)
+  at_place : (rules : List Rule) (d : Rule) → map rule_view rules ≡ sys.rules → (n : Next sys f t (get_or numbers k 0) (drop (suc k) numbers))
+      → n.rule ≡ rule_view (get_or rules (get_or numbers k 0 - 1) d)
   at_place rules d same n =
       let before : n.passed ≡ get_or numbers k 0 - 1 = (let i = n.number_is in omega (arith, i)) in
       let w = within sys.rules n.passed n.rule n.is_rule in
@@ -80,7 +82,9 @@ module _ (sys : System) (f : ℕ) (t : Term) (numbers : List ℕ) (k : ℕ) (sou
       record {
         passed = get_or numbers k 0;
         rest = rw add-one next.rest_is;
-        clash = λ n c held. subst (AreBefore sys (frozen sys c)) (sym next.number_is) (one_more sys (frozen sys c) next.passed next.rule next.is_rule (clash_like next.rule.left (frozen sys c) (outcome_at rules d clash same next run n c held)) (next.clash n c held));
+        clash = λ n c held. subst (AreBefore sys (frozen sys c)) (sym next.number_is)
+            (one_more sys (frozen sys c) next.passed next.rule next.is_rule
+            (clash_like next.rule.left (frozen sys c) (outcome_at rules d clash same next run n c held)) (next.clash n c held));
       }
 
   -- the rule's number, and what its left side has
@@ -101,5 +105,6 @@ module _ (sys : System) (f : ℕ) (t : Term) (numbers : List ℕ) (k : ℕ) (sou
       → IsDisjoint (view (get_or rules (get_or numbers k 0 - 1) d).left) (cons t nil)
   left_apart rules d same tried h n c held x o p =
       let next = following tried h in
-      let small = left_small sys.arities next.rule (is_rule_at sys.arities sys.rules next.passed next.rule sound.rules next.is_rule) x (subst (λ z. occurs x z.left ≡ true) (sym (at_place rules d same next)) o) in
+      let small = left_small sys.arities next.rule (is_rule_at sys.arities sys.rules next.passed next.rule sound.rules next.is_rule) x
+      (subst (λ z. occurs x z.left ≡ true) (sym (at_place rules d same next)) o) in
       or_cases (occurs x t) false p (λ q. (let large = held_from sys f t n c held x q in omega (arith, small, large))) (λ q. absurd (cc))

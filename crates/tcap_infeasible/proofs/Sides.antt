@@ -55,7 +55,8 @@ taken_lefts (c ∷ cs) zero fit = omega arith
 taken_lefts (c ∷ cs) (suc k) fit = let one = fit.0.nodes in let rest = taken_lefts cs k fit.2 in omega (arith, one, rest)
 
 -- there are numbers for the holes of one more left side
-pub left_room : (sys : System) (cs : List Cond) (k : ℕ) (c : Cond) (us : List Term) (next : ℕ) → length cs ≤ 200 → k < length cs → c ≡ get_or cs k c → DoConditionsFit (map condition_view cs) → AreCapped sys Hole (lefts cs) k us (2 ^ 31) next
+pub left_room : (sys : System) (cs : List Cond) (k : ℕ) (c : Cond) (us : List Term) (next : ℕ) → length cs ≤ 200 → k < length cs → c ≡ get_or cs k c
+    → DoConditionsFit (map condition_view cs) → AreCapped sys Hole (lefts cs) k us (2 ^ 31) next
     → next + size (view c.left) < 2 ^ 32
 left_room sys cs k c us next few h e fit capped =
     let taken = capped_room sys Hole (lefts cs) k us (2 ^ 31) next capped in
@@ -72,7 +73,8 @@ right_place cs k h = let e : length (rights cs) ≡ length cs = simp length-map 
 pub left_large : (sys : System) (cs : List Cond) (k : ℕ) (c : Cond) → k < length cs → c ≡ get_or cs k c → IsCapLarge sys any (view c.left) → AreCapsLarge sys any (left_sides (map condition_view cs))
 left_large sys cs k c h e large = subst (AreCapsLarge sys any) (views_lefts cs) (large_at sys any (lefts cs) k c.left (place cs k h) (left_at cs k c h e) large)
 
-pub lefts_are : (sys : System) (cs : List Cond) (k : ℕ) (us : List Term) (next : ℕ) → length cs ≤ k → (capped : AreCapped sys Hole (lefts cs) k us (2 ^ 31) next) → AreCapsOf sys any (left_sides (map condition_view cs)) capped.shapes
+pub lefts_are : (sys : System) (cs : List Cond) (k : ℕ) (us : List Term) (next : ℕ) → length cs ≤ k → (capped : AreCapped sys Hole (lefts cs) k us (2 ^ 31) next)
+    → AreCapsOf sys any (left_sides (map condition_view cs)) capped.shapes
 lefts_are sys cs k us next h capped =
     let e : length (lefts cs) ≡ length cs = simp length-map in
     subst (λ z. AreCapsOf sys any z capped.shapes) (ap views (take_all k (lefts cs) (omega (arith, e, h))) ∙ views_lefts cs) capped.are
@@ -83,16 +85,19 @@ pub record Numbered (cs : List Cond) (k : ℕ) (row : List ℕ) (us : List Term)
   pub few : length row ≤ 10000 * k
   pub are : AreNumbered row (views (take k (rights cs))) (views us)
 
-pub one_numbered : (cs : List Cond) (k : ℕ) (row more : List ℕ) (us vs : List Term) (c : Cond) (u : Term) → k < length cs → c ≡ get_or cs k c → DoConditionsFit (map condition_view cs) → Numbered cs k row us
+pub one_numbered : (cs : List Cond) (k : ℕ) (row more : List ℕ) (us vs : List Term) (c : Cond) (u : Term) → k < length cs → c ≡ get_or cs k c
+    → DoConditionsFit (map condition_view cs) → Numbered cs k row us
     → more ≡ with_variables row (view c.right) → IsFront row more → AreDistinct more → IsNumbered more (view c.right) (view u) → vs ≡ us ++ u ∷ [] → Numbered cs (k + 1) more vs
 one_numbered cs k row more us vs c u h e fit before grown front distinct one pushed =
     record {
       distinct = distinct;
-      few = (let size_one = (right_fits cs k c h e fit).nodes in let old = before.few in let l : length more ≡ length (with_variables row (view c.right)) = ap length grown in let g = variables_length row (view c.right) in omega (arith, size_one, old, l, g));
+      few = (let size_one = (right_fits cs k c h e fit).nodes in let old = before.few in let l : length more ≡ length (with_variables row (view c.right)) = ap length grown in
+          let g = variables_length row (view c.right) in omega (arith, size_one, old, l, g));
       are = numbered_more row more (rights cs) us vs k c.right u (right_place cs k h) (right_at cs k c h e) front before.are one pushed;
     }
 
-pub all_numbered : (cs : List Cond) (k : ℕ) (row : List ℕ) (us : List Term) → length cs ≤ 200 → k ≤ length cs → length cs ≤ k → Numbered cs k row us → HaveRow (right_sides (map condition_view cs)) (views us)
+pub all_numbered : (cs : List Cond) (k : ℕ) (row : List ℕ) (us : List Term) → length cs ≤ 200 → k ≤ length cs → length cs ≤ k → Numbered cs k row us
+    → HaveRow (right_sides (map condition_view cs)) (views us)
 all_numbered cs k row us few within h n =
     let e : length (rights cs) ≡ length cs = simp length-map in
     let whole : views (take k (rights cs)) ≡ right_sides (map condition_view cs) = ap views (take_all k (rights cs) (omega (arith, e, h))) ∙ views_rights cs in

@@ -51,7 +51,8 @@ module _ (fresh : ℕ) (ts us : List Term) (k : ℕ) (out : List Term) where
     where
       go : (k < length us) ⊎ (length us ≤ k) → k < length us
       go (inl l) = l
-      go (inr l) = absurd (no_term_lies fresh (view t) (views (drop (k + 1) ts)) (views (drop k us)) (views-drop_all us k l) (subst (λ z. LieOn fresh z (views (drop k us))) (views-drop ts k t h e) all.lie))
+      go (inr l) = absurd (no_term_lies fresh (view t) (views (drop (k + 1) ts)) (views (drop k us)) (views-drop_all us k l)
+          (subst (λ z. LieOn fresh z (views (drop k us))) (views-drop ts k t h e) all.lie))
 
   module _ (t u : Term) (h : k < length ts) (e : t ≡ get_or ts k t) (l : k < length us) (d : u ≡ get_or us k u) (all : AreThawed fresh ts us k out) where
     both : LiesOn fresh (view t) (view u) × LieOn fresh (views (drop (k + 1) ts)) (views (drop (k + 1) us))
@@ -70,9 +71,11 @@ module _ (fresh : ℕ) (ts us : List Term) (k : ℕ) (out : List Term) where
               ∙ (sym (ap₂ (λ x y. append (views out) (all_thawed fresh x y)) (views-drop ts k t h e) (views-drop us k u l d)) ∙ all.value)));
         }
 
-pub whole_thawed : (fresh : ℕ) (t u : Term) (f g : ℕ) (v w : Vec Term Global) (k : ℕ) (out : Vec Term Global) → t ≡ Fun f v → u ≡ Fun g w → length v.items ≤ k → AreThawed fresh v.items w.items k out.items → view (Fun f out) ≡ thawed fresh (view t) (view u)
+pub whole_thawed : (fresh : ℕ) (t u : Term) (f g : ℕ) (v w : Vec Term Global) (k : ℕ) (out : Vec Term Global) → t ≡ Fun f v → u ≡ Fun g w → length v.items ≤ k
+    → AreThawed fresh v.items w.items k out.items → view (Fun f out) ≡ thawed fresh (view t) (view u)
 whole_thawed fresh t u f g v w k out is at h all =
-    let left : append (views out.items) nil ≡ all_thawed fresh (views v.items) (views w.items) = sym (ap (λ z. append (views out.items) (all_thawed fresh z (views (drop k w.items)))) (views-drop_all v.items k h)) ∙ all.value in
+    let left : append (views out.items) nil ≡ all_thawed fresh (views v.items) (views w.items) = sym
+    (ap (λ z. append (views out.items) (all_thawed fresh z (views (drop k w.items)))) (views-drop_all v.items k h)) ∙ all.value in
     view-Fun f out ∙ (ap (app f) (sym (append-nil (views out.items)) ∙ left) ∙ sym (ap₂ (thawed fresh) (ap view is ∙ view-Fun f v) (ap view at ∙ view-Fun g w)))
 
 -- the whole cap, thawed
@@ -85,7 +88,8 @@ cap_thaws sys fresh t u n m w e room (c, is, shown, counted) same =
     let thaws = any_thaws sys fresh (size t) room t c 0 is (omega (arith, few)) in
     subst (LiesOn fresh t) (sym (same ∙ (shown ∙ ap (λ z. filled var z c) (e ∙ start)))) thaws.lies
 
-pub cap_answers : (sys : System) (fresh : ℕ) (t : math.Term) (n m : ℕ) (w v : Term) → n ≡ 2 ^ 31 → fresh + size t ≤ 2 ^ 32 → FrozenAnswers sys Hole t n m (Ok (Capped w)) → view v ≡ thawed fresh t (view w) → CapAnswers sys any var t fresh (Ok (Capped v))
+pub cap_answers : (sys : System) (fresh : ℕ) (t : math.Term) (n m : ℕ) (w v : Term) → n ≡ 2 ^ 31 → fresh + size t ≤ 2 ^ 32 → FrozenAnswers sys Hole t n m (Ok (Capped w))
+    → view v ≡ thawed fresh t (view w) → CapAnswers sys any var t fresh (Ok (Capped v))
 cap_answers sys fresh t n m w v e room (c, is, shown, counted) value =
     let few = (cap_small sys Hole t c 0 is).few in
     let thaws = any_thaws sys fresh (size t) room t c 0 is (omega (arith, few)) in
@@ -97,8 +101,10 @@ keeps_reducts sys t fresh (Ok (Capped u)) (c, is, shown) = λ s w reaches. (let 
 keeps_reducts sys t fresh (Ok TooLarge) h = tt
 keeps_reducts sys t fresh (Err e) h = tt
 
-pub keeps_own_reducts : (sys : System) (t : math.Term) (fresh : ℕ) (r : Result Cap NoMemory) → IsSystem sys → ((x : ℕ) → occurs x t ≡ true → x < fresh) → CapAnswers sys kept var t fresh r → KeepsOwnReducts sys t fresh r
-keeps_own_reducts sys t fresh (Ok (Capped u)) sound below (c, is, shown) = λ w reaches. subst (λ z. IsReductOf fresh z w) (sym shown) (rigid_reducts sys t c fresh w (well_formed sys sound) is below reaches)
+pub keeps_own_reducts : (sys : System) (t : math.Term) (fresh : ℕ) (r : Result Cap NoMemory) → IsSystem sys → ((x : ℕ) → occurs x t ≡ true → x < fresh)
+    → CapAnswers sys kept var t fresh r → KeepsOwnReducts sys t fresh r
+keeps_own_reducts sys t fresh (Ok (Capped u)) sound below (c, is, shown) = λ w reaches. subst (λ z. IsReductOf fresh z w) (sym shown)
+    (rigid_reducts sys t c fresh w (well_formed sys sound) is below reaches)
 keeps_own_reducts sys t fresh (Ok TooLarge) sound below h = tt
 keeps_own_reducts sys t fresh (Err e) sound below h = tt
 
@@ -130,10 +136,12 @@ module _ (sys : System) (base fresh : ℕ) (t p : math.Term) (sound : IsSystem s
   rigid_answers n m w v e (c, is, shown, counted) value =
       let zero_more : fresh + 0 ≡ fresh = omega arith in (
         name c,
-        subst (λ z. IsCapOf sys kept z (name c)) (sym (keyed_renamed (length sys.arities) places.foreign places.row t p places.keyed)) (cap_named sys places.foreign places.row sound places.foreign_distinct places.distinct p c low is),
+        subst (λ z. IsCapOf sys kept z (name c)) (sym (keyed_renamed (length sys.arities) places.foreign places.row t p places.keyed))
+            (cap_named sys places.foreign places.row sound places.foreign_distinct places.distinct p c low is),
         value ∙ (ap (thawed fresh t) (shown ∙ at_base n c e) ∙ ((cap_lies c is).value ∙ ap (λ z. filled var z (name c)) zero_more)),
       )
 
   pub rigid_large : IsCapLarge sys kept p → IsCapLarge sys kept t
   rigid_large h =
-      subst (IsCapLarge sys kept) (sym (keyed_renamed (length sys.arities) places.foreign places.row t p places.keyed)) (large_named sys places.foreign places.row sound places.foreign_distinct places.distinct p low h)
+      subst (IsCapLarge sys kept) (sym (keyed_renamed (length sys.arities) places.foreign places.row t p places.keyed))
+      (large_named sys places.foreign places.row sound places.foreign_distinct places.distinct p low h)

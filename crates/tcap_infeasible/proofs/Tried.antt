@@ -1,5 +1,6 @@
 -- The rules tried on a term: those of its root symbol in order; all others clash at once.
-use Rattle.std.proofs.Common.{ℕ, zero, suc, ◌≡◌, ◌+◌, ◌-◌, ◌*◌, ◌^◌, ◌<◌, ◌≤◌, ◌⊎◌, inl, inr, Bool, true, false, nat_lt, if◌then◌else◌, List, [], ◌∷◌, length, drop, Some, refl, sym, ap, ap₂, ◌∙◌, subst, subst₂, arith, slice_get, eq-eqb, eqb-true}
+use Rattle.std.proofs.Common.{ℕ, zero, suc, ◌≡◌, ◌+◌, ◌-◌, ◌*◌, ◌^◌, ◌<◌, ◌≤◌, ◌⊎◌, inl, inr, Bool, true, false, nat_lt, if◌then◌else◌, List, [], ◌∷◌, length, drop, Some, refl}
+use Rattle.std.proofs.Common.{sym, ap, ap₂, ◌∙◌, subst, subst₂, arith, slice_get, eq-eqb, eqb-true}
 use Rattle.std.proofs.lemmas.Bool.{false≢true, ltb-true, lt-ltb, or_left}
 use Rattle.general_lemmas.proofs.Numbers.{le_or_next}
 use Rattle.rewriting.specs.Prelude.{Term, Terms, var, app, nil, cons, IsVariable, Fits, apply, apply_all, even, odd, occurs, Signature, Rule, System, rule_at, terms_of_rule, rule_variables}
@@ -63,10 +64,12 @@ mutual
       ap₂ cons (held_split base n j c) (ap (λ z. apply_all (names (split n)) (all_filled (constants base) z cs)) e ∙ all_held_split base n (j + holes c) cs))
 
 -- the outcome of a run on a held cap is of the kind of that on the frozen cap
-pub outcome_of : (sys : System) (r : Rule) (f : ℕ) (t : Term) (n : ℕ) (c : Cap) (o : Outcome) → IsRule sys.arities r → IsHeld sys f t n c → IsOutcome (cons r.left nil) (cons t nil) o → HasLike r.left (frozen sys c) o
+pub outcome_of : (sys : System) (r : Rule) (f : ℕ) (t : Term) (n : ℕ) (c : Cap) (o : Outcome) → IsRule sys.arities r → IsHeld sys f t n c
+    → IsOutcome (cons r.left nil) (cons t nil) o → HasLike r.left (frozen sys c) o
 outcome_of sys r f t n c o is held run =
     let zero_more : n ≡ n + 0 = omega arith in
-    let shown : apply (names (split n)) t ≡ apply odd (frozen_from held.base c) = ap (apply (names (split n))) (held.shown ∙ ap (λ z. filled (constants held.base) z c) zero_more) ∙ held_split held.base n 0 c in
+    let shown : apply (names (split n)) t ≡ apply odd (frozen_from held.base c) = ap (apply (names (split n))) (held.shown ∙ ap (λ z. filled (constants held.base) z c) zero_more)
+    ∙ held_split held.base n 0 c in
     let on_base : IsOutcomeOf r.left (frozen_from held.base c) (renamed_outcome (split n) stays o) =
     subst₂ (λ x y. IsOutcome (cons x nil) (cons y nil) (renamed_outcome (split n) stays o)) (left_split sys.arities r n is held.low) shown (runs_with_names (split n) (split_one n) run) in
     lowered sys r.left is.is_over.over.0 c held.base held.far o (renamed_outcome (split n) stays o, alike_renamed (split n) stays o, on_base)
@@ -155,7 +158,8 @@ next sys f t number rest sound (q ∷ qs) n left e before =
     after = (drop_next sys.rules n q qs left).1
 
     go : (b : Bool) → has_root f q.left ≡ b
-        → (drop (suc n) sys.rules ≡ qs → number ∷ rest ≡ numbers_with_root f (suc (suc n)) qs → ((m : ℕ) (c : Cap) → IsHeld sys f t m c → AreBefore sys (frozen sys c) (suc n)) → Next sys f t number rest)
+        → (drop (suc n) sys.rules ≡ qs → number ∷ rest ≡ numbers_with_root f (suc (suc n)) qs
+        → ((m : ℕ) (c : Cap) → IsHeld sys f t m c → AreBefore sys (frozen sys c) (suc n)) → Next sys f t number rest)
         → Next sys f t number rest
     go true h later =
         (let whole : number ∷ rest ≡ suc n ∷ numbers_with_root f (suc (suc n)) qs = rw h at e in
@@ -173,7 +177,8 @@ next sys f t number rest sound (q ∷ qs) n left e before =
         (let whole : number ∷ rest ≡ numbers_with_root f (suc (suc n)) qs = rw h at e in
         later after whole (λ m c held. one_more sys (frozen sys c) n q at (other_clash sys q f t m c (is_rule_at sys.arities sys.rules n q sound.rules at) held h) (before m c held)))
 
-none_left : (sys : System) (f : ℕ) (t : Term) → IsSystem sys → (qs : List Rule) (n : ℕ) → drop n sys.rules ≡ qs → [] ≡ numbers_with_root f (suc n) qs → (m : ℕ) (c : Cap) → IsHeld sys f t m c → AreBefore sys (frozen sys c) n → DoRulesClash sys (frozen sys c)
+none_left : (sys : System) (f : ℕ) (t : Term) → IsSystem sys → (qs : List Rule) (n : ℕ) → drop n sys.rules ≡ qs → [] ≡ numbers_with_root f (suc n) qs → (m : ℕ) (c : Cap)
+    → IsHeld sys f t m c → AreBefore sys (frozen sys c) n → DoRulesClash sys (frozen sys c)
 none_left sys f t sound [] n left e m c held before = all_before sys (frozen sys c) n (past sys.rules n left) before
   where
     past : (rs : List Rule) (k : ℕ) → drop k rs ≡ [] → length rs ≤ k
@@ -197,8 +202,10 @@ none_left sys f t sound (q ∷ qs) n left e m c held before =
 pub tried_none : (sys : System) (f : ℕ) (t : Term) (numbers : List ℕ) → numbers ≡ rules_with_root sys f → Tried sys f t numbers 0
 tried_none sys f t numbers e = record { passed = 0; rest = e; clash = λ n c held. none_before sys (frozen sys c) }
 
-pub tried_next : (sys : System) (f : ℕ) (t : Term) (numbers : List ℕ) (k number : ℕ) → IsSystem sys → Tried sys f t numbers k → drop k numbers ≡ number ∷ drop (suc k) numbers → Next sys f t number (drop (suc k) numbers)
+pub tried_next : (sys : System) (f : ℕ) (t : Term) (numbers : List ℕ) (k number : ℕ) → IsSystem sys → Tried sys f t numbers k → drop k numbers ≡ number ∷ drop (suc k) numbers
+    → Next sys f t number (drop (suc k) numbers)
 tried_next sys f t numbers k number sound tried e = next sys f t number (drop (suc k) numbers) sound (drop tried.passed sys.rules) tried.passed refl (sym e ∙ tried.rest) tried.clash
 
-pub tried_all : (sys : System) (f : ℕ) (t : Term) (numbers : List ℕ) (k : ℕ) → IsSystem sys → Tried sys f t numbers k → drop k numbers ≡ [] → (n : ℕ) (c : Cap) → IsHeld sys f t n c → DoRulesClash sys (frozen sys c)
+pub tried_all : (sys : System) (f : ℕ) (t : Term) (numbers : List ℕ) (k : ℕ) → IsSystem sys → Tried sys f t numbers k → drop k numbers ≡ [] → (n : ℕ) (c : Cap) → IsHeld sys f t n c
+    → DoRulesClash sys (frozen sys c)
 tried_all sys f t numbers k sound tried e n c held = none_left sys f t sound (drop tried.passed sys.rules) tried.passed refl (sym e ∙ tried.rest) n c held (tried.clash n c held)

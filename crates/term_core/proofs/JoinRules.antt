@@ -1,5 +1,6 @@
 -- Join rules: what fits below one symbol, and that their oriented system is one.
-use Rattle.std.proofs.Common.{◌≡◌, ◌<◌, ◌≤◌, ◌+◌, ◌-◌, ◌^◌, ◌⊎◌, inl, inr, Option, None, IfSome, IfNone, is_some, IsTrue, ℕ, zero, suc, max, List, [], ◌∷◌, ◌++◌, append_assoc, map, length, take, drop, get_or, refl, sym, ap, ap₂, ◌∙◌, subst, arith, add-one, zero-add, Some}
+use Rattle.std.proofs.Common.{◌≡◌, ◌<◌, ◌≤◌, ◌+◌, ◌-◌, ◌^◌, ◌⊎◌, inl, inr, Option, None, IfSome, IfNone, is_some, IsTrue, ℕ, zero, suc, max, List, [], ◌∷◌, ◌++◌, append_assoc, map}
+use Rattle.std.proofs.Common.{length, take, drop, get_or, refl, sym, ap, ap₂, ◌∙◌, subst, arith, add-one, zero-add, Some}
 use Rattle.std.proofs.lemmas.List.{length-map}
 use Rattle.std.proofs.Math.Nat.{le-max_left, le-max_right, max-le}
 use Rattle.rewriting.specs.Prelude.{size, depth, System, system_of, Signature, IsSystem, condition_count, rule_variables}

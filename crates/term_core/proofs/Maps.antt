@@ -30,7 +30,8 @@ pub bound : (m n : BTreeMap ℕ Term) (k : ℕ) (v : Term) → ((q : ℕ) → ge
 bound m n k v is =
     same_map nat_cmp_total nat_cmp-IsAntisymmetric _ _
     (λ q. sym (get-bindings_of n.entries q) ∙ ap (option_map view) (is q)
-    ∙ viewed (is_at (nat_cmp k) q) (eq_by_cmp nat_cmp q k) v _ _ ((eq_by_cmp_equiv nat_cmp_total).symm k q) (get-bindings_of m.entries q) ∙ sym (get-insert nat_cmp_total (bindings_of m.entries) k (view v) q))
+    ∙ viewed (is_at (nat_cmp k) q) (eq_by_cmp nat_cmp q k) v _ _ ((eq_by_cmp_equiv nat_cmp_total).symm k q) (get-bindings_of m.entries q)
+    ∙ sym (get-insert nat_cmp_total (bindings_of m.entries) k (view v) q))
 
 gone : (a b : Bool) (o : Option Term) (p : Option math.Term) → a ≡ b → option_map view o ≡ p → option_map view (cond a None o) ≡ cond b None p
 gone true true o p e h = refl

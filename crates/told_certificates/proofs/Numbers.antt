@@ -14,7 +14,8 @@ sound_at arities (q ∷ rs) zero d good counted l = record { rule = good.0; coun
 sound_at arities (q ∷ rs) (suc i) d good counted l = sound_at arities rs i d good.1 counted.1 (omega (arith, l))
 
 -- what `get` on the rules gives
-pub sound_got : (sys : System) (rs : List program.Rule) (i : ℕ) (o : Option (Bor program.Rule)) → IsSystem sys → map rule_view rs ≡ sys.rules → AreCounted rs → is_some o ≡ ltb i (length rs) → IfSome o (λ x. x.now ≡ get_or rs i x.now) → IfSome o (λ x. IsOfSystem x.now)
+pub sound_got : (sys : System) (rs : List program.Rule) (i : ℕ) (o : Option (Bor program.Rule)) → IsSystem sys → map rule_view rs ≡ sys.rules → AreCounted rs
+    → is_some o ≡ ltb i (length rs) → IfSome o (λ x. x.now ≡ get_or rs i x.now) → IfSome o (λ x. IsOfSystem x.now)
 sound_got sys rs i None good same counted out e = tt
 sound_got sys rs i (Some x) good same counted in_range e = (
   sys.arities,

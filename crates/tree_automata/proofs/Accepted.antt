@@ -1,5 +1,6 @@
 -- Accepted states, marks, and the states 0.
-use Rattle.std.proofs.Common.{◌≡◌, ◌↔◌, ℕ, zero, suc, ◌+◌, ◌<◌, ◌≤◌, ◌⊎◌, inl, inr, ⊎_elim, Bool, true, List, [], ◌∷◌, length, get_or, slice_get, take, replicate, Option, Some, IsTrue, Bor, refl, ap, sym, subst, ◌∙◌, arith}
+use Rattle.std.proofs.Common.{◌≡◌, ◌↔◌, ℕ, zero, suc, ◌+◌, ◌<◌, ◌≤◌, ◌⊎◌, inl, inr, ⊎_elim, Bool, true, List, [], ◌∷◌, length, get_or, slice_get, take, replicate, Option, Some}
+use Rattle.std.proofs.Common.{IsTrue, Bor, refl, ap, sym, subst, ◌∙◌, arith}
 use Rattle.std.proofs.Math.ListN.{set}
 use Rattle.std.specs.List.{filter}
 use Rattle.std.proofs.lemmas.Bool.{cases_lt}
@@ -27,7 +28,12 @@ use Rattle.tree_automata.proofs.Lists.{in_front}
 -- one of the listed states is related to some number
 module _ (a : Automaton) (r : NumberRelation) (listed : List ℕ) (same : listed ≡ a.accepting) (i : ℕ) where
   pub accepting_here : i < length listed → get_or listed i 0 < a.states → ((k : ℕ) × Relates r (get_or listed i 0) k) → IsOneAccepting a r
-  accepting_here inside low (k, there) = (get_or listed i 0, k, there, (contained_among _ a.accepting (subst (IsAmong (get_or listed i 0)) same (among_at listed i 0 (get_or listed i 0) inside refl)), low))
+  accepting_here inside low (k, there) = (
+    get_or listed i 0,
+    k,
+    there,
+    (contained_among _ a.accepting (subst (IsAmong (get_or listed i 0)) same (among_at listed i 0 (get_or listed i 0) inside refl)), low),
+  )
 
   pub none_more : i < length listed → ((q k : ℕ) → IsAmong q (take i listed) → q < a.states → Relates r q k → ⊥) → (get_or listed i 0 < a.states → ((k : ℕ) × Relates r (get_or listed i 0) k) → ⊥)
       → (q k : ℕ) → IsAmong q (take (i + 1) listed) → q < a.states → Relates r q k → ⊥
@@ -65,7 +71,8 @@ module _ (a : Indexed) (f n : ℕ) (refs : List (Bor cert.Transition)) (is : poi
       front t (subst (λ (l : List (Bor cert.Transition)). IsAmong t (pointed l)) (sym (take_all i refs past)) there) refl refl
 
 -- the symbols below a number, one more at a time
-pub zeros_more : (arities items : List ℕ) (M : Moves) (i : ℕ) → items ≡ arities → M (Some i) (replicate (get_or items i 0) 0) 0 → ((g n : ℕ) → g < i → slice_get arities g ≡ Some n → M (Some g) (replicate n 0) 0)
+pub zeros_more : (arities items : List ℕ) (M : Moves) (i : ℕ) → items ≡ arities → M (Some i) (replicate (get_or items i 0) 0) 0
+    → ((g n : ℕ) → g < i → slice_get arities g ≡ Some n → M (Some g) (replicate n 0) 0)
     → (g n : ℕ) → g < i + 1 → slice_get arities g ≡ Some n → M (Some g) (replicate n 0) 0
 zeros_more arities items M i same here front g n l e =
     ⊎_elim (λ (h : g < i). front g n h e)
@@ -128,7 +135,8 @@ accepted_is a i t r b same all one =
       λ (q, acc, run). one.1 (q, 0, (own q 0).1 (refl, run.1), acc),
     )
 
-pub marks_are : (a : Automaton) (i : Indexed) (t : Term) (r : NumberRelation) (marks : List Bool) → i.automaton ≡ a → AreFrom0 i t r → ((q : ℕ) → q < length marks → IsMarked marks q ↔ ((k : ℕ) × Relates r q k)) → length marks ≡ a.states
+pub marks_are : (a : Automaton) (i : Indexed) (t : Term) (r : NumberRelation) (marks : List Bool) → i.automaton ≡ a → AreFrom0 i t r
+    → ((q : ℕ) → q < length marks → IsMarked marks q ↔ ((k : ℕ) × Relates r q k)) → length marks ≡ a.states
     → (q : ℕ) → q < a.states → IsMarked marks q ↔ RunsFrom0 i.symbols a t q
 marks_are a i t r marks same all marked long q low =
     let own : AreFrom0 (record { symbols = i.symbols; automaton = a }) t r = subst (λ (x : Automaton). AreFrom0 (record { symbols = i.symbols; automaton = x }) t r) same all in

@@ -79,7 +79,8 @@ module _ (a : Indexed) (t : Term) (P : List ℕ → ℕ → Type 0) where
         unfolding own
         is_own = failure.is
 
-        earlier_behind : (ds tail : List ℕ) (p k : ℕ) → ds ≡ first ++ tail → slice_get c.tails k ≡ Some tail → ReachBy (Finds a) t ds p → IsArrivalBefore (ds, p) (cs, q) → (k ≡ failure.number) ⊎ ((k < failure.number) ⊎ (failure.number < k)) → P ds p
+        earlier_behind : (ds tail : List ℕ) (p k : ℕ) → ds ≡ first ++ tail → slice_get c.tails k ≡ Some tail → ReachBy (Finds a) t ds p → IsArrivalBefore (ds, p) (cs, q)
+            → (k ≡ failure.number) ⊎ ((k < failure.number) ⊎ (failure.number < k)) → P ds p
         earlier_behind ds tail p k is at reach before order = by order before
           where
             choice : choice_of (batch_at c first) k ≡ ds
@@ -96,10 +97,13 @@ module _ (a : Indexed) (t : Term) (P : List ℕ → ℕ → Type 0) where
             by (inl e) (inr (f, less)) = earlier (inr (e, less))
             by (inr (inl l)) before = earlier (inl l)
             by (inr (inr l)) before =
-                let later : IsBefore cs ds = subst (λ (l : List ℕ). IsBefore l ds) (sym is_own) (subst (IsBefore (first ++ own)) (sym is) (before_behind first own tail (pair_at IsBefore c.tails failure.number k own tail choices.tails_ordered l own_at at))) in
+                let later : IsBefore cs ds = subst (λ (l : List ℕ). IsBefore l ds) (sym is_own)
+                (subst (IsBefore (first ++ own)) (sym is) (before_behind first own tail (pair_at IsBefore c.tails failure.number k own tail choices.tails_ordered l own_at at)))
+                in
                 absurd (not_before cs ds later (⊎_elim (λ (less : IsBefore ds cs). inr less) (λ x. inl x.0) before))
 
-        earlier_at : (ds front tail : List ℕ) (p j : ℕ) → ds ≡ front ++ tail → slice_get c.fronts j ≡ Some front → IsAmong tail c.tails → ReachBy (Finds a) t ds p → IsArrivalBefore (ds, p) (cs, q) → (j ≡ n) ⊎ ((j < n) ⊎ (n < j)) → P ds p
+        earlier_at : (ds front tail : List ℕ) (p j : ℕ) → ds ≡ front ++ tail → slice_get c.fronts j ≡ Some front → IsAmong tail c.tails → ReachBy (Finds a) t ds p
+            → IsArrivalBefore (ds, p) (cs, q) → (j ≡ n) ⊎ ((j < n) ⊎ (n < j)) → P ds p
         earlier_at ds front tail p j is at i reach less (inl e) =
             let k = among_place tail c.tails i in
             earlier_behind ds tail p k.0 (is ∙ ap (λ (l : List ℕ). l ++ tail) (same_front j front e at)) k.1 reach less (cases_order k.0 failure.number)
@@ -109,7 +113,8 @@ module _ (a : Indexed) (t : Term) (P : List ℕ → ℕ → Type 0) where
             let two = choices.long front (place_among c.fronts j front at) in
             let long : length first ≡ length front = omega arith in
             let later : IsBefore cs ds =
-            subst (λ (l : List ℕ). IsBefore l ds) (sym is_own) (subst (IsBefore (first ++ own)) (sym is) (before_fronts first front own tail long (pair_at IsBefore c.fronts n j first front choices.fronts_ordered l here at))) in
+            subst (λ (l : List ℕ). IsBefore l ds) (sym is_own)
+            (subst (IsBefore (first ++ own)) (sym is) (before_fronts first front own tail long (pair_at IsBefore c.fronts n j first front choices.fronts_ordered l here at))) in
             absurd (not_before cs ds later (⊎_elim (λ (k : IsBefore ds cs). inr k) (λ x. inl x.0) less))
 
         first_failure : IsFirstFailure a t P cs q

@@ -23,7 +23,8 @@ state_behind (y ∷ ys) [] [] tail x long none = refl
 state_behind (y ∷ ys) [] (d ∷ g) tail x long none = absurd (omega arith)
 state_behind (y ∷ ys) (c ∷ f) [] tail x long none = absurd (omega arith)
 state_behind (y ∷ ys) (c ∷ f) (d ∷ g) tail x long none =
-    other_name x y c (state_of ys (f ++ tail) x) (λ e. none (inl (sym e))) ∙ state_behind ys f g tail x (omega arith) (λ i. none (inr i)) ∙ sym (other_name x y d (state_of ys (g ++ tail) x) (λ e. none (inl (sym e))))
+    other_name x y c (state_of ys (f ++ tail) x) (λ e. none (inl (sym e))) ∙ state_behind ys f g tail x (omega arith) (λ i. none (inr i))
+    ∙ sym (other_name x y d (state_of ys (g ++ tail) x) (λ e. none (inl (sym e))))
 
 -- what a term reaches depends on the states of its variables
 module _ (M : Moves) (e d : ℕ → ℕ) where
@@ -40,22 +41,34 @@ module _ (M : Moves) (e d : ℕ → ℕ) where
       reach_all_alike ts qs (λ x i. same x (among_right x (variable_occurrences t) (variable_occurrences_of ts) i)) hs,
     )
 
-kept_alike : (r : NumberRelation) (a : Indexed) (names cs ds : List ℕ) (t : Term) (q : ℕ) → ((x : ℕ) → IsAmong x (variable_occurrences t) → state_of names cs x ≡ state_of names ds x) → IsKeptBy r a names t cs q → IsKeptBy r a names t ds q
+kept_alike : (r : NumberRelation) (a : Indexed) (names cs ds : List ℕ) (t : Term) (q : ℕ)
+    → ((x : ℕ) → IsAmong x (variable_occurrences t) → state_of names cs x ≡ state_of names ds x) → IsKeptBy r a names t cs q → IsKeptBy r a names t ds q
 kept_alike r a names cs ds (var x) q same h = subst (λ (p : ℕ). Relates r p q) (same x (inl refl)) h
 kept_alike r a names cs ds (app f ts) q same h = reach_alike (Finds a) (state_of names cs) (state_of names ds) (app f ts) q same h
 
 -- it is kept with every front as it is with one
-pub kept_with_all : (r : NumberRelation) (a : Indexed) (names : List ℕ) (t : Term) (c : Choices) (first : List ℕ) (right : NumberRelation) → ((front : List ℕ) → IsAmong front c.fronts → length front + c.width ≡ length names) → IsAmong first c.fronts
-    → ((x : ℕ) → IsAmong x (take (length first) names) → IsAmong x (variable_occurrences t) → ⊥) → AreWhere (batch_at c first) (IsKeptBy r a names t) right → AreWhereAlways c (IsKeptBy r a names t) right
+pub kept_with_all : (r : NumberRelation) (a : Indexed) (names : List ℕ) (t : Term) (c : Choices) (first : List ℕ) (right : NumberRelation)
+    → ((front : List ℕ) → IsAmong front c.fronts → length front + c.width ≡ length names) → IsAmong first c.fronts
+    → ((x : ℕ) → IsAmong x (take (length first) names) → IsAmong x (variable_occurrences t) → ⊥) → AreWhere (batch_at c first) (IsKeptBy r a names t) right
+    → AreWhereAlways c (IsKeptBy r a names t) right
 kept_with_all r a names t c first right long here apart is front i q k = (
-  λ h. let g = (is q k).0 h in (g.0, kept_alike r a names (first ++ get_or c.tails k []) (front ++ get_or c.tails k []) t q (λ x j. state_behind names first front (get_or c.tails k []) x same (λ s. apart x s j)) g.1),
-  λ h. (is q k).1 (h.0, kept_alike r a names (front ++ get_or c.tails k []) (first ++ get_or c.tails k []) t q (λ x j. sym (state_behind names first front (get_or c.tails k []) x same (λ s. apart x s j))) h.1),
+  λ h. let g = (is q k).0 h in (
+    g.0,
+    kept_alike r a names (first ++ get_or c.tails k []) (front ++ get_or c.tails k []) t q
+        (λ x j. state_behind names first front (get_or c.tails k []) x same (λ s. apart x s j)) g.1,
+  ),
+  λ h. (is q k).1 (
+    h.0,
+    kept_alike r a names (front ++ get_or c.tails k []) (first ++ get_or c.tails k []) t q
+        (λ x j. sym (state_behind names first front (get_or c.tails k []) x same (λ s. apart x s j))) h.1,
+  ),
 )
   where
     same : length first ≡ length front
     same = let one = long first here in let two = long front i in omega arith
 
 -- what is known always is known with each front
-pub known_at : (c : Choices) (P : List ℕ → ℕ → Type 0) (o : Option (Bor NumberRelation)) (known : Option NumberRelation) → option_copied o ≡ known → IfAlways c P known → (front : List ℕ) → IsAmong front c.fronts → IfSome o (λ r. AreWhere (batch_at c front) P r.now)
+pub known_at : (c : Choices) (P : List ℕ → ℕ → Type 0) (o : Option (Bor NumberRelation)) (known : Option NumberRelation) → option_copied o ≡ known → IfAlways c P known
+    → (front : List ℕ) → IsAmong front c.fronts → IfSome o (λ r. AreWhere (batch_at c front) P r.now)
 known_at c P None known e h front i = tt
 known_at c P (Some r) known e h front i = subst (IfAlways c P) (sym e) h front i

@@ -44,7 +44,8 @@ IsInclusionBelow a n r = (p q : ℕ) → Relates r p q ↔ ((p < n) × (q < a.au
 pub inclusion_none : (a : Indexed) (r : NumberRelation) → ((p q : ℕ) → Relates r p q → ⊥) → IsInclusionBelow a 0 r
 inclusion_none a r never p q = (λ h. absurd (never p q h), λ k. let low = k.0 in absurd (omega arith))
 
-pub inclusion_more : (a : Indexed) (n : ℕ) (r new : NumberRelation) (set : List ℕ) → IsInclusionBelow a n r → AreIncluding a n set → ((p q : ℕ) → Relates new p q ↔ (Relates r p q ⊎ ((p ≡ n) × IsAmong q set)))
+pub inclusion_more : (a : Indexed) (n : ℕ) (r new : NumberRelation) (set : List ℕ) → IsInclusionBelow a n r → AreIncluding a n set
+    → ((p q : ℕ) → Relates new p q ↔ (Relates r p q ⊎ ((p ≡ n) × IsAmong q set)))
     → IsInclusionBelow a (n + 1) new
 inclusion_more a n r new set front here put p q = (λ h. into ((put p q).0 h), λ k. (put p q).1 (back k.0 k.1 k.2))
   where

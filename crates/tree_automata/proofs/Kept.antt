@@ -17,14 +17,16 @@ use Rattle.tree_automata.specs.Open.{OpenAnswers}
 use Rattle.tree_automata.proofs.Open.{reached_state}
 
 module _ (a : Indexed) (r : NumberRelation) where
-  kept_at : (names cs : List ℕ) (right : Term) (q : ℕ) → (IsVariable right → IsInclusion a r) → All (λ p. p < a.automaton.states) cs → q < a.automaton.states → IsKeptBy r a names right cs q ↔ IsKept (Finds a) (state_of names cs) right q
+  kept_at : (names cs : List ℕ) (right : Term) (q : ℕ) → (IsVariable right → IsInclusion a r) → All (λ p. p < a.automaton.states) cs → q < a.automaton.states
+      → IsKeptBy r a names right cs q ↔ IsKept (Finds a) (state_of names cs) right q
   kept_at names cs (app f ts) q asked all low = (λ h. h, λ h. h)
   kept_at names cs (var x) q asked all low =
       let is = asked tt (state_of names cs x) q in
       (λ h. (is.0 h).2, λ twins. is.1 (state_below a.automaton.states (omega arith) names cs all x, low, twins))
 
   module _ (rule : Rule) (asked : IsVariable rule.right → IsInclusion a r) where
-    pub kept_is : (cs : List ℕ) (q : ℕ) → IsChoice a.automaton.states rule.left cs → ReachBy (Finds a) rule.left cs q → IsKeptBy r a (variable_occurrences rule.left) rule.right cs q ↔ IsRuleKept (Finds a) rule cs q
+    pub kept_is : (cs : List ℕ) (q : ℕ) → IsChoice a.automaton.states rule.left cs → ReachBy (Finds a) rule.left cs q
+        → IsKeptBy r a (variable_occurrences rule.left) rule.right cs q ↔ IsRuleKept (Finds a) rule cs q
     kept_is cs q choice reach = kept_at (variable_occurrences rule.left) cs rule.right q asked choice.states (reached_state a rule.left cs q choice reach)
 
     pub open_answers : (o : Option Arrival) → FailureAnswers a rule.left (IsKeptBy r a (variable_occurrences rule.left) rule.right) o → OpenAnswers a rule o
@@ -39,7 +41,8 @@ module _ (a : Indexed) (r : NumberRelation) where
 
 -- the choices of a batch by which a right side is kept
 module _ (r : NumberRelation) (a : Indexed) (b : Batch) (names : List ℕ) where
-  pub kept_variable : (t : Term) (x : ℕ) (reached carried : NumberRelation) → t ≡ var x → AreWhere b (Reaches a names t) reached → ((p q : ℕ) → Relates carried p q ↔ ((s : ℕ) × Relates r s p × Relates reached s q)) → AreWhere b (IsKeptBy r a names t) carried
+  pub kept_variable : (t : Term) (x : ℕ) (reached carried : NumberRelation) → t ≡ var x → AreWhere b (Reaches a names t) reached
+      → ((p q : ℕ) → Relates carried p q ↔ ((s : ℕ) × Relates r s p × Relates reached s q)) → AreWhere b (IsKeptBy r a names t) carried
   kept_variable t x reached carried e where_ step =
       let own = subst (λ (u : Term). AreWhere b (Reaches a names u) reached) e where_ in
       subst (λ (u : Term). AreWhere b (IsKeptBy r a names u) carried) (sym e)

@@ -28,7 +28,8 @@ reached_state a (math.app f ts) cs q choice (qs, has, r) = has.target
 
 -- a rule with the sides of one whose right side is kept
 pub closed_alike : (a : Indexed) (rule : Rule) (rules : List data_rule.Rule) → AreClosed a (map rule_view rules) → HaveSides (map rule_view rules) rule → IsRuleClosed a rule
-closed_alike a rule rules closed (r, i, left, right) cs q = subst₂ (λ (l m : math.Term). IsChoice a.automaton.states l cs → ReachBy (Finds a) l cs q → IsKept (Finds a) (state_of (variable_occurrences l) cs) m q) left right (closed r i cs q)
+closed_alike a rule rules closed (r, i, left, right) cs q = subst₂ (λ (l m : math.Term). IsChoice a.automaton.states l cs → ReachBy (Finds a) l cs q
+    → IsKept (Finds a) (state_of (variable_occurrences l) cs) m q) left right (closed r i cs q)
 
 -- one rule more, whose sides are others
 pub other_sides : (rules : List data_rule.Rule) (i : ℕ) (other : data_rule.Rule) (rule : Rule) → i < length rules → other ≡ get_or rules i other → (HaveSides (map rule_view (take i rules)) rule → ⊥)
@@ -48,7 +49,8 @@ module _ (P : Rule → Type 0) where
       ⊎_elim (λ (h : k < i). front k q h f)
       (λ (h : i ≤ k). let same : k ≡ i = omega arith in let at : slice_get rs i ≡ Some q = subst (λ (j : ℕ). slice_get rs j ≡ Some q) same f in let one : r ≡ q = cc in subst P one here) (cases_lt k i)
 
-  pub each_in_front : (sys : System) (rules : List data_rule.Rule) (i n : ℕ) → map rule_view rules ≡ sys.rules → n ≡ i → ((k : ℕ) (q : Rule) → k < i → slice_get sys.rules k ≡ Some q → P q) → (r : Rule) → IsAmong r (map rule_view (take n rules)) → P r
+  pub each_in_front : (sys : System) (rules : List data_rule.Rule) (i n : ℕ) → map rule_view rules ≡ sys.rules → n ≡ i
+      → ((k : ℕ) (q : Rule) → k < i → slice_get sys.rules k ≡ Some q → P q) → (r : Rule) → IsAmong r (map rule_view (take n rules)) → P r
   each_in_front sys rules i n same c front r h =
       let k = place_in_front rule_view rules n r h in
       let low = k.1 in
@@ -95,7 +97,8 @@ first_wide_of sys a i n r c e wide front =
     record { rule = r; is_rule = numbered sys i n r c e; wide = wide; earlier = λ j p l at w. each_before (λ q. IsWide a q.left → ⊥) sys i n c front j p l at w }
 
 -- twins
-pub twins_include : (a : Indexed) (q p : ℕ) (ts : List Transition) → ((t : Transition) → IsAmong t (filter (chosen a.symbols target_key a.automaton.states p) a.automaton.transitions) → IsAmong t ts) → HaveTwins a ts q → Includes (Finds a) q p
+pub twins_include : (a : Indexed) (q p : ℕ) (ts : List Transition)
+    → ((t : Transition) → IsAmong t (filter (chosen a.symbols target_key a.automaton.states p) a.automaton.transitions) → IsAmong t ts) → HaveTwins a ts q → Includes (Finds a) q p
 twins_include a q p ts whole twins s qs has = twins (record { symbol = s; arguments = qs; target = p }) (whole _ (looked_to a target_key p s qs p has refl))
 
 -- the rules of a program's system

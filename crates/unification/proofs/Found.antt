@@ -10,7 +10,8 @@ use Rattle.unifier_run.proofs.General.{IsSettled, settled_empty}
 use Rattle.term_core.specs.View.{view}
 use Rattle.unification.specs.declared.bound.Bound.{Bound}
 use Rattle.unification.specs.Solving.{IsHead, bound_in_turn, MayBind, MayBindInTurn, shared, bindings, AreInTurn, IsNewTo}
-use Rattle.unification.proofs.Turns.{added, all_closed, closed, stands_for, in_turn_absorbs, added_settled, head_of_bound, head_of_other, length_extended, length_in_turn, in_turn-append, may_bind-append}
+use Rattle.unification.proofs.Turns.{added, all_closed, closed, stands_for, in_turn_absorbs, added_settled, head_of_bound, head_of_other, length_extended, length_in_turn}
+use Rattle.unification.proofs.Turns.{in_turn-append, may_bind-append}
 
 pub length_bindings : (es : List Bound) → length (bindings es) ≡ length es
 length_bindings es = let h = length_in_turn [] (map shared es) in let k = length_shared es in omega (arith, h, k)
@@ -31,7 +32,8 @@ stands_from b (d ∷ es) (suc i) e settled (m, may) lt is = stands_from (added b
 pub stands : (es : List Bound) (i : ℕ) (e : Bound) → AreInTurn es → i < length es → e ≡ get_or es i e → value (bindings es) e.variable ≡ apply (value (bindings es)) (view e.term.now)
 stands es i e may lt is = stands_from [] es i e settled_empty may lt is
 
-pub follows : (es : List Bound) (i : ℕ) (e : Bound) (h t : math.Term) → AreInTurn es → i < length es → e ≡ get_or es i e → h ≡ var e.variable → apply (value (bindings es)) h ≡ apply (value (bindings es)) t
+pub follows : (es : List Bound) (i : ℕ) (e : Bound) (h t : math.Term) → AreInTurn es → i < length es → e ≡ get_or es i e → h ≡ var e.variable
+    → apply (value (bindings es)) h ≡ apply (value (bindings es)) t
     → apply (value (bindings es)) (view e.term.now) ≡ apply (value (bindings es)) t
 follows es i e h t may lt is variable same = sym (stands es i e may lt is) ∙ (sym (ap (apply (value (bindings es))) variable) ∙ same)
 
@@ -45,7 +47,8 @@ split_from b (d ∷ es) (suc i) e (m, may) lt is = split_from (added b (shared d
 pub next_head_bound : (es : List Bound) (i : ℕ) (e : Bound) → AreInTurn es → i < length es → e ≡ get_or es i e → IsHead (bindings (take (i + 1) es)) (view e.term.now)
 next_head_bound es i e may lt is = rw add-one (let k = split_from [] es i e may lt is in subst (λ z. IsHead z (view e.term.now)) (sym k.1) (head_of_bound _ (shared e) k.0))
 
-pub next_head_other : (es : List Bound) (i : ℕ) (e : Bound) (t : math.Term) → AreInTurn es → i < length es → e ≡ get_or es i e → IsHead (bindings (take i es)) t → (t ≡ var e.variable → ⊥) → IsHead (bindings (take (i + 1) es)) t
+pub next_head_other : (es : List Bound) (i : ℕ) (e : Bound) (t : math.Term) → AreInTurn es → i < length es → e ≡ get_or es i e → IsHead (bindings (take i es)) t
+    → (t ≡ var e.variable → ⊥) → IsHead (bindings (take (i + 1) es)) t
 next_head_other es i e t may lt is h n = rw add-one (let k = split_from [] es i e may lt is in subst (λ z. IsHead z t) (sym k.1) (head_of_other _ (shared e) t h n))
 
 -- what the variable at a place is bound to
@@ -80,11 +83,13 @@ fit_there [] i (suc n) e below lt h = absurd (omega arith)
 fit_there (d ∷ b) zero (suc n) e below lt h = h.0
 fit_there (d ∷ b) (suc i) (suc n) e below lt h = fit_there b i n e (omega arith) (omega arith) h.1
 
-pub next_fits : (es : List Bound) (i : ℕ) (e : Bound) → AreInTurn es → i < length es → e ≡ get_or es i e → DoAllFit (take i (bindings es)) → Fits (apply (value (bindings es)) (view e.term.now)) → DoAllFit (take (i + 1) (bindings es))
+pub next_fits : (es : List Bound) (i : ℕ) (e : Bound) → AreInTurn es → i < length es → e ≡ get_or es i e → DoAllFit (take i (bindings es))
+    → Fits (apply (value (bindings es)) (view e.term.now)) → DoAllFit (take (i + 1) (bindings es))
 next_fits es i e may lt is h f =
     rw add-one (fit_more (bindings es) i (shared e) (subst (λ n. i < n) (sym (length_bindings es)) lt) h (subst (λ z. Fits z.term) (sym (term_at es i e (shared e) may lt is)) f))
 
-pub one_fits : (es : List Bound) (i n : ℕ) (e : Bound) → AreInTurn es → i < length es → e ≡ get_or es i e → i < n → DoAllFit (take n (bindings es)) → Fits (apply (value (bindings es)) (view e.term.now))
+pub one_fits : (es : List Bound) (i n : ℕ) (e : Bound) → AreInTurn es → i < length es → e ≡ get_or es i e → i < n → DoAllFit (take n (bindings es))
+    → Fits (apply (value (bindings es)) (view e.term.now))
 one_fits es i n e may lt is below h = subst (λ z. Fits z.term) (term_at es i e (shared e) may lt is) (fit_there (bindings es) i n (shared e) below (subst (λ n. i < n) (sym (length_bindings es)) lt) h)
 
 -- the substitution of the bindings from a place on
@@ -129,7 +134,8 @@ grows es fs x v e =
     omega (arith, h, k, g)
 
 -- a variable that is new to those before a place, and to the one there
-pub next_new : (x : ℕ) (es : List Bound) (i : ℕ) (e : Bound) → i < length es → e ≡ get_or es i e → IsNewTo x (map shared (take i es)) → occurs x (view e.term.now) ≡ false → IsNewTo x (map shared (take (i + 1) es))
+pub next_new : (x : ℕ) (es : List Bound) (i : ℕ) (e : Bound) → i < length es → e ≡ get_or es i e → IsNewTo x (map shared (take i es)) → occurs x (view e.term.now) ≡ false
+    → IsNewTo x (map shared (take (i + 1) es))
 next_new x es i e lt is new apart = rw add-one (go es i lt is new)
   where
     go : (es : List Bound) (i : ℕ) → i < length es → e ≡ get_or es i e → IsNewTo x (map shared (take i es)) → IsNewTo x (map shared (take (suc i) es))

@@ -1,5 +1,6 @@
 -- What bound variables stand for keeps fitting where a new binding leaves the sizes.
-use Rattle.std.proofs.Common.{ℕ, suc, ◌≡◌, ◌+◌, ◌⊎◌, inl, inr, Bool, true, false, nat_eq, if◌then◌else◌, refl, sym, ap, ap₂, ◌∙◌, subst, subst₂, List, [], ◌∷◌, map, length, take, arith, eqb-true, eq-eqb}
+use Rattle.std.proofs.Common.{ℕ, suc, ◌≡◌, ◌+◌, ◌⊎◌, inl, inr, Bool, true, false, nat_eq, if◌then◌else◌, refl, sym, ap, ap₂, ◌∙◌, subst, subst₂, List, [], ◌∷◌, map, length, take}
+use Rattle.std.proofs.Common.{arith, eqb-true, eq-eqb}
 use Rattle.std.proofs.lemmas.Bool.{false≢true, or_right, or_left}
 use Rattle.rewriting.specs.Prelude.{Term, Terms, var, app, nil, cons, size, size_all, depth, depth_all, Fits, Substitution, apply, apply_all, occurs, occurs_in}
 use Rattle.rewriting.proofs.Instances.{or_cases}
@@ -58,7 +59,8 @@ in_turn_back x b (e ∷ es) (apart, new) back = in_turn_back x (added b e) es ne
 -- a new variable occurs in no bound term, and so these stay
 stay : (x : ℕ) (v : Term) (s : Substitution) (es : List Binding) → GivesBack x s → IsNewTo x es → map (under x v) (map (closed s) es) ≡ map (closed s) es
 stay x v s [] back new = refl
-stay x v s (e ∷ es) back (apart, new) = ap₂ (λ z w. (record { variable = e.variable; term = z }) ∷ w) (untouched x v (apply s e.term) (absent (occurs x (apply s e.term)) refl)) (stay x v s es back new)
+stay x v s (e ∷ es) back (apart, new) = ap₂ (λ z w. (record { variable = e.variable; term = z }) ∷ w)
+    (untouched x v (apply s e.term) (absent (occurs x (apply s e.term)) refl)) (stay x v s es back new)
   where
     absent : (o : Bool) → occurs x (apply s e.term) ≡ o → occurs x (apply s e.term) ≡ false
     absent true q = absurd (false≢true (sym apart ∙ occurred x s back e.term q))

@@ -37,7 +37,8 @@ module _ (b c : List Binding) (s t : Term) (good : IsGood b) (fit : DoFit (apply
     pub same_arguments : f ≡ g → length v.items ≡ length w.items → (r : Result Progress NoMemory) → SolveAnswers b c (views v.items) (views w.items) r → One b c (view s) (view t) r
     same_arguments e n r h =
         subst₂ (λ x y. One b c x y r) (sym left_view) (sym (right_view ∙ ap (λ z. app z (views w.items)) (sym e)))
-        (opened b c f (views v.items) (views w.items) r good (fit_inside.0, subst (λ z. Fits (apply (value b) (app z (views w.items)))) (sym e) fit_inside.1) (count-views v.items ∙ (n ∙ sym (count-views w.items))) h)
+        (opened b c f (views v.items) (views w.items) r good (fit_inside.0, subst (λ z. Fits (apply (value b) (app z (views w.items)))) (sym e) fit_inside.1)
+        (count-views v.items ∙ (n ∙ sym (count-views w.items))) h)
 
     pub left_fit : Each Fits (apply_all (value b) (views v.items))
     left_fit = arguments_fit _ (omega (arith, fit_inside.0.nodes)) (omega (arith, fit_inside.0.levels))
@@ -51,7 +52,8 @@ module _ (b c : List Binding) (s t : Term) (good : IsGood b) (fit : DoFit (apply
     pub right_size : size (apply (value b) (view t)) ≡ suc (size_all (apply_all (value b) (views w.items)))
     right_size = ap (λ z. size (apply (value b) z)) right_view
 
-    pub arguments_weigh_less : (n : ℕ) → weight n (size_all (apply_all (value b) (views v.items)) + size_all (apply_all (value b) (views w.items))) 3 < weight n (size (apply (value b) (view s)) + size (apply (value b) (view t))) 1
+    pub arguments_weigh_less : (n : ℕ) → weight n (size_all (apply_all (value b) (views v.items)) + size_all (apply_all (value b) (views w.items))) 3 < weight n
+        (size (apply (value b) (view s)) + size (apply (value b) (view t))) 1
     arguments_weigh_less n =
         let p = left_size in
         let q = right_size in
@@ -87,10 +89,12 @@ module _ (b c : List Binding) (s t : Term) (good : IsGood b) (fit : DoFit (apply
         apart : (g : ℕ) (ts : math.Terms) → app g ts ≡ var x → ⊥
         apart g ts e = cc
 
-  pub binds_right : (f : ℕ) (v : Vec Term Global) (y : ℕ) → s ≡ Fun f v → t ≡ Var y → IsHead b (view t) → (r : Result Progress NoMemory) → BindAnswers b c y (apply (value b) (view s)) r → One b c (view s) (view t) r
+  pub binds_right : (f : ℕ) (v : Vec Term Global) (y : ℕ) → s ≡ Fun f v → t ≡ Var y → IsHead b (view t) → (r : Result Progress NoMemory)
+      → BindAnswers b c y (apply (value b) (view s)) r → One b c (view s) (view t) r
   binds_right f v y left right head r h =
       subst₂ (λ p q. One b c p q r) (sym shown_left) (sym shown)
-      (bound_right b c f (views v.items) y r good (head y shown) (subst (λ z. Fits (apply (value b) z)) shown_left fit.0, subst (λ z. Fits (apply (value b) z)) shown fit.1) (subst (λ z. BindAnswers b c y (apply (value b) z) r) shown_left h))
+      (bound_right b c f (views v.items) y r good (head y shown) (subst (λ z. Fits (apply (value b) z)) shown_left fit.0, subst (λ z. Fits (apply (value b) z)) shown fit.1)
+      (subst (λ z. BindAnswers b c y (apply (value b) z) r) shown_left h))
     where
       shown : view t ≡ var y
       shown = ap view right ∙ view-Var y

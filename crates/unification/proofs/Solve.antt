@@ -2,7 +2,8 @@
 use Rattle.std.proofs.Common.{ℕ, ◌≡◌, ◌≢◌, ◌<◌, ◌⊎◌, inl, inr, refl, sym, ap, ◌∙◌, subst, List, length, arith, Result, Ok, Err}
 use Rattle.rewriting.specs.Prelude.{Term, Terms, var, app, nil, cons, count, apply, apply_all}
 use Rattle.rewriting.proofs.Over.{count-apply}
-use Rattle.unifier_run.specs.Run.{Binding, value, Binds, DoFit, Outcome, clash, too_large, goes_on, Takes, side_too_large, equal_sides, occurs_inside, binding, binding_too_large, roots_differ, append, Runs, last_equation, next_equation}
+use Rattle.unifier_run.specs.Run.{Binding, value, Binds, DoFit, Outcome, clash, too_large, goes_on, Takes, side_too_large, equal_sides, occurs_inside, binding, binding_too_large}
+use Rattle.unifier_run.specs.Run.{roots_differ, append, Runs, last_equation, next_equation}
 use Rattle.unifier_run.proofs.Agree.{Runs-agree}
 use Rattle.unifier_run.proofs.General.{settled_fixed, takes_settled}
 use Rattle.unifier_run.proofs.Equal.{open_equation}
@@ -24,12 +25,14 @@ pub ends_large : (b c : List Binding) (t u : Term) → (DoFit (apply (value b) t
 ends_large b c t u n = λ vs ws. last_equation (side_too_large n)
 
 -- other roots, or other numbers of arguments
-pub ends_roots : (b c : List Binding) (f g : ℕ) (xs ys : Terms) → DoFit (apply (value b) (app f xs)) (apply (value b) (app g ys)) → (f ≢ g) ⊎ (count xs ≢ count ys) → One b c (app f xs) (app g ys) (Ok Clash)
+pub ends_roots : (b c : List Binding) (f g : ℕ) (xs ys : Terms) → DoFit (apply (value b) (app f xs)) (apply (value b) (app g ys)) → (f ≢ g) ⊎ (count xs ≢ count ys)
+    → One b c (app f xs) (app g ys) (Ok Clash)
 ends_roots b c f g xs ys fit (inl n) = λ vs ws. last_equation (roots_differ fit (inl n))
 ends_roots b c f g xs ys fit (inr n) = λ vs ws. last_equation (roots_differ fit (inr (λ e. n (sym (count-apply (value b) xs) ∙ (e ∙ count-apply (value b) ys)))))
 
 -- the arguments
-pub opened : (b c : List Binding) (f : ℕ) (xs ys : Terms) (r : Result Progress NoMemory) → IsGood b → DoFit (apply (value b) (app f xs)) (apply (value b) (app f ys)) → count xs ≡ count ys → SolveAnswers b c xs ys r → One b c (app f xs) (app f ys) r
+pub opened : (b c : List Binding) (f : ℕ) (xs ys : Terms) (r : Result Progress NoMemory) → IsGood b → DoFit (apply (value b) (app f xs)) (apply (value b) (app f ys))
+    → count xs ≡ count ys → SolveAnswers b c xs ys r → One b c (app f xs) (app f ys) r
 opened b c f xs ys (Ok Solved) g fit e h = record { runs = λ vs ws o r. open_equation b f xs ys vs ws o g.settled fit e (h.runs vs ws o r); grown = h.grown; good = h.good }
 opened b c f xs ys (Ok Clash) g fit e h = λ vs ws. open_equation b f xs ys vs ws clash g.settled fit e (h vs ws)
 opened b c f xs ys (Ok TooLarge) g fit e h = λ vs ws. open_equation b f xs ys vs ws too_large g.settled fit e (h vs ws)
@@ -43,7 +46,11 @@ alike_front : (b : List Binding) (t u : Term) (vs : Terms) → Alike b t u → a
 alike_front b t u vs e = ap (λ z. cons z (apply_all (value b) vs)) e
 
 pub seen_as : (b c : List Binding) (l r t u : Term) (x : Result Progress NoMemory) → Alike b l t → Alike b r u → One b c l r x → One b c t u x
-seen_as b c l r t u (Ok Solved) e h k = record { runs = λ vs ws o q. Runs-agree (k.runs vs ws o q) (cons t vs) (cons u ws) (alike_front b l t vs e) (alike_front b r u ws h); grown = k.grown; good = k.good }
+seen_as b c l r t u (Ok Solved) e h k = record {
+  runs = λ vs ws o q. Runs-agree (k.runs vs ws o q) (cons t vs) (cons u ws) (alike_front b l t vs e) (alike_front b r u ws h);
+  grown = k.grown;
+  good = k.good;
+}
 seen_as b c l r t u (Ok Clash) e h k = λ vs ws. Runs-agree (k vs ws) (cons t vs) (cons u ws) (alike_front b l t vs e) (alike_front b r u ws h)
 seen_as b c l r t u (Ok TooLarge) e h k = λ vs ws. Runs-agree (k vs ws) (cons t vs) (cons u ws) (alike_front b l t vs e) (alike_front b r u ws h)
 seen_as b c l r t u (Err n) e h k = tt
@@ -86,12 +93,14 @@ pub record Remain (b c : List Binding) (ts us rs qs : Terms) : Type 0 where
   pub grown : (c ≡ b) ⊎ (length b < length c)
   pub good : IsGood c
 
-pub remain_end : (b c d : List Binding) (ts us rs qs : Terms) (r q : Term) (p : Progress) → Remain b c ts us (cons r rs) (cons q qs) → (p ≡ Solved → ⊥) → SolveAnswers c d (cons r nil) (cons q nil) (Ok p) → SolveAnswers b d ts us (Ok p)
+pub remain_end : (b c d : List Binding) (ts us rs qs : Terms) (r q : Term) (p : Progress) → Remain b c ts us (cons r rs) (cons q qs) → (p ≡ Solved → ⊥)
+    → SolveAnswers c d (cons r nil) (cons q nil) (Ok p) → SolveAnswers b d ts us (Ok p)
 remain_end b c d ts us rs qs r q Solved h n k = absurd (n refl)
 remain_end b c d ts us rs qs r q Clash h n k = λ vs ws. h.runs vs ws clash (k (append rs vs) (append qs ws))
 remain_end b c d ts us rs qs r q TooLarge h n k = λ vs ws. h.runs vs ws too_large (k (append rs vs) (append qs ws))
 
-pub remain_next : (b c d : List Binding) (ts us rs qs : Terms) (r q : Term) (p : Progress) → p ≡ Solved → Remain b c ts us (cons r rs) (cons q qs) → SolveAnswers c d (cons r nil) (cons q nil) (Ok p) → Remain b d ts us rs qs
+pub remain_next : (b c d : List Binding) (ts us rs qs : Terms) (r q : Term) (p : Progress) → p ≡ Solved → Remain b c ts us (cons r rs) (cons q qs)
+    → SolveAnswers c d (cons r nil) (cons q nil) (Ok p) → Remain b d ts us rs qs
 remain_next b c d ts us rs qs r q p e h k = next (subst (λ z. SolveAnswers c d (cons r nil) (cons q nil) (Ok z)) e k)
   where
     longer : (c ≡ b) ⊎ (length b < length c) → (d ≡ c) ⊎ (length c < length d) → (d ≡ b) ⊎ (length b < length d)

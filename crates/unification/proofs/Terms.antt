@@ -29,21 +29,26 @@ fit_at b (u ∷ ts) zero t h e f = subst (λ z. Fits (apply (value b) (view z)))
 fit_at b (u ∷ ts) (suc i) t h e f = fit_at b ts i t (omega arith) e f.1
 
 -- the equations that remain at a place
-pub still_there : (b c : List Binding) (ts us : List Term) (i : ℕ) (t u : Term) → i < length ts → i < length us → t ≡ get_or ts i t → u ≡ get_or us i u → Remain b c (views ts) (views us) (views (drop i ts)) (views (drop i us))
+pub still_there : (b c : List Binding) (ts us : List Term) (i : ℕ) (t u : Term) → i < length ts → i < length us → t ≡ get_or ts i t → u ≡ get_or us i u
+    → Remain b c (views ts) (views us) (views (drop i ts)) (views (drop i us))
     → Remain b c (views ts) (views us) (cons (view t) (views (drop (i + 1) ts))) (cons (view u) (views (drop (i + 1) us)))
 still_there b c ts us i t u h k is other = subst₂ (λ x y. Remain b c (views ts) (views us) x y) (views-drop ts i t h is) (views-drop us i u k other)
 
 -- a side that fitted fits where nothing has been bound
-pub still_fits : (b c : List Binding) (ts : List Term) (i : ℕ) (t : Term) → (c ≡ b) ⊎ (length b < length c) → length b ≡ length c → Each Fits (apply_all (value b) (views ts)) → i < length ts → t ≡ get_or ts i t
+pub still_fits : (b c : List Binding) (ts : List Term) (i : ℕ) (t : Term) → (c ≡ b) ⊎ (length b < length c) → length b ≡ length c → Each Fits (apply_all (value b) (views ts))
+    → i < length ts → t ≡ get_or ts i t
     → Fits (apply (value c) (view t))
 still_fits b c ts i t (inl e) n f h k = subst (λ z. Fits (apply (value z) (view t))) (sym e) (fit_at b ts i t h k f)
 still_fits b c ts i t (inr e) n f h k = absurd (omega (arith, e, n))
 
 -- an equation weighs less than those that it is one of
-pub one_weighs_less : (b c : List Binding) (xs ys : List Term) (i : ℕ) (x y : Term) → (c ≡ b) ⊎ (length b < length c) → length c < 2 ^ 64 → i < length xs → i < length ys → x ≡ get_or xs i x → y ≡ get_or ys i y
-    → weight (length c) (size (apply (value c) (view x)) + size (apply (value c) (view y))) 2 < weight (length b) (size_all (apply_all (value b) (views xs)) + size_all (apply_all (value b) (views ys))) 3
+pub one_weighs_less : (b c : List Binding) (xs ys : List Term) (i : ℕ) (x y : Term) → (c ≡ b) ⊎ (length b < length c) → length c < 2 ^ 64 → i < length xs → i < length ys
+    → x ≡ get_or xs i x → y ≡ get_or ys i y
+    → weight (length c) (size (apply (value c) (view x)) + size (apply (value c) (view y))) 2 < weight (length b)
+    (size_all (apply_all (value b) (views xs)) + size_all (apply_all (value b) (views ys))) 3
 one_weighs_less b c xs ys i x y (inl e) small hx hy kx ky =
-    subst (λ z. weight (length z) (size (apply (value z) (view x)) + size (apply (value z) (view y))) 2 < weight (length b) (size_all (apply_all (value b) (views xs)) + size_all (apply_all (value b) (views ys))) 3) (sym e)
+    subst (λ z. weight (length z) (size (apply (value z) (view x)) + size (apply (value z) (view y))) 2 < weight (length b)
+    (size_all (apply_all (value b) (views xs)) + size_all (apply_all (value b) (views ys))) 3) (sym e)
     (let p = size_at (value b) xs i x hx kx in
     let q = size_at (value b) ys i y hy ky in
     let sums : size (apply (value b) (view x)) + size (apply (value b) (view y)) ≤ size_all (apply_all (value b) (views xs)) + size_all (apply_all (value b) (views ys)) = omega (arith, p, q) in
@@ -51,11 +56,13 @@ one_weighs_less b c xs ys i x y (inl e) small hx hy kx ky =
 one_weighs_less b c xs ys i x y (inr e) small hx hy kx ky = grown_less (length b) (length c) _ _ 2 3 e small (omega arith)
 
 -- a variable that occurs in an argument occurs in the term
-pub occurs_inside : (k : ℕ) (t : Term) (f : ℕ) (v : Vec Term Global) (items : List Term) (i : ℕ) (u : Term) → t ≡ Fun f v → items ≡ v.items → i < length items → u ≡ get_or items i u → occurs k (view u) ≡ true → occurs k (view t) ≡ true
+pub occurs_inside : (k : ℕ) (t : Term) (f : ℕ) (v : Vec Term Global) (items : List Term) (i : ℕ) (u : Term) → t ≡ Fun f v → items ≡ v.items → i < length items
+    → u ≡ get_or items i u → occurs k (view u) ≡ true → occurs k (view t) ≡ true
 occurs_inside k t f v items i u is e h q o =
     subst (λ z. occurs k z ≡ true) (sym (ap view is ∙ view-Fun f v)) (subst (λ z. occurs_in k (views z) ≡ true) e (occurs_at k items i u h q o))
 
-pub size_inside : (t : Term) (f : ℕ) (v : Vec Term Global) (items : List Term) (i : ℕ) (u : Term) → t ≡ Fun f v → items ≡ v.items → i < length items → u ≡ get_or items i u → size (view u) < size (view t)
+pub size_inside : (t : Term) (f : ℕ) (v : Vec Term Global) (items : List Term) (i : ℕ) (u : Term) → t ≡ Fun f v → items ≡ v.items → i < length items → u ≡ get_or items i u
+    → size (view u) < size (view t)
 size_inside t f v items i u is e h q =
     let whole : size (view t) ≡ suc (size_all (views v.items)) = ap size (ap view is ∙ view-Fun f v) in
     let same : size_all (views items) ≡ size_all (views v.items) = ap (λ z. size_all (views z)) e in

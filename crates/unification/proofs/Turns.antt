@@ -63,8 +63,11 @@ added_fixed b e may settled fixed = all_under b fixed
     all_under : (c : List Binding) → AllFixed (value b) c
         → AllFixed (value (added b e)) (map (under e.variable (apply (value b) e.term)) c ++ (record { variable = e.variable; term = apply (value b) e.term }) ∷ [])
     all_under [] h = (sym here_fixed ∙ new_value b e may, tt)
-    all_under (d ∷ c) (h, k) =
-        (absorbs_only (value (added b e)) e.variable (apply (value b) e.term) here_fixed d.term ∙ (apply-extended b e.variable (apply (value b) e.term) d.term ∙ ap (apply (only e.variable (apply (value b) e.term))) h), all_under c k)
+    all_under (d ∷ c) (h, k) = (
+      absorbs_only (value (added b e)) e.variable (apply (value b) e.term) here_fixed d.term
+          ∙ (apply-extended b e.variable (apply (value b) e.term) d.term ∙ ap (apply (only e.variable (apply (value b) e.term))) h),
+      all_under c k,
+    )
 
 -- a bound term under a substitution
 abbrev pub closed : Substitution → Binding → Binding

@@ -17,7 +17,8 @@ occurs_at x s [] i t h e o = absurd (omega arith)
 occurs_at x s (u ∷ ts) zero t h e o = or_left _ _ (subst (λ z. occurs x (apply s (view z)) ≡ true) e o)
 occurs_at x s (u ∷ ts) (suc i) t h e o = or_right _ _ (occurs_at x s ts i t (omega arith) e o)
 
-module _ (s : Substitution) (head : Term) (t : math.Term) (f : ℕ) (v : Vec Term Global) (items : List Term) (same : apply s (view head) ≡ apply s t) (is : head ≡ Fun f v) (listed : items ≡ v.items) where
+module _ (s : Substitution) (head : Term) (t : math.Term) (f : ℕ) (v : Vec Term Global) (items : List Term) (same : apply s (view head) ≡ apply s t) (is : head ≡ Fun f v)
+    (listed : items ≡ v.items) where
   pub opened_head : apply s t ≡ app f (apply_all s (views items))
   opened_head = sym same ∙ (ap (λ z. apply s (view z)) is ∙ (ap (apply s) (view-Fun f v) ∙ ap (λ z. app f (apply_all s (views z))) (sym listed)))
 

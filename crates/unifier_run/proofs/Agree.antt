@@ -29,7 +29,8 @@ tail_of t u ts us e = cc
 behind : (c : List Binding) (xs ts us : Terms) → apply_all (value c) ts ≡ apply_all (value c) us → apply_all (value c) (append xs ts) ≡ apply_all (value c) (append xs us)
 behind c xs ts us e = apply_all-append (value c) xs ts ∙ (ap (append (apply_all (value c) xs)) e ∙ sym (apply_all-append (value c) xs us))
 
-pub Runs-agree : {b : List Binding} {ts us : Terms} {o : Outcome} → Runs b ts us o → (vs ws : Terms) → apply_all (value b) ts ≡ apply_all (value b) vs → apply_all (value b) us ≡ apply_all (value b) ws → Runs b vs ws o
+pub Runs-agree : {b : List Binding} {ts us : Terms} {o : Outcome} → Runs b ts us o → (vs ws : Terms) → apply_all (value b) ts ≡ apply_all (value b) vs
+    → apply_all (value b) us ≡ apply_all (value b) ws → Runs b vs ws o
 Runs-agree no_equation nil nil e h = no_equation
 Runs-agree no_equation nil (cons w ws) e h = absurd (cc)
 Runs-agree no_equation (cons v vs) ws e h = absurd (cc)

@@ -16,7 +16,8 @@ arguments_fit nil s d = tt
 arguments_fit (cons t ts) s d = (record { nodes = omega (arith, s); levels = omega (arith, d) }, arguments_fit ts (omega (arith, s)) (omega (arith, d)))
 
 -- and what was behind them goes on
-pub undrop_equal : (b : List Binding) (ts us vs ws : Terms) (o : Outcome) → apply_all (value b) ts ≡ apply_all (value b) us → Each Fits (apply_all (value b) ts) → Runs b (append ts vs) (append us ws) o → Runs b vs ws o
+pub undrop_equal : (b : List Binding) (ts us vs ws : Terms) (o : Outcome) → apply_all (value b) ts ≡ apply_all (value b) us → Each Fits (apply_all (value b) ts)
+    → Runs b (append ts vs) (append us ws) o → Runs b vs ws o
 undrop_equal b nil nil vs ws o e f r = r
 undrop_equal b nil (cons u us) vs ws o e f r = absurd (cc)
 undrop_equal b (cons t ts) nil vs ws o e f r = absurd (cc)
@@ -27,7 +28,8 @@ undrop_equal b (cons t ts) (cons u us) vs ws o e f r =
   where
     behind_equal : (b : List Binding) (t u : Term) (vs ws : Terms) (o : Outcome) → apply (value b) t ≡ apply (value b) u → Fits (apply (value b) t) → Runs b (cons t vs) (cons u ws) o → Runs b vs ws o
     behind_equal b t u vs ws o h f (last_equation k) = absurd (ended_or_on _ _ _ _ (takes_same b _ _ _ _ k (equal_sides (f, subst Fits h f) h)))
-    behind_equal b t u vs ws o h f (next_equation {c = c} {xs = xs} {ys = ys} k r) = run_along b c nil nil xs ys vs ws o (same_on b c nil nil xs ys (takes_same b _ _ _ _ (equal_sides (f, subst Fits h f) h) k)) r
+    behind_equal b t u vs ws o h f (next_equation {c = c} {xs = xs} {ys = ys} k r) = run_along b c nil nil xs ys vs ws o
+        (same_on b c nil nil xs ys (takes_same b _ _ _ _ (equal_sides (f, subst Fits h f) h) k)) r
 
 pub in_front : (b : List Binding) (xs vs : Terms) → IsSettled b → apply_all (value b) (append xs vs) ≡ apply_all (value b) (append (apply_all (value b) xs) vs)
 in_front b xs vs s =

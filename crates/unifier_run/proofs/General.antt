@@ -4,7 +4,8 @@ use Rattle.std.proofs.lemmas.Bool.{or_parts}
 use Rattle.rewriting.specs.Prelude.{Term, var, app, Terms, nil, cons, count, size, size_all, Substitution, apply, apply_all, occurs, occurs_in, IsMostGeneralOfAll}
 use Rattle.rewriting.proofs.Instances.{apply-apply, apply-agree, or_cases, inj_app, inj_symbol}
 use Rattle.rewriting.proofs.Over.{count-apply}
-use Rattle.unifier_run.specs.Run.{Binding, value, only, extended, Binds, DoRootsDiffer, HaveArguments, unifier, clash, ends, goes_on, Takes, equal_sides, occurs_inside, binding, roots_differ, arguments, append, Runs, no_equation, last_equation, next_equation}
+use Rattle.unifier_run.specs.Run.{Binding, value, only, extended, Binds, DoRootsDiffer, HaveArguments, unifier, clash, ends, goes_on, Takes, equal_sides, occurs_inside, binding}
+use Rattle.unifier_run.specs.Run.{roots_differ, arguments, append, Runs, no_equation, last_equation, next_equation}
 use Rattle.unifier_run.proofs.Values.{value-extended, apply-extended}
 use Rattle.unifier_run.proofs.Lists.{apply_all-append, part}
 use Rattle.unifier_run.proofs.Agree.{head_of, tail_of}
@@ -102,7 +103,8 @@ takes_on b c l r xs ys s (binding f n x v h o d e k) a u =
     }
 
 -- and back
-takes_back : (b c : List Binding) (l r : Term) (xs ys : Terms) (s : Substitution) → Takes b l r (goes_on c xs ys) → apply (value b) l ≡ l → apply (value b) r ≡ r → Absorbs s (value c) → apply_all s xs ≡ apply_all s ys → (apply s l ≡ apply s r) × Absorbs s (value b)
+takes_back : (b c : List Binding) (l r : Term) (xs ys : Terms) (s : Substitution) → Takes b l r (goes_on c xs ys) → apply (value b) l ≡ l → apply (value b) r ≡ r
+    → Absorbs s (value c) → apply_all s xs ≡ apply_all s ys → (apply s l ≡ apply s r) × Absorbs s (value b)
 takes_back b c l r xs ys s (equal_sides f e) hl hr a u = (ap (apply s) e, a)
 takes_back b c l r xs ys s (arguments f n us vs h) hl hr a u = (arguments_back s l r xs ys h u, a)
 takes_back b c l r xs ys s (binding f n x v h o d e k) hl hr a u =
@@ -158,7 +160,8 @@ value_binds (app f ts) (var y) x v (e, h) s hl hr = (ap s e ∙ (hr ∙ ap var (
 value_binds (app f ts) (app g us) x v h s hl hr = absurd h
 
 settled_extended : (b : List Binding) (x : ℕ) (v : Term) → IsSettled b → value b x ≡ var x → apply (value b) v ≡ v → occurs x v ≡ false → IsSettled (extended b x v)
-settled_extended b x v h free fixed o y = sym (ap (apply (value (extended b x v))) (value-extended b x v y) ∙ (absorbs_only (value (extended b x v)) x v here (value b y) ∙ (apply-extended b x v (value b y) ∙ (ap (apply (only x v)) (sym (h y)) ∙ sym (value-extended b x v y)))))
+settled_extended b x v h free fixed o y = sym (ap (apply (value (extended b x v))) (value-extended b x v y)
+    ∙ (absorbs_only (value (extended b x v)) x v here (value b y) ∙ (apply-extended b x v (value b y) ∙ (ap (apply (only x v)) (sym (h y)) ∙ sym (value-extended b x v y)))))
   where
     left : value (extended b x v) x ≡ v
     left = value-extended b x v x ∙ (ap (apply (only x v)) free ∙ only-same x v)
@@ -190,10 +193,12 @@ pub record Solves (b : List Binding) (ts us : Terms) (m : List Binding) : Type 0
   pub unifies : apply_all (value m) ts ≡ apply_all (value m) us
   pub absorbs : Absorbs (value m) (value b)
 
-solves_next : (b c : List Binding) (t u : Term) (ts us xs ys : Terms) (m : List Binding) → IsSettled b → Takes b (apply (value b) t) (apply (value b) u) (goes_on c xs ys) → Solves c (append xs ts) (append ys us) m → Solves b (cons t ts) (cons u us) m
+solves_next : (b c : List Binding) (t u : Term) (ts us xs ys : Terms) (m : List Binding) → IsSettled b → Takes b (apply (value b) t) (apply (value b) u) (goes_on c xs ys)
+    → Solves c (append xs ts) (append ys us) m → Solves b (cons t ts) (cons u us) m
 solves_next b c t u ts us xs ys m s k h =
     let lengths : count (apply_all (value m) xs) ≡ count (apply_all (value m) ys) = count-apply _ xs ∙ (takes_lengths b c _ _ xs ys k ∙ sym (count-apply _ ys)) in
-    let both = part (apply_all (value m) xs) (apply_all (value m) ys) (apply_all (value m) ts) (apply_all (value m) us) lengths (sym (apply_all-append (value m) xs ts) ∙ (h.unifies ∙ apply_all-append (value m) ys us)) in
+    let both = part (apply_all (value m) xs) (apply_all (value m) ys) (apply_all (value m) ts) (apply_all (value m) us) lengths
+    (sym (apply_all-append (value m) xs ts) ∙ (h.unifies ∙ apply_all-append (value m) ys us)) in
     let back = takes_back b c _ _ xs ys (value m) k (settled_fixed b s t) (settled_fixed b s u) h.absorbs both.first in
     record {
       unifies = ap₂ cons (sym (absorbed (value m) (value b) back.1 t) ∙ (back.0 ∙ absorbed (value m) (value b) back.1 u)) both.second;

@@ -6,7 +6,9 @@
 use Rattle.std.proofs.Common.{ℕ, suc, ◌≡◌, inl, inr, ◌+◌, ◌≤◌, max, Bool, true, false, nat_eq, ◌||◌, if◌then◌else◌, List, [], ◌∷◌, ◌++◌, map, refl, sym, ap, ap₂, ◌∙◌, subst, subst₂, eqb-true, eq-eqb}
 use Rattle.std.proofs.lemmas.Bool.{false≢true}
 use Rattle.rewriting.specs.Prelude.{Term, Terms, var, app, nil, cons, count, size, size_all, depth, depth_all, Fits, Substitution, apply, apply_all, occurs, occurs_in}
-use Rattle.unifier_run.specs.Run.{Binding, value, only, under, extended, DoFit, DoAllFit, Binds, DoRootsDiffer, HaveArguments, Outcome, unifier, clash, too_large, Turn, ends, goes_on, Takes, side_too_large, equal_sides, occurs_inside, binding, binding_too_large, roots_differ, arguments, append, Runs, no_equation, last_equation, next_equation}
+use Rattle.unifier_run.specs.Run.{Binding, value, only, under, extended, DoFit, DoAllFit, Binds, DoRootsDiffer, HaveArguments, Outcome, unifier, clash, too_large, Turn, ends}
+use Rattle.unifier_run.specs.Run.{goes_on, Takes, side_too_large, equal_sides, occurs_inside, binding, binding_too_large, roots_differ, arguments, append, Runs, no_equation}
+use Rattle.unifier_run.specs.Run.{last_equation, next_equation}
 
 module _ (rho sigma : ℕ → ℕ) where
   -- the term with rho of each variable and sigma of each symbol
@@ -222,6 +224,7 @@ fits_with_names rho t f = subst Fits (renamed-names rho t) (fits_to rho stays t 
 pub fits_without_names : (rho : ℕ → ℕ) (t : Term) → Fits (apply (names rho) t) → Fits t
 fits_without_names rho t f = fits_from rho stays t (subst Fits (sym (renamed-names rho t)) f)
 
-pub runs_with_names : (rho : ℕ → ℕ) → ((x y : ℕ) → rho x ≡ rho y → x ≡ y) → {ts us : Terms} {o : Outcome} → Runs [] ts us o → Runs [] (apply_all (names rho) ts) (apply_all (names rho) us) (renamed_outcome rho stays o)
+pub runs_with_names : (rho : ℕ → ℕ) → ((x y : ℕ) → rho x ≡ rho y → x ≡ y) → {ts us : Terms} {o : Outcome} → Runs [] ts us o
+    → Runs [] (apply_all (names rho) ts) (apply_all (names rho) us) (renamed_outcome rho stays o)
 runs_with_names rho one_to_one {ts = ts} {us = us} {o = o} h =
     subst₂ (λ p q. Runs [] p q (renamed_outcome rho stays o)) (all_renamed-names rho ts) (all_renamed-names rho us) (runs_to rho stays one_to_one (λ f g e. e) h)

@@ -154,11 +154,13 @@ argument_first j n p k t ts v u m l =
 mutual
   pub order_below : (j n : ℕ) (p : Position) (t : Term) → AreInOrder (triples_below j n p t)
   order_below j n p (var x) = tt
-  order_below j n p (app f ts) = sorted_append IsEarlierOverlap (triples_at (suc j) p 0 (counted j n p)) (triples_beside j n p 1 ts) (order_at (suc j) p 0 (counted j n p)) (order_beside j n p 1 ts) (root_first j n p ts)
+  order_below j n p (app f ts) = sorted_append IsEarlierOverlap (triples_at (suc j) p 0 (counted j n p)) (triples_beside j n p 1 ts) (order_at (suc j) p 0 (counted j n p))
+      (order_beside j n p 1 ts) (root_first j n p ts)
 
   pub order_beside : (j n : ℕ) (p : Position) (k : ℕ) (ts : Terms) → AreInOrder (triples_beside j n p k ts)
   order_beside j n p k nil = tt
-  order_beside j n p k (cons t ts) = sorted_append IsEarlierOverlap (triples_below j n (p ++ k ∷ []) t) (triples_beside j n p (suc k) ts) (order_below j n (p ++ k ∷ []) t) (order_beside j n p (suc k) ts) (argument_first j n p k t ts)
+  order_beside j n p k (cons t ts) = sorted_append IsEarlierOverlap (triples_below j n (p ++ k ∷ []) t) (triples_beside j n p (suc k) ts) (order_below j n (p ++ k ∷ []) t)
+      (order_beside j n p (suc k) ts) (argument_first j n p k t ts)
 
 -- which outer rule a triple has
 pub record FromPlace (n j : ℕ) (rs : List Rule) (u : Triple) : Type 0 where
@@ -168,14 +170,20 @@ pub record FromPlace (n j : ℕ) (rs : List Rule) (u : Triple) : Type 0 where
   pub inside : BelowPlace (j + index) n [] rule.left u
 
 later_rule : (n j : ℕ) (r : Rule) (rs : List Rule) (u : Triple) → FromPlace n (suc j) rs u → FromPlace n j (r ∷ rs) u
-later_rule n j r rs u h = record { index = suc h.index; rule = h.rule; found = h.found; inside = (let e : suc j + h.index ≡ j + suc h.index = omega arith in subst (λ z. BelowPlace z n [] h.rule.left u) e h.inside) }
+later_rule n j r rs u h = record {
+  index = suc h.index;
+  rule = h.rule;
+  found = h.found;
+  inside = (let e : suc j + h.index ≡ j + suc h.index = omega arith in subst (λ z. BelowPlace z n [] h.rule.left u) e h.inside);
+}
 
 first_rule : (n j : ℕ) (r : Rule) (rs : List Rule) (u : Triple) → BelowPlace j n [] r.left u → FromPlace n j (r ∷ rs) u
 first_rule n j r rs u h = record { index = 0; rule = r; found = refl; inside = (let e : j ≡ j + 0 = omega arith in subst (λ z. BelowPlace z n [] r.left u) e h) }
 
 pub from_place : (n j : ℕ) (rs : List Rule) (u : Triple) → IsAmong u (triples_from n j rs) → FromPlace n j rs u
 from_place n j [] u m = absurd m
-from_place n j (r ∷ rs) u m = either (among_either u (triples_below j n [] r.left) (triples_from n (suc j) rs) m) (λ k. first_rule n j r rs u (below_place j n [] r.left u k)) (λ k. later_rule n j r rs u (from_place n (suc j) rs u k))
+from_place n j (r ∷ rs) u m = either (among_either u (triples_below j n [] r.left) (triples_from n (suc j) rs) m) (λ k. first_rule n j r rs u (below_place j n [] r.left u k))
+    (λ k. later_rule n j r rs u (from_place n (suc j) rs u k))
 
 pub order_from : (n j : ℕ) (rs : List Rule) → AreInOrder (triples_from n j rs)
 order_from n j [] = tt
@@ -195,12 +203,14 @@ mutual
   has_below j n i p (k ∷ q) (var x) u e v a b = absurd (cc)
   has_below j n i p [] (app f ts) u e v a b =
       among_left _ (triples_at (suc j) p 0 (counted j n p)) (triples_beside j n p 1 ts)
-      (subst (λ z. IsAmong (i, (z, suc j)) (triples_at (suc j) p 0 (counted j n p))) (sym (append-nil p)) (in_place (suc j) p 0 (counted j n p) i a (let h : i ≤ counted j n p = subst (λ z. i ≤ counted j n z) (append-nil p) b in omega (arith, h))))
+      (subst (λ z. IsAmong (i, (z, suc j)) (triples_at (suc j) p 0 (counted j n p))) (sym (append-nil p))
+      (in_place (suc j) p 0 (counted j n p) i a (let h : i ≤ counted j n p = subst (λ z. i ≤ counted j n z) (append-nil p) b in omega (arith, h))))
   has_below j n i p (k ∷ q) (app f ts) u e v a b =
       let w = within (app f ts) k q u e in
       among_right _ (triples_at (suc j) p 0 (counted j n p)) (triples_beside j n p 1 ts) (has_beside j n i p 1 k k q ts w.part u (omega arith) w.here w.inside v a b)
 
-  pub has_beside : (j n i : ℕ) (p : Position) (k l m : ℕ) (q : Position) (ts : Terms) (s u : Term) → m + 1 ≡ k + l → argument ts l ≡ Some s → subterm s q ≡ Some u → (IsVariable u → ⊥) → 0 < i → i ≤ counted j n (p ++ m ∷ q)
+  pub has_beside : (j n i : ℕ) (p : Position) (k l m : ℕ) (q : Position) (ts : Terms) (s u : Term) → m + 1 ≡ k + l → argument ts l ≡ Some s → subterm s q ≡ Some u
+      → (IsVariable u → ⊥) → 0 < i → i ≤ counted j n (p ++ m ∷ q)
       → IsAmong (i, (p ++ m ∷ q, suc j)) (triples_beside j n p k ts)
   has_beside j n i p k l m q nil s u r e h v a b = absurd (cc)
   has_beside j n i p k zero m q (cons t ts) s u r e h v a b = absurd (cc)
@@ -214,14 +224,16 @@ mutual
   has_beside j n i p k (suc (suc l)) m q (cons t ts) s u r e h v a b =
       among_right _ (triples_below j n (p ++ k ∷ []) t) (triples_beside j n p (suc k) ts) (has_beside j n i p (suc k) (suc l) m q ts s u (omega (arith, r)) e h v a b)
 
-pub has_from : (n j i index : ℕ) (q : Position) (rs : List Rule) (r : Rule) (u : Term) → slice_get rs index ≡ Some r → subterm r.left q ≡ Some u → (IsVariable u → ⊥) → 0 < i → i ≤ counted (j + index) n q
+pub has_from : (n j i index : ℕ) (q : Position) (rs : List Rule) (r : Rule) (u : Term) → slice_get rs index ≡ Some r → subterm r.left q ≡ Some u → (IsVariable u → ⊥)
+    → 0 < i → i ≤ counted (j + index) n q
     → IsAmong (i, (q, suc (j + index))) (triples_from n j rs)
 has_from n j i index q [] r u e h v a b = absurd (cc)
 has_from n j i zero q (s ∷ rs) r u e h v a b =
     let same : s ≡ r = cc in
     let none : j + 0 ≡ j = omega arith in
     subst (λ z. IsAmong (i, (q, suc z)) (triples_from n j (s ∷ rs))) (sym none)
-    (among_left _ (triples_below j n [] s.left) (triples_from n (suc j) rs) (has_below j n i [] q s.left u (subst (λ z. subterm z.left q ≡ Some u) (sym same) h) v a (subst (λ z. i ≤ counted z n q) none b)))
+    (among_left _ (triples_below j n [] s.left) (triples_from n (suc j) rs) (has_below j n i [] q s.left u (subst (λ z. subterm z.left q ≡ Some u) (sym same) h) v a
+    (subst (λ z. i ≤ counted z n q) none b)))
 has_from n j i (suc index) q (s ∷ rs) r u e h v a b =
     let next : suc j + index ≡ j + suc index = omega arith in
     among_right _ (triples_below j n [] s.left) (triples_from n (suc j) rs)
@@ -247,7 +259,8 @@ has_all sys i p (suc j) inner outer part h =
     let number = rule_number sys i inner h.is_inner in
     let none : 0 + j ≡ j = omega arith in
     subst (λ z. IsAmong (i, (p, suc z)) (all_triples sys)) none
-    (has_from (length sys.rules) 0 i j p sys.rules outer part h.is_outer h.is_part h.no_variable number.0 (subst (λ z. i ≤ counted z (length sys.rules) p) (sym none) (counts_there i j (length sys.rules) p h.counts number.1)))
+    (has_from (length sys.rules) 0 i j p sys.rules outer part h.is_outer h.is_part h.no_variable number.0
+    (subst (λ z. i ≤ counted z (length sys.rules) p) (sym none) (counts_there i j (length sys.rules) p h.counts number.1)))
 
 pub order_all : (sys : System) → AreInOrder (all_triples sys)
 order_all sys = order_from (length sys.rules) 0 sys.rules

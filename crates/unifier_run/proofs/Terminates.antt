@@ -7,7 +7,8 @@ use Rattle.general_lemmas.proofs.Decisions.{dec_and}
 use Rattle.rewriting.specs.Prelude.{Term, var, app, Terms, nil, cons, count, size, size_all, apply, apply_all, occurs, occurs_in, IsAmong}
 use Rattle.rewriting.proofs.Instances.{or_cases, inj_app}
 use Rattle.rewriting.proofs.Equality.{same, fits_decided}
-use Rattle.unifier_run.specs.Run.{Binding, value, only, extended, DoFit, DoAllFit, Binds, Outcome, unifier, clash, too_large, ends, goes_on, Takes, side_too_large, equal_sides, occurs_inside, binding, binding_too_large, roots_differ, arguments, append, Runs, no_equation, last_equation, next_equation}
+use Rattle.unifier_run.specs.Run.{Binding, value, only, extended, DoFit, DoAllFit, Binds, Outcome, unifier, clash, too_large, ends, goes_on, Takes, side_too_large, equal_sides}
+use Rattle.unifier_run.specs.Run.{occurs_inside, binding, binding_too_large, roots_differ, arguments, append, Runs, no_equation, last_equation, next_equation}
 use Rattle.unifier_run.proofs.Values.{apply_all-extended}
 use Rattle.unifier_run.proofs.Lists.{apply_all-append, count-append}
 use Rattle.unifier_run.proofs.General.{IsSettled, settled_fixed, takes_settled}
@@ -156,14 +157,16 @@ opened b t f xs ts s e =
     let fixed : app f (apply_all (value b) xs) ≡ app f xs = ap (apply (value b)) (sym e) ∙ (settled_fixed b s t ∙ e) in
     apply_all-append (value b) xs ts ∙ ap (λ k. append k (apply_all (value b) ts)) (inj_app f f _ _ fixed)
 
-opened_has : (vs : List ℕ) (b : List Binding) (t : Term) (f : ℕ) (xs ts : Terms) → IsSettled b → apply (value b) t ≡ app f xs → HasAll vs (apply_all (value b) (cons t ts)) → HasAll vs (apply_all (value b) (append xs ts))
+opened_has : (vs : List ℕ) (b : List Binding) (t : Term) (f : ℕ) (xs ts : Terms) → IsSettled b → apply (value b) t ≡ app f xs → HasAll vs (apply_all (value b) (cons t ts))
+    → HasAll vs (apply_all (value b) (append xs ts))
 opened_has vs b t f xs ts s e all z o = go (occurs_in_append z xs (apply_all (value b) ts) (subst (λ k. occurs_in z k ≡ true) (opened b t f xs ts s e) o))
   where
     go : (occurs_in z xs ≡ true) ⊎ (occurs_in z (apply_all (value b) ts) ≡ true) → IsAmong z vs
     go (inl h) = all z (or_left _ _ (subst (λ k. occurs z k ≡ true) (sym e) h))
     go (inr h) = all z (or_right _ _ h)
 
-opened_size : (b : List Binding) (t : Term) (f : ℕ) (xs ts : Terms) → IsSettled b → apply (value b) t ≡ app f xs → size_all (apply_all (value b) (append xs ts)) < size_all (apply_all (value b) (cons t ts))
+opened_size : (b : List Binding) (t : Term) (f : ℕ) (xs ts : Terms) → IsSettled b → apply (value b) t ≡ app f xs
+    → size_all (apply_all (value b) (append xs ts)) < size_all (apply_all (value b) (cons t ts))
 opened_size b t f xs ts s e =
     let whole = ap size_all (opened b t f xs ts s e) ∙ size_all-append xs (apply_all (value b) ts) in
     let one : size (apply (value b) t) ≡ suc (size_all xs) = ap size e in
@@ -176,7 +179,8 @@ size_positive (app f ts) = omega arith
 -- where fewer than n variables are left to bind, the run has an outcome
 abbrev pub Ends : ℕ → Type 0
 Ends n =
-    (vs : List ℕ) → length vs < n → (b : List Binding) → IsSettled b → (ts us : Terms) → count ts ≡ count us → HasAll vs (apply_all (value b) ts) → HasAll vs (apply_all (value b) us) → (o : Outcome) × Runs b ts us o
+    (vs : List ℕ) → length vs < n → (b : List Binding) → IsSettled b → (ts us : Terms) → count ts ≡ count us → HasAll vs (apply_all (value b) ts)
+    → HasAll vs (apply_all (value b) us) → (o : Outcome) × Runs b ts us o
 
 -- the same with these bindings, for sides of fewer than m nodes
 abbrev EndsSmall : List ℕ → List Binding → ℕ → Type 0
@@ -193,7 +197,8 @@ one_more n m vs b fewer less s small t u ts us c hl hr fits (drops k) =
     let rest = small ts us c (λ z o. hl z (or_right _ _ o)) (λ z o. hr z (or_right _ _ o)) (omega (arith, fits, p)) in
     (rest.0, next_equation k rest.1)
 one_more n m vs b fewer less s small t u ts us c hl hr fits (binds x v is free k) =
-    let inside : (z : ℕ) → occurs z v ≡ true → IsAmong z vs = λ z o. of_sides vs (apply (value b) t) (apply (value b) u) (apply_all (value b) ts) (apply_all (value b) us) z hl hr (binds_within _ _ x v z is o) in
+    let inside : (z : ℕ) → occurs z v ≡ true → IsAmong z vs = λ z o. of_sides vs (apply (value b) t) (apply (value b) u) (apply_all (value b) ts) (apply_all (value b) us) z hl hr
+    (binds_within _ _ x v z is o) in
     let there = of_sides vs (apply (value b) t) (apply (value b) u) (apply_all (value b) ts) (apply_all (value b) us) x hl hr (binds_of _ _ x v is) in
     let few = without_fewer x vs there in
     let rest =

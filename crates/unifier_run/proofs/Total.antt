@@ -200,7 +200,9 @@ at_triple sys i p j = with_rules (rule_at sys i) refl (rule_at sys j) refl
         go : Dec (IsVariable part) → AtTriple sys i p j
         go (no n) = at_place sys i p j inner outer part (record { is_inner = ei; is_outer = ej; is_part = ep; no_variable = n; counts = c })
         go (yes v) =
-            clashes (λ r q t k. absurd (k.no_variable (subst IsVariable (let e : q ≡ outer = (let h : Some q ≡ Some outer = sym k.is_outer ∙ ej in cc) in let h = subst (λ z. subterm z.left p ≡ Some t) e k.is_part in (let both : Some part ≡ Some t = sym ep ∙ h in cc)) v)))
+            clashes (λ r q t k. absurd (k.no_variable
+            (subst IsVariable (let e : q ≡ outer = (let h : Some q ≡ Some outer = sym k.is_outer ∙ ej in cc) in let h = subst (λ z. subterm z.left p ≡ Some t) e k.is_part in
+            (let both : Some part ≡ Some t = sym ep ∙ h in cc)) v)))
 
     with_rules : (o : Option Rule) → rule_at sys i ≡ o → (q : Option Rule) → rule_at sys j ≡ q → AtTriple sys i p j
     with_rules None ei q ej = clashes (λ r q t k. absurd (let h = k.is_inner in cc))
@@ -262,7 +264,8 @@ module _ (sys : System) where
   walk ts [] os r = at_end ts os r
   walk ts ((i, (p, j)) ∷ us) os r = go (at_triple sys i p j) (λ qs. walk (ts ++ (i, (p, j)) ∷ []) us (os ++ qs))
     where
-      more : (o : Overlap) → IsOverlapOf sys o → triple o ≡ (i, (p, j)) → Dec (suc (length os) ≤ 20000) → ((qs : List Overlap) → Reached (ts ++ (i, (p, j)) ∷ []) us (os ++ qs) → Listing sys) → Listing sys
+      more : (o : Overlap) → IsOverlapOf sys o → triple o ≡ (i, (p, j)) → Dec (suc (length os) ≤ 20000)
+          → ((qs : List Overlap) → Reached (ts ++ (i, (p, j)) ∷ []) us (os ++ qs) → Listing sys) → Listing sys
       more o is at (yes few) on = on (o ∷ []) (one_on ts us (i, (p, j)) os (o ∷ []) r (inr (o, [], refl, is, at, refl)) (subst (λ z. z ≤ 20000) (sym (appended os o)) few))
       more o is at (no h) on = many_here ts us (i, (p, j)) os r o is at (not_few (length os) h)
         where

@@ -53,7 +53,10 @@ those_at sys (t ∷ ts) os o (inr (a, qs, e, is, at, h)) m = go (subst (IsAmong 
 before_those : (sys : System) (ts : List Triple) (os : List Overlap) (o : Overlap) → AreThose sys ts os → ((u : Triple) → IsAmong u ts → IsEarlierOverlap (triple o) u) → IsBeforeAll ComesBefore o os
 before_those sys [] os o h e = subst (IsBeforeAll ComesBefore o) (sym h) tt
 before_those sys (t ∷ ts) os o (inl (c, h)) e = before_those sys ts os o h (λ u m. e u (inr m))
-before_those sys (t ∷ ts) os o (inr (a, qs, s, is, at, h)) e = subst (IsBeforeAll ComesBefore o) (sym s) (subst (IsEarlierOverlap (triple o)) (sym at) (e t (inl refl)), before_those sys ts qs o h (λ u m. e u (inr m)))
+before_those sys (t ∷ ts) os o (inr (a, qs, s, is, at, h)) e = subst (IsBeforeAll ComesBefore o) (sym s) (
+  subst (IsEarlierOverlap (triple o)) (sym at) (e t (inl refl)),
+  before_those sys ts qs o h (λ u m. e u (inr m)),
+)
 
 those_sorted : (sys : System) (ts : List Triple) (os : List Overlap) → AreThose sys ts os → AreInOrder ts → IsSorted ComesBefore os
 those_sorted sys [] os h e = subst (IsSorted ComesBefore) (sym h) tt
@@ -61,7 +64,8 @@ those_sorted sys (t ∷ ts) os (inl (c, h)) e = those_sorted sys ts os h e.1
 those_sorted sys (t ∷ ts) os (inr (a, qs, s, is, at, h)) e =
     subst (IsSorted ComesBefore) (sym s) (before_those sys ts qs a h (λ u m. subst (λ z. IsEarlierOverlap z u) (sym at) (before_one IsEarlierOverlap t u ts e.0 m)), those_sorted sys ts qs h e.1)
 
-those_whole : (sys : System) (ts : List Triple) (os : List Overlap) (i : ℕ) (p : Position) (j : ℕ) (inner outer : Rule) (part : Term) → AreThose sys ts os → IsAmong (i, (p, j)) ts → IsPlace sys i p j inner outer part
+those_whole : (sys : System) (ts : List Triple) (os : List Overlap) (i : ℕ) (p : Position) (j : ℕ) (inner outer : Rule) (part : Term) → AreThose sys ts os → IsAmong (i, (p, j)) ts
+    → IsPlace sys i p j inner outer part
     → IsOutcomeOf inner.left part clash ⊎ ((o : Overlap) × IsAmong o os × (triple o ≡ (i, (p, j))))
 those_whole sys [] os i p j inner outer part h m place = absurd m
 those_whole sys (t ∷ ts) os i p j inner outer part (inl (c, h)) (inl e) place = inl (subst (DoesClash sys) (sym e) c inner outer part place)
@@ -75,7 +79,8 @@ those_whole sys (t ∷ ts) os i p j inner outer part (inr (a, qs, s, is, at, h))
 
 -- where the triples are in order, and those that count are among them
 pub overlaps_at : (sys : System) (Counts : Triple → Type 0) (ts : List Triple) (os : List Overlap) → AreInOrder ts → ((t : Triple) → IsAmong t ts → Counts t)
-    → ((i : ℕ) (p : Position) (j : ℕ) (inner outer : Rule) (part : Term) → IsPlace sys i p j inner outer part → Counts (i, (p, j)) → IsAmong (i, (p, j)) ts) → AreThose sys ts os → AreOverlapsAt sys Counts os
+    → ((i : ℕ) (p : Position) (j : ℕ) (inner outer : Rule) (part : Term) → IsPlace sys i p j inner outer part → Counts (i, (p, j)) → IsAmong (i, (p, j)) ts)
+    → AreThose sys ts os → AreOverlapsAt sys Counts os
 overlaps_at sys Counts ts os order counts whole h =
     record {
       each = λ o m. (let r = those_at sys ts os o h m in (r.0, counts (triple o) r.1));
@@ -85,7 +90,8 @@ overlaps_at sys Counts ts os order counts whole h =
 
 -- those before one of the triples
 pub overlaps_before : (sys : System) (ts us : List Triple) (t : Triple) (os : List Overlap) → AreInOrder (ts ++ t ∷ us)
-    → ((i : ℕ) (p : Position) (j : ℕ) (inner outer : Rule) (part : Term) → IsPlace sys i p j inner outer part → IsAmong (i, (p, j)) (ts ++ t ∷ us)) → AreThose sys ts os → AreOverlapsAt sys (λ u. IsEarlierOverlap u t) os
+    → ((i : ℕ) (p : Position) (j : ℕ) (inner outer : Rule) (part : Term) → IsPlace sys i p j inner outer part → IsAmong (i, (p, j)) (ts ++ t ∷ us)) → AreThose sys ts os
+    → AreOverlapsAt sys (λ u. IsEarlierOverlap u t) os
 overlaps_before sys ts us t os order whole h =
     overlaps_at sys (λ u. IsEarlierOverlap u t) ts os (sorted_left IsEarlierOverlap ts (t ∷ us) order) (λ u m. sorted_across IsEarlierOverlap ts (t ∷ us) order u t m (inl refl))
     (λ i p j inner outer part place c. go (i, (p, j)) c (among_either (i, (p, j)) ts (t ∷ us) (whole i p j inner outer part place))) h

@@ -1,5 +1,6 @@
 -- Rules put behind others, one by one.
-use Rattle.std.proofs.Common.{◌≡◌, ℕ, suc, ◌+◌, ◌≤◌, max, refl, sym, ap, ap₂, ◌∙◌, subst, List, [], ◌∷◌, ◌++◌, map, length, get_or, drop, take, ◌<◌, ◌-◌, arith, append_assoc, length-drop, Result, Ok, Err}
+use Rattle.std.proofs.Common.{◌≡◌, ℕ, suc, ◌+◌, ◌≤◌, max, refl, sym, ap, ap₂, ◌∙◌, subst, List, [], ◌∷◌, ◌++◌, map, length, get_or, drop, take, ◌<◌, ◌-◌, arith, append_assoc}
+use Rattle.std.proofs.Common.{length-drop, Result, Ok, Err}
 use Rattle.std.proofs.lemmas.List.{take_rest}
 use Rattle.simplifications.proofs.Anew.{fits_renamed}
 use Rattle.rewriting.specs.Terms as math
@@ -66,7 +67,8 @@ pub pushed_badly : (f : ℕ) (xs : List ℕ) (head right : Term) (conds : List C
     → 1 ≤ length conds → c ≡ get_or conds 0 c → PushAnswers head (keeper f (view c.left) xs) before mid (Err error)
     → AppendAnswers (unraveled_from f xs head (map condition_view conds) right) before after (Err error)
 pushed_badly f xs head right [] c before mid after error h is p = absurd (omega (arith, h))
-pushed_badly f xs head right (d ∷ cs) c before mid after cause.TooLarge h is p = no_fit head (keeper f (view d.left) xs) _ (subst (λ q. PushAnswers head (keeper f (view q.left) xs) before mid (Err cause.TooLarge)) is p)
+pushed_badly f xs head right (d ∷ cs) c before mid after cause.TooLarge h is p = no_fit head (keeper f (view d.left) xs) _
+    (subst (λ q. PushAnswers head (keeper f (view q.left) xs) before mid (Err cause.TooLarge)) is p)
 pushed_badly f xs head right (d ∷ cs) c before mid after cause.NoMemory h is p = tt
 
 -- a condition is left, its rule is put behind, and then the others
@@ -79,7 +81,8 @@ pushed_one f xs ys head right [] c before mid after done result h is e p q = abs
 pushed_one f xs ys head right (d ∷ cs) c before mid after done result h is e p given =
     let q = subst (λ zs. AppendAnswers (unraveled_from (f + 1) ys (keeper f (view c.right) xs) (map condition_view zs) right) mid after result) (take_rest (d ∷ cs) 1) given in
     pushed_first head (keeper f (view d.left) xs) _ before mid after done result (subst (λ z. PushAnswers head (keeper f (view z.left) xs) before mid (Ok done)) is p)
-    (subst (λ n. AppendAnswers (unraveled_from n (with_variables xs (view d.right)) (keeper f (view d.right) xs) (map condition_view cs) right) mid after result) (let n : f + 1 ≡ suc f = omega arith in n)
+    (subst (λ n. AppendAnswers (unraveled_from n (with_variables xs (view d.right)) (keeper f (view d.right) xs) (map condition_view cs) right) mid after result)
+    (let n : f + 1 ≡ suc f = omega arith in n)
     (subst (λ z. AppendAnswers (unraveled_from (f + 1) (with_variables xs (view z.right)) (keeper f (view z.right) xs) (map condition_view cs) right) mid after result) is
     (subst (λ zs. AppendAnswers (unraveled_from (f + 1) zs (keeper f (view c.right) xs) (map condition_view cs) right) mid after result) e q)))
 

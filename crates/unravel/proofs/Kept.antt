@@ -44,7 +44,8 @@ place_here xs i x h = rw add-one (go xs i h)
     go (y ∷ ys) (suc k) h = go ys k (omega arith)
 
 -- the variables of what is left of a list
-pub variables_here : (xs order : List ℕ) (i : ℕ) → i < length xs → with_variables_of order (variable_terms (drop i xs)) ≡ with_variables_of (with_new order (get_or xs i 0)) (variable_terms (drop (i + 1) xs))
+pub variables_here : (xs order : List ℕ) (i : ℕ) → i < length xs
+    → with_variables_of order (variable_terms (drop i xs)) ≡ with_variables_of (with_new order (get_or xs i 0)) (variable_terms (drop (i + 1) xs))
 variables_here xs order i h = rw add-one (go xs i h)
   where
     go : (ys : List ℕ) (k : ℕ) → k < length ys → with_variables_of order (variable_terms (drop k ys)) ≡ with_variables_of (with_new order (get_or ys k 0)) (variable_terms (drop (suc k) ys))

@@ -1,5 +1,6 @@
 -- Rules put behind others, rule by rule.
-use Rattle.std.proofs.Common.{◌≡◌, ℕ, zero, suc, ◌+◌, ◌<◌, ◌≤◌, refl, sym, ap, ap₂, ◌∙◌, subst, List, [], ◌∷◌, ◌++◌, map, length, get_or, take, arith, append_assoc, append-nil, slice_get, Some, Ok, Err, Vec, Global}
+use Rattle.std.proofs.Common.{◌≡◌, ℕ, zero, suc, ◌+◌, ◌<◌, ◌≤◌, refl, sym, ap, ap₂, ◌∙◌, subst, List, [], ◌∷◌, ◌++◌, map, length, get_or, take, arith, append_assoc, append-nil}
+use Rattle.std.proofs.Common.{slice_get, Some, Ok, Err, Vec, Global}
 use Rattle.std.proofs.lemmas.List.{length-map, take_all}
 use Rattle.general_lemmas.proofs.Places.{slice_get-map_read}
 use Rattle.rewriting.specs.Prelude.{Fits, Each, terms_of_rule, condition_count, AreRules, DoSidesFit, unraveled_rule, unraveled_rules, Signature}
@@ -31,7 +32,8 @@ rules_take f (r ∷ rs) zero q e =
 rules_take f (r ∷ rs) (suc i) q e =
     let rest = rules_take (f + length r.conditions) rs i q e in
     let start : (f + length r.conditions) + condition_count (take i rs) ≡ f + (length r.conditions + condition_count (take i rs)) = omega arith in
-    ap (λ z. unraveled_rule f r ++ z) rest ∙ sym (append_assoc (unraveled_rule f r) _ _) ∙ ap (λ n. (unraveled_rule f r ++ unraveled_rules (f + length r.conditions) (take i rs)) ++ unraveled_rule n q) start
+    ap (λ z. unraveled_rule f r ++ z) rest ∙ sym (append_assoc (unraveled_rule f r) _ _)
+    ∙ ap (λ n. (unraveled_rule f r ++ unraveled_rules (f + length r.conditions) (take i rs)) ++ unraveled_rule n q) start
 
 count_take : (rs : List rules.Rule) (i : ℕ) (q : rules.Rule) → slice_get rs i ≡ Some q → condition_count (take (suc i) rs) ≡ condition_count (take i rs) + length q.conditions
 count_take [] i q e = absurd (cc)
@@ -111,7 +113,8 @@ pub record Progress (f : ℕ) (rs : List Rule) (i symbol : ℕ) (out : List Rule
 pub begin : (f : ℕ) (rs out : List Rule) → out ≡ [] → Progress f rs 0 f out
 begin f rs out e = record { front = front_begin f rs; out_is = ap (map rule_view) e; counted = subst AreCounted (sym e) tt }
 
-pub room : (f : ℕ) (rs : List Rule) (i symbol : ℕ) (out : List Rule) (r : Rule) → Progress f rs i symbol out → i < length rs → r ≡ get_or rs i r → symbol + length r.conds.items ≤ f + condition_count (map rule_view rs)
+pub room : (f : ℕ) (rs : List Rule) (i symbol : ℕ) (out : List Rule) (r : Rule) → Progress f rs i symbol out → i < length rs → r ≡ get_or rs i r
+    → symbol + length r.conds.items ≤ f + condition_count (map rule_view rs)
 room f rs i symbol out r p h is = front_room f rs i symbol r p.front h is
 
 pub advance : (f : ℕ) (rs : List Rule) (i symbol : ℕ) (out after : List Rule) (r : Rule) (done : Unit {0}) → Progress f rs i symbol out → i < length rs → r ≡ get_or rs i r

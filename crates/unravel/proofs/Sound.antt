@@ -131,18 +131,21 @@ unraveled_system sys h fit =
       few_rules = (let few = h.few_rules in omega (arith, few, plain, several));
     }
 
-pub sound_where_ok : (sys : rules.System) (f : ℕ) (r : Result (Vec Rule Global) UnravelError) → IsSystem sys → f ≡ length sys.arities → RulesAnswers f sys.rules r → IfOk r (λ v. IsSystem (unraveled sys))
+pub sound_where_ok : (sys : rules.System) (f : ℕ) (r : Result (Vec Rule Global) UnravelError) → IsSystem sys → f ≡ length sys.arities → RulesAnswers f sys.rules r
+    → IfOk r (λ v. IsSystem (unraveled sys))
 sound_where_ok sys f (Ok v) s e h = unraveled_system sys s (subst (λ n. DoSidesFit (unraveled_rules n sys.rules)) e h.1)
 sound_where_ok sys f (Err e) s same h = tt
 
 abbrev made : List ℕ → List rules.Rule → rules.System
 made arities rs = system_of arities rs
 
-pub made_sound : (sys : rules.System) (v : List Rule) (arities : List ℕ) → map rule_view v ≡ unraveled_rules (length sys.arities) sys.rules → arities ≡ (unraveled sys).arities → IsSystem (unraveled sys) → IsSystem (system_of arities (map rule_view v))
+pub made_sound : (sys : rules.System) (v : List Rule) (arities : List ℕ) → map rule_view v ≡ unraveled_rules (length sys.arities) sys.rules → arities ≡ (unraveled sys).arities
+    → IsSystem (unraveled sys) → IsSystem (system_of arities (map rule_view v))
 made_sound sys v arities r a h = subst IsSystem (sym (ap₂ made a r)) h
 
 -- the sides of a rule that is numbered anew have as many variables as before
-pub counted_anew : (l r : Term) (order : List ℕ) (u v : Term) → order ≡ with_variables (with_variables [] l) r → u ≡ apply (numbered order) l → v ≡ apply (numbered order) r → length order ≡ length (variables_of (cons u (cons v nil)))
+pub counted_anew : (l r : Term) (order : List ℕ) (u v : Term) → order ≡ with_variables (with_variables [] l) r → u ≡ apply (numbered order) l → v ≡ apply (numbered order) r
+    → length order ≡ length (variables_of (cons u (cons v nil)))
 counted_anew l r order u v e a b =
     let ts = cons l (cons r nil) in
     let xs = variables_of ts in
@@ -158,6 +161,7 @@ counted_more rs q after e one h = subst AreCounted (sym e) (go rs h)
     go [] h = (one, tt)
     go (p ∷ ps) h = (h.0, go ps h.1)
 
-pub counted_through : (result : Result (Unit {0}) RuleError) (before mid after : List Rule) → (AreCounted before → AreCounted mid) → OnOk result (AreCounted mid → AreCounted after) → OnOk result (AreCounted before → AreCounted after)
+pub counted_through : (result : Result (Unit {0}) RuleError) (before mid after : List Rule) → (AreCounted before → AreCounted mid) → OnOk result (AreCounted mid → AreCounted after)
+    → OnOk result (AreCounted before → AreCounted after)
 counted_through (Ok _) before mid after f g = λ h. g (f h)
 counted_through (Err e) before mid after f g = tt

@@ -38,7 +38,8 @@ rule_all : (i : ℕ) (cs : List rules.Condition) → rule_heads i (length cs) �
 rule_all i cs = let e : length cs ≡ 0 + length cs = omega arith in ap (rule_heads i) e ∙ rule_from i 0 cs
 
 -- what a rule has
-small_at : (rs : List Rule) (i : ℕ) (r : Rule) → AreRulesSmall (map rule_view rs) → i < length rs → r ≡ get_or rs i r → Each Fits (terms_of_rule (rule_view r)) × (length (rule_view r).conditions ≤ 100)
+small_at : (rs : List Rule) (i : ℕ) (r : Rule) → AreRulesSmall (map rule_view rs) → i < length rs → r ≡ get_or rs i r
+    → Each Fits (terms_of_rule (rule_view r)) × (length (rule_view r).conditions ≤ 100)
 small_at [] i r h lt is = absurd (omega (arith, lt))
 small_at (q ∷ rs) zero r h lt is = subst (λ z. Each Fits (terms_of_rule (rule_view z)) × (length (rule_view z).conditions ≤ 100)) (sym is) (h.0, h.1)
 small_at (q ∷ rs) (suc i) r h lt is = small_at rs i r h.2 (omega (arith, lt)) is
@@ -57,7 +58,9 @@ arities_here rs i r before after whole lt is e a =
     let next : i + 1 ≡ suc i = omega arith in
     ap₂ (λ x n. x ++ all_keeper_arities (map rule_view (drop n rs))) a next ∙ append_assoc before _ _ ∙ ap (λ z. before ++ z) (sym (go rs i lt is)) ∙ e
   where
-    go : (qs : List Rule) (k : ℕ) → k < length qs → r ≡ get_or qs k r → all_keeper_arities (map rule_view (drop k qs)) ≡ keeper_arities (variables (view r.left)) (map condition_view r.conds.items) ++ all_keeper_arities (map rule_view (drop (suc k) qs))
+    go : (qs : List Rule) (k : ℕ) → k < length qs → r ≡ get_or qs k r
+        → all_keeper_arities (map rule_view (drop k qs)) ≡ keeper_arities (variables (view r.left)) (map condition_view r.conds.items) ++ all_keeper_arities
+        (map rule_view (drop (suc k) qs))
     go [] k lt is = absurd (omega (arith, lt))
     go (q ∷ qs) zero lt is = ap (λ z. keeper_arities (variables (view z.left)) (map condition_view z.conds.items) ++ all_keeper_arities (map rule_view qs)) (sym is)
     go (q ∷ qs) (suc k) lt is = go qs k (omega (arith, lt)) is
@@ -68,10 +71,12 @@ pub heads_here : (rs : List Rule) (i : ℕ) (r : Rule) (before after whole : Lis
 heads_here rs i r before after whole lt is e a =
     let next : i + 1 ≡ suc i = omega arith in
     let two : i + 1 + 1 ≡ suc (i + 1) = omega arith in
-    ap₂ (λ x n. x ++ auxiliary_heads (i + 1 + 1) (map rule_view (drop n rs))) a next ∙ ap (λ n. (before ++ rule_heads (i + 1) (length r.conds.items)) ++ auxiliary_heads n (map rule_view (drop (suc i) rs))) two
+    ap₂ (λ x n. x ++ auxiliary_heads (i + 1 + 1) (map rule_view (drop n rs))) a next
+    ∙ ap (λ n. (before ++ rule_heads (i + 1) (length r.conds.items)) ++ auxiliary_heads n (map rule_view (drop (suc i) rs))) two
     ∙ append_assoc before _ _ ∙ ap (λ z. before ++ z) (sym (go rs i lt is)) ∙ e
   where
-    go : (qs : List Rule) (k : ℕ) → k < length qs → r ≡ get_or qs k r → auxiliary_heads (i + 1) (map rule_view (drop k qs)) ≡ rule_heads (i + 1) (length r.conds.items) ++ auxiliary_heads (suc (i + 1)) (map rule_view (drop (suc k) qs))
+    go : (qs : List Rule) (k : ℕ) → k < length qs → r ≡ get_or qs k r
+        → auxiliary_heads (i + 1) (map rule_view (drop k qs)) ≡ rule_heads (i + 1) (length r.conds.items) ++ auxiliary_heads (suc (i + 1)) (map rule_view (drop (suc k) qs))
     go [] k lt is = absurd (omega (arith, lt))
     go (q ∷ qs) zero lt is =
         let count : length (map condition_view q.conds.items) ≡ length r.conds.items = length-map q.conds.items condition_view ∙ ap (λ z. length z.conds.items) (sym is) in

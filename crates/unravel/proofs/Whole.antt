@@ -22,13 +22,15 @@ fits_at f (p ∷ qs) (suc j) q h e =
     let start : (f + length p.conditions) + condition_count (take j qs) ≡ f + (length p.conditions + condition_count (take j qs)) = omega arith in
     subst (λ n. DoSidesFit (unraveled_rule n q)) start rest
 
-fits_before : (f : ℕ) (qs : List rules.Rule) (k j : ℕ) (q : rules.Rule) → DoSidesFit (unraveled_rules f (take k qs)) → j < k → slice_get qs j ≡ Some q → DoSidesFit (unraveled_rule (f + condition_count (take j qs)) q)
+fits_before : (f : ℕ) (qs : List rules.Rule) (k j : ℕ) (q : rules.Rule) → DoSidesFit (unraveled_rules f (take k qs)) → j < k → slice_get qs j ≡ Some q
+    → DoSidesFit (unraveled_rule (f + condition_count (take j qs)) q)
 fits_before f [] k j q h lt e = absurd (cc)
 fits_before f (p ∷ qs) zero j q h lt e = absurd (omega (arith, lt))
 fits_before f (p ∷ qs) (suc k) zero q h lt e =
     let same : p ≡ q = cc in
     let start : f ≡ f + 0 = omega arith in
-    subst (λ n. DoSidesFit (unraveled_rule n q)) start (subst (λ z. DoSidesFit (unraveled_rule f z)) same (sides_fit-first (unraveled_rule f p) (unraveled_rules (f + length p.conditions) (take k qs)) h))
+    subst (λ n. DoSidesFit (unraveled_rule n q)) start
+    (subst (λ z. DoSidesFit (unraveled_rule f z)) same (sides_fit-first (unraveled_rule f p) (unraveled_rules (f + length p.conditions) (take k qs)) h))
 fits_before f (p ∷ qs) (suc k) (suc j) q h lt e =
     let rest = fits_before (f + length p.conditions) qs k j q (sides_fit-second (unraveled_rule f p) (unraveled_rules (f + length p.conditions) (take k qs)) h) (omega (arith, lt)) e in
     let start : (f + length p.conditions) + condition_count (take j qs) ≡ f + (length p.conditions + condition_count (take j qs)) = omega arith in
@@ -50,6 +52,7 @@ first_large sys n h =
 abbrev made : List ℕ → List rules.Rule → rules.System
 made arities rs = system_of arities rs
 
-pub is_unraveled : (sys : rules.System) (u : Unraveled) (v : List Rule) (arities : List ℕ) → map rule_view v ≡ unraveled_rules (length sys.arities) sys.rules → DoSidesFit (unraveled_rules (length sys.arities) sys.rules)
+pub is_unraveled : (sys : rules.System) (u : Unraveled) (v : List Rule) (arities : List ℕ) → map rule_view v ≡ unraveled_rules (length sys.arities) sys.rules
+    → DoSidesFit (unraveled_rules (length sys.arities) sys.rules)
     → arities ≡ (unraveled sys).arities → u.system ≡ system_of arities (map rule_view v) → map head_view u.heads.items ≡ heads sys → IsUnraveled sys u
 is_unraveled sys u v arities r fit a s h = record { system = s ∙ ap₂ made a r; heads = h; fits = all_fit sys fit }

@@ -20,7 +20,9 @@ use Rattle.valid_certificates.specs.Kinds.{Kind}
 use Rattle.judged_evidence.specs.Evidence.{IsInfeasibilityJudged}
 use Rattle.valid_certificates.specs.PairEvidence.{IsPairJudged}
 use Rattle.valid_certificates.specs.Entries.{triple_of, AreSettled, AreNotSettled, DoSettle, DoNotSettle, pair_is_large, pairs_are_many, entry_fails}
-use Rattle.valid_certificates.specs.Peaks.{MatchesAt, RedexPlace, IsRedex, AreRedexes, chosen, at_redex, AreConditionsAt, IsRedexJudged, entry_place, AreRefuted, AreNotRefuted, AreShownApart, AreNotShownApart, LeadsTo, HasFileSymbols, IsValidPeak, IsPeakRejected, foreign_start, first_fails, second_fails, not_apart}
+use Rattle.valid_certificates.specs.Peaks.{MatchesAt, RedexPlace, IsRedex, AreRedexes, chosen, at_redex, AreConditionsAt, IsRedexJudged, entry_place, AreRefuted, AreNotRefuted}
+use Rattle.valid_certificates.specs.Peaks.{AreShownApart, AreNotShownApart, LeadsTo, HasFileSymbols, IsValidPeak, IsPeakRejected, foreign_start, first_fails, second_fails}
+use Rattle.valid_certificates.specs.Peaks.{not_apart}
 use Rattle.valid_certificates.proofs.EvidenceTotal.{HasJudgement}
 use Rattle.valid_certificates.proofs.OneOverlaps.{IsSame}
 use Rattle.valid_certificates.proofs.FileSymbols.{below_decided}
@@ -71,7 +73,8 @@ module _ (kind : Kind) (sys : System) (judged : (o : Overlap) (e : PairEvidence)
   abbrev Settled : ℕ → List Overlap → List PairEntry → Type 0
   Settled n os es = HasAnswer (AreSettled kind sys os es) (AreNotSettled kind sys n os es)
 
-  entry_total : (n : ℕ) (o : Overlap) (os : List Overlap) (e : PairEntry) (es : List PairEntry) → Dec (triple_of e ≡ triple o) → HasJudgement (IsPairJudged kind sys o e.evidence) → Settled (suc n) os es
+  entry_total : (n : ℕ) (o : Overlap) (os : List Overlap) (e : PairEntry) (es : List PairEntry) → Dec (triple_of e ≡ triple o)
+      → HasJudgement (IsPairJudged kind sys o e.evidence) → Settled (suc n) os es
       → Settled n (o ∷ os) (e ∷ es)
   entry_total n o os e es (no d) j rest = inr (pair_missing o.inner o.position o.outer, inl (d, refl))
   entry_total n o os e es (yes q) (Some why, h) rest = inr (evidence_fails n why, inr (inl (q, (why, h, refl))))
@@ -145,7 +148,8 @@ module _ (sys : System) (judged : (cs : List Condition) (e : InfeasibilityEviden
     refuted_total n [] (e ∷ es) each = inr (redex_extra n, refl)
     refuted_total n (r ∷ rs) [] each = inr (not_normal r.which r.position r.rule, refl)
     refuted_total n (r ∷ rs) (e ∷ es) each =
-        one_total n r rs e es (same_place (entry_place e) r) (redex_total (chosen u v r.which) r e.evidence (chosen_matches r (each r (inl refl)))) (refuted_total (suc n) rs es (λ q l. each q (inr l)))
+        one_total n r rs e es (same_place (entry_place e) r) (redex_total (chosen u v r.which) r e.evidence (chosen_matches r (each r (inl refl))))
+        (refuted_total (suc n) rs es (λ q l. each q (inr l)))
 
     abbrev Apart : Apartness → Type 0
     Apart a = HasAnswer (AreShownApart sys u v a) (AreNotShownApart sys u v a)
@@ -184,7 +188,8 @@ module _ (sys : System) (judged : (cs : List Condition) (e : InfeasibilityEviden
     from_own : HasFileSymbols sys peak.start → PeakAnswer
     from_own own = first (derivation_total sys [] peak.start peak.first)
       where
-        second : (u : Term) → Derives sys [] peak.start peak.first u → ((v : Term) × Derives sys [] peak.start peak.second v) ⊎ ((bad : BadStep) × IsFirstBad sys [] peak.start peak.second bad) → PeakAnswer
+        second : (u : Term) → Derives sys [] peak.start peak.first u
+            → ((v : Term) × Derives sys [] peak.start peak.second v) ⊎ ((bad : BadStep) × IsFirstBad sys [] peak.start peak.second bad) → PeakAnswer
         second u h (inr (bad, f)) = inr (second_bad bad, second_fails own u bad h f)
         second u h (inl (v, k)) = at_ends u v own (record { first = h; second = k }) (apart_total u v peak.apart)
 

@@ -15,7 +15,8 @@ use Rattle.certificates.specs.Prelude.{BadStep}
 use Rattle.certificates.proofs.DerivationTotal.{derivation_total}
 use Rattle.valid_certificates.specs.Kinds.{Kind, ortho, quasi}
 use Rattle.judged_evidence.proofs.Judged.{infeasibility_total}
-use Rattle.valid_certificates.specs.PairEvidence.{IsAllowed, IsTrivialJudged, inner_conditions_of, outer_conditions_of, AreConditionsOf, IsConflictJudged, IsJoinJudged, DerivesTwo, IsUnfeasibleJudged, IsEvidenceJudged, IsPairJudged}
+use Rattle.valid_certificates.specs.PairEvidence.{IsAllowed, IsTrivialJudged, inner_conditions_of, outer_conditions_of, AreConditionsOf, IsConflictJudged, IsJoinJudged, DerivesTwo}
+use Rattle.valid_certificates.specs.PairEvidence.{IsUnfeasibleJudged, IsEvidenceJudged, IsPairJudged}
 
 -- there is a judgement: no reason, or one
 abbrev pub HasJudgement : (Option EvidenceReason → Type 0) → Type 0
@@ -70,7 +71,8 @@ module _ (sys : System) (o : Overlap) (k : ℕ) (d e : Derivation) where
   two_ends u v at (inl a) (inl b) = two_run u v at a b (outcome_of u v)
 
   module _ (c : Condition) (is : hypothesis_at o.pair.conditions k ≡ Some c) where
-    second_end : (u : Term) → Derives sys o.pair.conditions c.left d u → ((v : Term) × Derives sys o.pair.conditions c.left e v) ⊎ ((bad : BadStep) × IsFirstBad sys o.pair.conditions c.left e bad) → Unfeasible
+    second_end : (u : Term) → Derives sys o.pair.conditions c.left d u
+        → ((v : Term) × Derives sys o.pair.conditions c.left e v) ⊎ ((bad : BadStep) × IsFirstBad sys o.pair.conditions c.left e bad) → Unfeasible
     second_end u h (inr (bad, f)) = (Some (unfeasible_second bad), (c, is, (u, h, f)))
     second_end u h (inl (v, g)) = two_ends u v (record { condition = c; is_condition = is; first = h; second = g }) (all_clash_decided sys u) (all_clash_decided sys v)
 

@@ -2,7 +2,8 @@
 use Rattle.std.proofs.Common.{◌≡◌, ◌≢◌, ◌⊎◌, inl, inr, ℕ, zero, suc, true, List, [], ◌∷◌, Option, Some, None, unwrap_or, nat_cmp, refl, sym, ap, ◌∙◌, subst, subst₂}
 use Rattle.std.specs.FinMap.{get, empty, get-empty}
 use Rattle.rewriting.specs.Prelude.{AreApart, IsInfeasible, IsIrreducible, conditions_under}
-use Rattle.rewriting.proofs.Common.{Relation, Star, done, more, Term, var, Position, subterm, Substitution, Bindings, apply, values_of, occurs, Condition, Rule, System, Meets, Contraction, Step, Steps, Rewrites}
+use Rattle.rewriting.proofs.Common.{Relation, Star, done, more, Term, var, Position, subterm, Substitution, Bindings, apply, values_of, occurs, Condition, Rule, System, Meets}
+use Rattle.rewriting.proofs.Common.{Contraction, Step, Steps, Rewrites}
 use Rattle.rewriting.proofs.Instances.{apply-apply, apply-agree, apply-agree_back}
 use Rattle.rewriting.proofs.Levels.{level, Meets-mono, levels_of_steps}
 use Rattle.rewriting.proofs.Conditions.{no_feasible}
@@ -48,7 +49,8 @@ same_left sys t i p q rule m by at same stands =
     solved_instance m q.left at.redex at.matches.solves ∙ here ∙ sym (ap (λ r. apply by r.left) same)
 
 -- a place where a step is made has conditions that are feasible
-pub no_step_there : (sys : System) (t v : Term) (n : ℕ) (s : Contraction (Steps sys n) sys t v) (r : RedexPlace) → r.position ≡ s.position → r.rule ≡ s.number → (cs : List Condition) → AreConditionsAt sys t r cs
+pub no_step_there : (sys : System) (t v : Term) (n : ℕ) (s : Contraction (Steps sys n) sys t v) (r : RedexPlace) → r.position ≡ s.position → r.rule ≡ s.number
+    → (cs : List Condition) → AreConditionsAt sys t r cs
     → IsInfeasible sys cs → ⊥
 no_step_there sys t v n s r here number cs at never =
     let rule = at.rule in

@@ -12,7 +12,8 @@ use Rattle.certificates.proofs.Unique.{matches_unique, derives_unique}
 use Rattle.certificates.proofs.Outcomes.{never_both as ends_or_fails, fails_unique}
 use Rattle.judged_evidence.specs.Evidence.{IsInfeasibilityJudged}
 use Rattle.judged_evidence.proofs.Judged.{evidence_once}
-use Rattle.valid_certificates.specs.Peaks.{RedexPlace, chosen, at_redex, AreConditionsAt, IsRedexJudged, AreRefuted, AreNotRefuted, AreShownApart, AreNotShownApart, LeadsTo, AreValidEnds, AreNoValidEnds, IsValidPeak, IsPeakRejected, foreign_start, first_fails, second_fails, not_apart}
+use Rattle.valid_certificates.specs.Peaks.{RedexPlace, chosen, at_redex, AreConditionsAt, IsRedexJudged, AreRefuted, AreNotRefuted, AreShownApart, AreNotShownApart, LeadsTo}
+use Rattle.valid_certificates.specs.Peaks.{AreValidEnds, AreNoValidEnds, IsValidPeak, IsPeakRejected, foreign_start, first_fails, second_fails, not_apart}
 use Rattle.valid_certificates.specs.Laws.{IsOneAnswer}
 use Rattle.valid_certificates.proofs.OneList.{redexes_once}
 
@@ -33,7 +34,8 @@ redex_once sys t r e o p (cs, at, inr (large, h)) (ds, there, inr (_, k)) = h �
 redex_never_both : (sys : System) (t : Term) (r : RedexPlace) (e : InfeasibilityEvidence) (why : EvidenceReason) → IsRedexJudged sys t r e None → IsRedexJudged sys t r e (Some why) → ⊥
 redex_never_both sys t r e why a b = (let same = redex_once sys t r e None (Some why) a b in cc)
 
-redex_reason : (sys : System) (t : Term) (r : RedexPlace) (e : InfeasibilityEvidence) (why other : EvidenceReason) → IsRedexJudged sys t r e (Some why) → IsRedexJudged sys t r e (Some other) → why ≡ other
+redex_reason : (sys : System) (t : Term) (r : RedexPlace) (e : InfeasibilityEvidence) (why other : EvidenceReason) → IsRedexJudged sys t r e (Some why)
+    → IsRedexJudged sys t r e (Some other) → why ≡ other
 redex_reason sys t r e why other a b = (let same = redex_once sys t r e (Some why) (Some other) a b in cc)
 
 module _ (sys : System) (u v : Term) where

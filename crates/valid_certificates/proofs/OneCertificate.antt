@@ -13,7 +13,9 @@ use Rattle.valid_certificates.specs.Kinds.{Kind}
 use Rattle.valid_certificates.specs.Kinds.{ortho, quasi}
 use Rattle.valid_certificates.specs.PairEvidence.{IsPairJudged}
 use Rattle.valid_certificates.specs.Entries.{AreSettled, AreNotSettled, DoSettle, DoNotSettle, pair_is_large, pairs_are_many, entry_fails}
-use Rattle.valid_certificates.specs.Confluence.{IsValidOrtho, IsBlameOf, IsOrthoRejected, not_left_linear, not_type3, not_oriented, not_right_stable, ortho_pairs_fail, AreRightSidesIrreducible, IsFirstReducible, IsValidQuasi, IsQuasiRejected, not_deterministic, side_is_reducible, measure_is_bad, unraveling_is_large, quasi_pairs_fail}
+use Rattle.valid_certificates.specs.Confluence.{IsValidOrtho, IsBlameOf, IsOrthoRejected, not_left_linear, not_type3, not_oriented, not_right_stable, ortho_pairs_fail}
+use Rattle.valid_certificates.specs.Confluence.{AreRightSidesIrreducible, IsFirstReducible, IsValidQuasi, IsQuasiRejected, not_deterministic, side_is_reducible, measure_is_bad}
+use Rattle.valid_certificates.specs.Confluence.{unraveling_is_large, quasi_pairs_fail}
 use Rattle.valid_certificates.specs.Certificates.{IsMeasureJudged, IsValid, IsStepRejected, IsRejected}
 use Rattle.simplifications.specs.Simplifying.{AllSimplify}
 use Rattle.simplifications.proofs.OneAnswer.{one_answer, all_once}
@@ -203,7 +205,8 @@ module _ (sys : System) where
       quasi_answer : IsOneAnswer (IsValidQuasi Is sys es) (IsQuasiRejected Is sys es)
       quasi_answer =
           answer_within (IsValidQuasi Is sys es) QuasiValid (IsQuasiRejected Is sys es) QuasiCases quasi_valid quasi_cases
-          (class_answer deterministic _ _ (test_answer (AreRightSidesIrreducible sys) _ SideFails _ side_or_not side_once (test_answer (Is good) _ MeasureFails _ measure_or_not measure_fails_once (entries_answer quasi sys es))))
+          (class_answer deterministic _ _ (test_answer (AreRightSidesIrreducible sys) _ SideFails _ side_or_not side_once
+          (test_answer (Is good) _ MeasureFails _ measure_or_not measure_fails_once (entries_answer quasi sys es))))
 
 pub measure_judged_once : (sys : System) (m : MeasureCertificate) → IsOnce Judgement (IsMeasureJudged sys m)
 measure_judged_once sys (linear_measure es) = judgement_once sys es

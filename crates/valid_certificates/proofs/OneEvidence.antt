@@ -15,7 +15,8 @@ use Rattle.certificates.specs.Prelude.{unfeasible_large}
 use Rattle.certificates.proofs.Unique.{derives_unique}
 use Rattle.certificates.proofs.Outcomes.{never_both, fails_unique}
 use Rattle.valid_certificates.specs.Kinds.{Kind}
-use Rattle.valid_certificates.specs.PairEvidence.{IsAllowed, IsTrivialJudged, inner_conditions_of, outer_conditions_of, AreConditionsOf, IsConflictJudged, IsJoinJudged, DerivesTwo, IsUnfeasibleJudged, IsEvidenceJudged, IsPairJudged}
+use Rattle.valid_certificates.specs.PairEvidence.{IsAllowed, IsTrivialJudged, inner_conditions_of, outer_conditions_of, AreConditionsOf, IsConflictJudged, IsJoinJudged, DerivesTwo}
+use Rattle.valid_certificates.specs.PairEvidence.{IsUnfeasibleJudged, IsEvidenceJudged, IsPairJudged}
 use Rattle.rewriting.proofs.Once.{same_some, some_or_none, IsOnce, or_once, test_once, with_once, fact_once, facts_once, once_within}
 use Rattle.judged_evidence.proofs.Judged.{evidence_once}
 

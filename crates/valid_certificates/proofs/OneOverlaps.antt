@@ -218,7 +218,8 @@ module _ (sys : System) where
 
   pub overlaps_once : (os qs : List Overlap) → AreOverlaps sys os → AreOverlaps sys qs → os ≡ qs
   overlaps_once os qs a b =
-      sorted_once ComesBefore (λ x y. earlier_not_both (triple x) (triple y)) os qs a.are.sorted b.are.sorted (λ o l. listed sys (λ t. Unit {0}) qs b.are o (a.are.each o l).0 tt) (λ o l. listed sys (λ t. Unit {0}) os a.are o (b.are.each o l).0 tt)
+      sorted_once ComesBefore (λ x y. earlier_not_both (triple x) (triple y)) os qs a.are.sorted b.are.sorted (λ o l. listed sys (λ t. Unit {0}) qs b.are o (a.are.each o l).0 tt)
+      (λ o l. listed sys (λ t. Unit {0}) os a.are o (b.are.each o l).0 tt)
 
   pub overlaps_or_large : (os : List Overlap) (i : ℕ) (p : Position) (j : ℕ) → AreOverlaps sys os → IsPairTooLarge sys i p j → ⊥
   overlaps_or_large os i p j a large = not_large sys i p j large.is_large (known_at sys (λ t. Unit {0}) os a.are i p j tt)
@@ -245,7 +246,8 @@ module _ (sys : System) where
       go (comes_first h) = not_large sys i p j large.is_large (known_at sys (λ t. IsEarlierOverlap t (triple many.next)) many.before many.are_before i p j h)
       go (is_same e) = not_large sys i p j large.is_large (λ s at. inr (many.next, many.is_overlap, sym e))
       go (comes_last h) =
-          let less = fewer (λ t. IsEarlierOverlap t (i, (p, j))) many.next many.before large.before many.is_overlap many.are_before large.are_before h (λ t e. earlier_earlier t (triple many.next) (i, (p, j)) e h) in
+          let less = fewer (λ t. IsEarlierOverlap t (i, (p, j))) many.next many.before large.before many.is_overlap many.are_before large.are_before h
+          (λ t e. earlier_earlier t (triple many.next) (i, (p, j)) e h) in
           let top = large.few in
           let all = many.many in
           omega (arith, less, top, all)

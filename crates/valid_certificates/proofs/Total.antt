@@ -15,7 +15,9 @@ use Rattle.judged_evidence.proofs.Judged.{infeasibility_total}
 use Rattle.simplifications.specs.Simplifying.{AllSimplify, FailsAt}
 use Rattle.simplifications.proofs.OneAnswer.{one_answer}
 use Rattle.valid_certificates.specs.Kinds.{Kind, ortho, quasi}
-use Rattle.valid_certificates.specs.Confluence.{IsInOrthoClasses, IsValidOrtho, IsOrthoRejected, not_left_linear, not_type3, not_oriented, not_right_stable, ortho_pairs_fail, AreRightSidesIrreducible, IsFirstReducible, IsValidQuasi, IsQuasiRejected, not_deterministic, side_is_reducible, measure_is_bad, unraveling_is_large, quasi_pairs_fail}
+use Rattle.valid_certificates.specs.Confluence.{IsInOrthoClasses, IsValidOrtho, IsOrthoRejected, not_left_linear, not_type3, not_oriented, not_right_stable, ortho_pairs_fail}
+use Rattle.valid_certificates.specs.Confluence.{AreRightSidesIrreducible, IsFirstReducible, IsValidQuasi, IsQuasiRejected, not_deterministic, side_is_reducible, measure_is_bad}
+use Rattle.valid_certificates.specs.Confluence.{unraveling_is_large, quasi_pairs_fail}
 use Rattle.valid_certificates.specs.Certificates.{IsMeasureJudged, IsValid, IsRejected}
 use Rattle.valid_certificates.specs.Entries.{DoSettle, DoNotSettle}
 use Rattle.valid_certificates.specs.Laws.{CertificatesHaveAnAnswer}

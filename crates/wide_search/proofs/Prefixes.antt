@@ -70,7 +70,12 @@ module _ (sys : System) where
       let few = p.few in
       record {
         few = omega (arith, long, few);
-        entries = λ k less. (let h = p.entries k (omega (arith, long, less)) in record { entry = h.entry; is_entry = sym (slice_get-append_left es (e ∷ []) k less) ∙ h.is_entry; head = h.head; numbers = h.numbers });
+        entries = λ k less. (let h = p.entries k (omega (arith, long, less)) in record {
+          entry = h.entry;
+          is_entry = sym (slice_get-append_left es (e ∷ []) k less) ∙ h.is_entry;
+          head = h.head;
+          numbers = h.numbers;
+        });
         numbers = λ k d at. p.numbers k d (slice_get-append_left es (e ∷ []) k (slice_get_within es k d at) ∙ at);
       }
 

@@ -10,7 +10,8 @@ returns-then-len c =
     let ds = map transition_view c.rounds.current.transitions.items in
     let es = map transition_view c.in-Ok.next.items in
     let same : length es ≡ length ds =
-    views_length c.in-Ok.next.items ∙ sym (c.len.ensures ∙ c.in-Ok.next.ok.0) ∙ c.if-len.true ∙ (c.len-in-rounds.ensures ∙ c.rounds.current.transitions.ok.0) ∙ sym (views_length c.rounds.current.transitions.items) in (
+    views_length c.in-Ok.next.items ∙ sym (c.len.ensures ∙ c.in-Ok.next.ok.0) ∙ c.if-len.true ∙ (c.len-in-rounds.ensures ∙ c.rounds.current.transitions.ok.0)
+    ∙ sym (views_length c.rounds.current.transitions.items) in (
       record {
         states = c.rounds.invariant.states ∙ c.requires.states;
         accepting = c.rounds.invariant.accepting ∙ c.requires.accepting;

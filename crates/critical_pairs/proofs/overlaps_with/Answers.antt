@@ -31,14 +31,22 @@ overlap_at-requires c =
 pub returns-in_err-overlap : goal.returns-in_err-overlap
 returns-in_err-overlap c =
     subst (OverlapsAnswers c.args.sys.now) (sym (handed_on _ _ c.from_residual-in_err-overlap.ensures.1))
-    (refused_walk c.args.sys.now c.rules-rules.ensures.sound c.triples.cursor c.settle.new.self c.triples.kept (map overlap_view c.triples.all.items) c.triples.invariant c.settle.ensures.cursor c.settle.ensures.passes c.in-Some.inner (stands (goal.at.returns-in_err-overlap c).In-Some) c.triple.result c.triple.ensures c.in_err-overlap.field-0.0
-    (c.in_err-overlap.ensures.answer (rest_of c.args.sys.now (next_of c.settle.new.self)) (kept_here c.args.sys.now c.rules-rules.ensures.sound c.triples.cursor c.settle.new.self c.triples.kept (map overlap_view c.triples.all.items) c.triples.invariant c.settle.ensures.cursor c.settle.ensures.passes c.in-Some.inner (stands (goal.at.returns-in_err-overlap c).In-Some) c.triple.result c.triple.ensures)))
+    (refused_walk c.args.sys.now c.rules-rules.ensures.sound c.triples.cursor c.settle.new.self c.triples.kept (map overlap_view c.triples.all.items) c.triples.invariant
+    c.settle.ensures.cursor c.settle.ensures.passes c.in-Some.inner (stands (goal.at.returns-in_err-overlap c).In-Some) c.triple.result
+    c.triple.ensures c.in_err-overlap.field-0.0
+    (c.in_err-overlap.ensures.answer (rest_of c.args.sys.now (next_of c.settle.new.self))
+    (kept_here c.args.sys.now c.rules-rules.ensures.sound c.triples.cursor c.settle.new.self c.triples.kept (map overlap_view c.triples.all.items) c.triples.invariant
+    c.settle.ensures.cursor c.settle.ensures.passes c.in-Some.inner (stands (goal.at.returns-in_err-overlap c).In-Some) c.triple.result c.triple.ensures)))
 
 pub returns-in_err-put : goal.returns-in_err-put
 returns-in_err-put c =
     subst (OverlapsAnswers c.args.sys.now) (sym (handed_on _ _ c.from_residual-in_err-put.ensures.1))
-    (put_refused c.args.sys.now c.rules-rules.ensures.sound c.triples.cursor c.settle.new.self c.triples.kept (map overlap_view c.triples.all.items) c.triples.invariant c.settle.ensures.cursor c.settle.ensures.passes c.in-Some.inner (stands (goal.at.returns-in_err-put c).In-Some) c.triple.result c.triple.ensures c.triples.all.items c.put.new.found.items c.in_ok-overlap.overlap c.in_err-put.field-0.0 refl
-    (c.in_ok-overlap.ensures.answer (rest_of c.args.sys.now (next_of c.settle.new.self)) (kept_here c.args.sys.now c.rules-rules.ensures.sound c.triples.cursor c.settle.new.self c.triples.kept (map overlap_view c.triples.all.items) c.triples.invariant c.settle.ensures.cursor c.settle.ensures.passes c.in-Some.inner (stands (goal.at.returns-in_err-put c).In-Some) c.triple.result c.triple.ensures)) c.in_err-put.ensures)
+    (put_refused c.args.sys.now c.rules-rules.ensures.sound c.triples.cursor c.settle.new.self c.triples.kept (map overlap_view c.triples.all.items) c.triples.invariant
+    c.settle.ensures.cursor c.settle.ensures.passes c.in-Some.inner (stands (goal.at.returns-in_err-put c).In-Some) c.triple.result c.triple.ensures c.triples.all.items
+    c.put.new.found.items c.in_ok-overlap.overlap c.in_err-put.field-0.0 refl
+    (c.in_ok-overlap.ensures.answer (rest_of c.args.sys.now (next_of c.settle.new.self))
+    (kept_here c.args.sys.now c.rules-rules.ensures.sound c.triples.cursor c.settle.new.self c.triples.kept (map overlap_view c.triples.all.items) c.triples.invariant
+    c.settle.ensures.cursor c.settle.ensures.passes c.in-Some.inner (stands (goal.at.returns-in_err-put c).In-Some) c.triple.result c.triple.ensures)) c.in_err-put.ensures)
 
 pub overflow_add-cursor : goal.overflow_add-cursor
 overflow_add-cursor c =
@@ -49,16 +57,21 @@ pub triples-smaller : goal.triples-smaller
 triples-smaller c =
     let sys = c.args.sys.now in
     fewer_left sys (rest_of sys c.triples.cursor) (rest_of sys (next_of c.settle.new.self)) _
-    (on_here c.args.sys.now c.rules-rules.ensures.sound c.triples.cursor c.settle.new.self c.triples.kept (map overlap_view c.triples.all.items) c.triples.invariant c.settle.ensures.cursor c.settle.ensures.passes c.in-Some.inner (stands (goal.at.triples-smaller c).In-Some) c.triple.result c.triple.ensures)
+    (on_here c.args.sys.now c.rules-rules.ensures.sound c.triples.cursor c.settle.new.self c.triples.kept (map overlap_view c.triples.all.items) c.triples.invariant
+    c.settle.ensures.cursor c.settle.ensures.passes c.in-Some.inner (stands (goal.at.triples-smaller c).In-Some) c.triple.result c.triple.ensures)
 
 pub triples-preserved : goal.triples-preserved
 triples-preserved c =
     let later = rest_of c.args.sys.now (next_of c.settle.new.self) in
-    let kept = kept_here c.args.sys.now c.rules-rules.ensures.sound c.triples.cursor c.settle.new.self c.triples.kept (map overlap_view c.triples.all.items) c.triples.invariant c.settle.ensures.cursor c.settle.ensures.passes c.in-Some.inner (stands (goal.at.triples-preserved c).In-Some) c.triple.result c.triple.ensures in
-    walked_on c.args.sys.now c.rules-rules.ensures.sound c.triples.cursor c.settle.new.self c.triples.kept (map overlap_view c.triples.all.items) c.triples.invariant c.settle.ensures.cursor c.settle.ensures.passes c.in-Some.inner (stands (goal.at.triples-preserved c).In-Some) c.triple.result c.triple.ensures c.overlap_at.new.kept c.triples.all.items c.put.new.found.items c.in_ok-overlap.overlap refl
+    let kept = kept_here c.args.sys.now c.rules-rules.ensures.sound c.triples.cursor c.settle.new.self c.triples.kept (map overlap_view c.triples.all.items) c.triples.invariant
+    c.settle.ensures.cursor c.settle.ensures.passes c.in-Some.inner (stands (goal.at.triples-preserved c).In-Some) c.triple.result c.triple.ensures in
+    walked_on c.args.sys.now c.rules-rules.ensures.sound c.triples.cursor c.settle.new.self c.triples.kept (map overlap_view c.triples.all.items) c.triples.invariant
+    c.settle.ensures.cursor c.settle.ensures.passes c.in-Some.inner (stands (goal.at.triples-preserved c).In-Some) c.triple.result c.triple.ensures c.overlap_at.new.kept
+    c.triples.all.items c.put.new.found.items c.in_ok-overlap.overlap refl
     (c.in_ok-overlap.ensures.kept later kept) (c.in_ok-overlap.ensures.answer later kept) c.in_ok-put.ensures
 
 pub returns : goal.returns
 returns c =
     let done = subst (λ z. SettleAnswers c.args.sys.now c.settle.new.self (Ok z)) c.in_default.is c.in_ok-inner.ensures.answer in
-    all_walked c.args.sys.now c.rules-rules.ensures.sound c.triples.cursor c.settle.new.self c.triples.kept (map overlap_view c.triples.all.items) c.triples.invariant c.settle.ensures.cursor c.settle.ensures.passes done
+    all_walked c.args.sys.now c.rules-rules.ensures.sound c.triples.cursor c.settle.new.self c.triples.kept (map overlap_view c.triples.all.items) c.triples.invariant
+    c.settle.ensures.cursor c.settle.ensures.passes done

@@ -44,8 +44,16 @@ returns-in-Some-first_bad c =
     let es = map linear_entry_view c.args.entries.now in
     let heads_are : map head_view c.deref.result.now ≡ heads sys = ap (map head_view) c.deref.ensures.value ∙ c.requires.heads in
     let arities_are : c.arities-arities.result.now ≡ (unraveled sys).arities = c.arities-arities.ensures ∙ ap (λ z. z.arities) c.requires.system in
-    let s = shape sys es (map head_view c.deref.result.now) c.arities-arities.result.now heads_are arities_are c.in_default.ensures in
-    (c.requires.fits, s, (c.in-Some-first_bad.k, omega arith, bad sys es c.in-Some-first_bad.k (subst (λ xs. BadAnswers (length xs) es (Some c.in-Some-first_bad.k)) c.arities.ensures c.in-Some-first_bad.ensures)))
+    let s = shape sys es (map head_view c.deref.result.now) c.arities-arities.result.now heads_are arities_are c.in_default.ensures in (
+      c.requires.fits,
+      s,
+      (
+        c.in-Some-first_bad.k,
+        omega arith,
+        bad sys es c.in-Some-first_bad.k
+            (subst (λ xs. BadAnswers (length xs) es (Some c.in-Some-first_bad.k)) c.arities.ensures c.in-Some-first_bad.ensures),
+      ),
+    )
 
 pub judge_rules-requires-clause-ready : goal.judge_rules-requires-clause-ready
 judge_rules-requires-clause-ready c =
@@ -55,7 +63,8 @@ judge_rules-requires-clause-ready c =
     let arities_are : c.arities-arities.result.now ≡ (unraveled sys).arities = c.arities-arities.ensures ∙ ap (λ z. z.arities) c.requires.system in
     let s = shape sys es (map head_view c.deref.result.now) c.arities-arities.result.now heads_are arities_are c.in_default.ensures in
     let numbers = all_good_numbers sys es (subst (λ xs. BadAnswers (length xs) es None) c.arities.ensures c.in_default-first_bad.ensures) in
-    rules_ready sys c.args.unraveled.now.system es c.rules-rules.result.now c.requires.system (well_formed sys c.rules-own_rules.ensures.sound) s numbers c.rules-rules.ensures.rules c.rules-rules.ensures.counted c.rules-rules.ensures.sound
+    rules_ready sys c.args.unraveled.now.system es c.rules-rules.result.now c.requires.system (well_formed sys c.rules-own_rules.ensures.sound) s numbers
+    c.rules-rules.ensures.rules c.rules-rules.ensures.counted c.rules-rules.ensures.sound
 
 pub returns : goal.returns
 returns c =

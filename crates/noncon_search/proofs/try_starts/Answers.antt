@@ -13,11 +13,13 @@ try_rules-requires c = record { fit = lefts_fit c.args.sys.now.arities c.rules.r
 
 pub returns-in_err-end : goal.returns-in_err-end
 returns-in_err-end c =
-    starts_fail c.args.sys.now c.rules.result.now c.rules.ensures.rules c.args.names.now c.args.budget.now c.try_rules.new.budget c.args.overlaps c.requires.overlaps c.from_residual.result c.from_residual.ensures.0 c.in_err-end.ensures
+    starts_fail c.args.sys.now c.rules.result.now c.rules.ensures.rules c.args.names.now c.args.budget.now c.try_rules.new.budget c.args.overlaps c.requires.overlaps
+    c.from_residual.result c.from_residual.ensures.0 c.in_err-end.ensures
 
 pub returns-in_default : goal.returns-in_default
 returns-in_default c =
-    starts_end c.args.sys.now c.rules.result.now c.rules.ensures.rules c.args.names.now c.args.budget.now c.try_rules.new.budget c.args.overlaps c.requires.overlaps c.in_ok-end.end c.in_default.not-Nothing c.in_ok-end.ensures
+    starts_end c.args.sys.now c.rules.result.now c.rules.ensures.rules c.args.names.now c.args.budget.now c.try_rules.new.budget c.args.overlaps c.requires.overlaps c.in_ok-end.end
+    c.in_default.not-Nothing c.in_ok-end.ensures
 
 pub try_overlaps-requires : goal.try_overlaps-requires
 try_overlaps-requires c = record { fit = sources_fit c.args.sys.now c.in-Some.overlaps.now (subst (IsOverlapList c.args.sys.now) c.in-Some.is c.requires.overlaps) }
@@ -25,7 +27,8 @@ try_overlaps-requires c = record { fit = sources_fit c.args.sys.now c.in-Some.ov
 pub returns-in-Some : goal.returns-in-Some
 returns-in-Some c =
     let sys = c.args.sys.now in
-    starts_over sys c.rules.result.now c.rules.ensures.rules c.args.names.now c.args.budget.now c.try_rules.new.budget c.in-Some.overlaps.now (subst (IsOverlapList sys) c.in-Some.is c.requires.overlaps)
+    starts_over sys c.rules.result.now c.rules.ensures.rules c.args.names.now c.args.budget.now c.try_rules.new.budget c.in-Some.overlaps.now
+    (subst (IsOverlapList sys) c.in-Some.is c.requires.overlaps)
     (subst (λ z. WalkAnswers c.args.names.now sys (peak_items sys (map (λ r. view r.left) c.rules.result.now)) c.args.budget.now c.try_rules.new.budget (Ok z)) c.in-Nothing.is c.in_ok-end.ensures)
     c.try_overlaps.new.budget c.try_overlaps.result c.try_overlaps.ensures
 

@@ -5,7 +5,8 @@ use Rattle.origins.proofs.+derivation.Goals as goal
 
 pub made-returns-in_ok-push-in-Rule : goal.made-returns-in_ok-push-in-Rule
 made-returns-in_ok-push-in-Rule t c =
-    rule_made c.args.way.now c.in-Rule.from c.in-Rule.rule c.in-Rule.pos c.in_ok-copy_numbers-in-Rule.field-0 c.in-Rule.conds c.in_ok-derivations-in-Rule.field-0 c.in_ok-by-in-Rule.by.steps c.push.new.self
+    rule_made c.args.way.now c.in-Rule.from c.in-Rule.rule c.in-Rule.pos c.in_ok-copy_numbers-in-Rule.field-0 c.in-Rule.conds c.in_ok-derivations-in-Rule.field-0
+    c.in_ok-by-in-Rule.by.steps c.push.new.self
     c.in-Rule.is c.in_ok-by-in-Rule.ensures (c.in_ok-copy_numbers-in-Rule.ensures ∙ c.deref.ensures.value)
     (c.in_ok-derivations-in-Rule.ensures ∙ ap (map origin_view) c.deref-in-Rule.ensures.value) c.in_ok-push-in-Rule.ensures.items
 

@@ -16,7 +16,9 @@ returns-else-is_in_classes-clause-searched c =
 
 pub returns-else-is_in_classes-clause-nothing : goal.returns-else-is_in_classes-clause-nothing
 returns-else-is_in_classes-clause-nothing c =
-    nothing_valid c.args.names.now c.args.sys.now c.args.budget.now c.args.budget.now (Ok Nothing) (closed_searched c.args.names.now c.args.sys.now (closed_by_class c.args.names.now c.args.sys.now (λ h. (let e = c.if-is_in_classes.ensures.1 (rw c.system.ensures h) in cc))) c.args.budget.now)
+    nothing_valid c.args.names.now c.args.sys.now c.args.budget.now c.args.budget.now (Ok Nothing)
+    (closed_searched c.args.names.now c.args.sys.now
+    (closed_by_class c.args.names.now c.args.sys.now (λ h. (let e = c.if-is_in_classes.ensures.1 (rw c.system.ensures h) in cc))) c.args.budget.now)
 
 pub returns-else-is_in_classes-clause-paid : goal.returns-else-is_in_classes-clause-paid
 returns-else-is_in_classes-clause-paid c =
@@ -24,4 +26,5 @@ returns-else-is_in_classes-clause-paid c =
 
 pub returns-in_default-clause-searched : goal.returns-in_default-clause-searched
 returns-in_default-clause-searched c =
-    closed_searched c.args.names.now c.args.sys.now (closed_by_overlaps c.args.names.now c.args.sys.now (unlisted c.args.sys.now c.args.overlaps c.requires.overlaps (λ os e. c.in_default.not-Some os e))) c.args.budget.now
+    closed_searched c.args.names.now c.args.sys.now
+    (closed_by_overlaps c.args.names.now c.args.sys.now (unlisted c.args.sys.now c.args.overlaps c.requires.overlaps (λ os e. c.in_default.not-Some os e))) c.args.budget.now

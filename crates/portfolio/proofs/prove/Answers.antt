@@ -16,13 +16,15 @@ returns-in-Ok-Found c =
     let here = c.search_whole.new.budget in
     let cert = c.in-Ok-Found.cert in
     let law = c.proof_spaces_are_searchable.ensures in
-    let proved = own_proves names sys before here cert (own_told names sys before here c.in_ok-prepared.prepared (c.in_ok-prepared.ensures ∙ c.in_ok-indexed.ensures) c.in-Ok-Found.field-0 (search.Found cert) c.in-Ok-Found.field-0-is c.in-Ok-Found.ensures.searched) in
+    let proved = own_proves names sys before here cert (own_told names sys before here c.in_ok-prepared.prepared (c.in_ok-prepared.ensures ∙ c.in_ok-indexed.ensures)
+    c.in-Ok-Found.field-0 (search.Found cert) c.in-Ok-Found.field-0-is c.in-Ok-Found.ensures.searched) in
     record {
       searched = proved;
       valid = proved_valid names sys before here (law.whole names sys) (Ok (Found cert)) proved;
       written = proved_written names sys before here law.texts (Ok (Found cert)) proved;
       exhausted = tt;
-      ortho_first = λ d n f. subst (λ o. IfFound ending_of (Ok o) (λ found. (found ≡ d) × Spends before n here)) c.in-Ok-Found.field-0-is (c.in-Ok-Found.ensures.ortho_first d n (subst (λ s. (ortho_space names s).Finds d n) (sym (c.in_ok-prepared.ensures ∙ c.in_ok-indexed.ensures)) f));
+      ortho_first = λ d n f. subst (λ o. IfFound ending_of (Ok o) (λ found. (found ≡ d) × Spends before n here)) c.in-Ok-Found.field-0-is
+          (c.in-Ok-Found.ensures.ortho_first d n (subst (λ s. (ortho_space names s).Finds d n) (sym (c.in_ok-prepared.ensures ∙ c.in_ok-indexed.ensures)) f));
       kept = c.in-Ok-Found.ensures.kept;
     }
 
@@ -35,7 +37,8 @@ returns-in-Ok-Nothing c =
     let after = c.search_simplified.new.budget in
     let result = c.search_simplified.result in
     let law = c.proof_spaces_are_searchable.ensures in
-    let none = own_told names sys before here c.in_ok-prepared.prepared (c.in_ok-prepared.ensures ∙ c.in_ok-indexed.ensures) c.in-Ok-Nothing.field-0 search.Nothing c.in-Ok-Nothing.field-0-is c.in-Ok-Nothing.ensures.searched in
+    let none = own_told names sys before here c.in_ok-prepared.prepared (c.in_ok-prepared.ensures ∙ c.in_ok-indexed.ensures) c.in-Ok-Nothing.field-0 search.Nothing
+    c.in-Ok-Nothing.field-0-is c.in-Ok-Nothing.ensures.searched in
     let proved = proves_behind names sys before here after none result c.search_simplified.ensures.searched in
     record {
       searched = proved;
@@ -49,4 +52,5 @@ returns-in-Ok-Nothing c =
 pub returns-in-Ok-Spent-clause-searched : goal.returns-in-Ok-Spent-clause-searched
 returns-in-Ok-Spent-clause-searched c =
     own_runs_out c.args.names.now c.args.sys.now c.args.budget.now c.search_whole.new.budget
-    (own_told c.args.names.now c.args.sys.now c.args.budget.now c.search_whole.new.budget c.in_ok-prepared.prepared (c.in_ok-prepared.ensures ∙ c.in_ok-indexed.ensures) c.in-Ok-Spent.field-0 search.Spent c.in-Ok-Spent.field-0-is c.in-Ok-Spent.ensures.searched)
+    (own_told c.args.names.now c.args.sys.now c.args.budget.now c.search_whole.new.budget c.in_ok-prepared.prepared (c.in_ok-prepared.ensures ∙ c.in_ok-indexed.ensures)
+    c.in-Ok-Spent.field-0 search.Spent c.in-Ok-Spent.field-0-is c.in-Ok-Spent.ensures.searched)

@@ -9,7 +9,8 @@ use Rattle.quasi_search.proofs.search_quasi.Goals as goal
 
 pub returns-clause-searched : goal.returns-clause-searched
 returns-clause-searched c =
-    subst (λ s. Searches ending_of (MayEndLast (quasi_space c.args.names.now s)) c.args.budget.now c.search_quasi_over.new.budget c.search_quasi_over.result) (c.in_ok-prepared.ensures ∙ c.in_ok-indexed.ensures)
+    subst (λ s. Searches ending_of (MayEndLast (quasi_space c.args.names.now s)) c.args.budget.now c.search_quasi_over.new.budget c.search_quasi_over.result)
+    (c.in_ok-prepared.ensures ∙ c.in_ok-indexed.ensures)
     c.search_quasi_over.ensures.searched
 
 pub returns-clause-pruned : goal.returns-clause-pruned

@@ -33,4 +33,5 @@ returns-in_err-query-clause-enough c h =
 pub returns-in-Ok-clause-enough : goal.returns-in-Ok-clause-enough
 returns-in-Ok-clause-enough c h =
     c.in-Ok.ensures.enough
-    (same_within c.args.sys.now c.args.names.now.symbols c.args.bytes.now c.args.budget.now.left (map condition_view c.in_ok-query.query.conds.items) (texts_of c.in_ok-query.query.names.items) h c.in_ok-query.ensures)
+    (same_within c.args.sys.now c.args.names.now.symbols c.args.bytes.now c.args.budget.now.left (map condition_view c.in_ok-query.query.conds.items)
+    (texts_of c.in_ok-query.query.names.items) h c.in_ok-query.ensures)

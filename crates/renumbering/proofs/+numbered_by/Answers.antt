@@ -6,7 +6,8 @@ pub arguments-preserved : goal.arguments-preserved
 arguments-preserved t c =
     let here = c.in_ok-numbered_by-in-Fun.ensures in
     let args = c.deref-arg-items.result.now in
-    let more = numbered_more c.arguments.row.keys c.numbered_by.new.row.keys args c.arguments.numbered.items c.push.new.self.items c.arguments.arg-index c.arg-item.result c.in_ok-numbered_by-in-Fun.field-0
+    let more = numbered_more c.arguments.row.keys c.numbered_by.new.row.keys args c.arguments.numbered.items c.push.new.self.items c.arguments.arg-index c.arg-item.result
+    c.in_ok-numbered_by-in-Fun.field-0
     c.arguments-test.true c.arg-item.is here.front c.arguments.invariant.numbered here.numbered c.in_ok-push-in-Fun.ensures.items in
     record {
       row = row_more c.arguments.row.keys c.numbered_by.new.row.keys _ args c.arguments.arg-index c.arg-item.result c.arguments-test.true c.arg-item.is here.row c.arguments.invariant.row;
@@ -20,9 +21,11 @@ returns-in_ok-number-in-Var-clause-numbered t c = numbered_variable c.number.new
 
 pub returns-after-arguments-clause-row : goal.returns-after-arguments-clause-row
 returns-after-arguments-clause-row t c =
-    row_symbol c.args.t.now c.in-Fun.f c.arguments.arg-index c.in-Fun.args c.deref-arg-items.result.now c.in-Fun.is c.deref-arg-items.ensures.value c.arguments-test.false c.args.row.now.keys c.arguments.row.keys c.arguments.invariant.row
+    row_symbol c.args.t.now c.in-Fun.f c.arguments.arg-index c.in-Fun.args c.deref-arg-items.result.now c.in-Fun.is c.deref-arg-items.ensures.value c.arguments-test.false
+    c.args.row.now.keys c.arguments.row.keys c.arguments.invariant.row
 
 pub returns-after-arguments-clause-numbered : goal.returns-after-arguments-clause-numbered
 returns-after-arguments-clause-numbered t c =
-    numbered_symbol c.args.t.now c.in-Fun.f c.arguments.arg-index c.in-Fun.args c.deref-arg-items.result.now c.in-Fun.is c.deref-arg-items.ensures.value c.arguments-test.false c.arguments.row.keys c.arguments.numbered
+    numbered_symbol c.args.t.now c.in-Fun.f c.arguments.arg-index c.in-Fun.args c.deref-arg-items.result.now c.in-Fun.is c.deref-arg-items.ensures.value c.arguments-test.false
+    c.arguments.row.keys c.arguments.numbered
     c.arguments.invariant.numbered

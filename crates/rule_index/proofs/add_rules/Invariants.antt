@@ -7,7 +7,8 @@ use Rattle.rule_index.proofs.add_rules.Given as goal
 
 abbrev pub invariant-rules : goal.invariant-rules
 invariant-rules l = record {
-  listed : (f : ℕ) → listed (lists l.buckets) f ++ numbers_with_root f l.number (map rule_view (drop l.rule-index l.rules)) ≡ listed (lists l.fn.buckets) f ++ numbers_with_root f 1 (map rule_view l.rules);
+  listed : (f : ℕ) → listed (lists l.buckets) f ++ numbers_with_root f l.number (map rule_view (drop l.rule-index l.rules)) ≡ listed (lists l.fn.buckets) f
+      ++ numbers_with_root f 1 (map rule_view l.rules);
   roots : AreRootsBelow (length l.buckets) (map rule_view (drop l.rule-index l.rules));
   counted : l.number ≡ l.rule-index + 1;
 }

@@ -3,7 +3,8 @@ use Rattle.search_answers.proofs.overlaps_or_none.Goals as goal
 
 pub returns-in-Err-PairTooLarge : goal.returns-in-Err-PairTooLarge
 returns-in-Err-PairTooLarge c =
-    large_none c.args.sys.now c.in-Err-PairTooLarge.field-0 c.in-Err-PairTooLarge.field-0-0 c.in-Err-PairTooLarge.field-0-1 c.in-Err-PairTooLarge.field-0-2 c.in-Err-PairTooLarge.field-0-is c.in-Err-PairTooLarge.ensures
+    large_none c.args.sys.now c.in-Err-PairTooLarge.field-0 c.in-Err-PairTooLarge.field-0-0 c.in-Err-PairTooLarge.field-0-1 c.in-Err-PairTooLarge.field-0-2
+    c.in-Err-PairTooLarge.field-0-is c.in-Err-PairTooLarge.ensures
 
 pub returns-in-Err-TooManyPairs : goal.returns-in-Err-TooManyPairs
 returns-in-Err-TooManyPairs c = many_none c.args.sys.now c.in-Err-TooManyPairs.field-0 c.in-Err-TooManyPairs.field-0-is c.in-Err-TooManyPairs.ensures

@@ -16,4 +16,5 @@ solve-requires-clause-known c =
     )
 
 pub returns : goal.returns
-returns c = answered (bindings c.new-found.result.items) (bindings c.solve.new.found.items) _ _ _ c.outcome.result (ap bindings c.new-found.ensures.items) c.in_ok-progress.ensures.solves (subst (λ es. OutcomeAnswers (bindings es) c.in_ok-progress.progress c.outcome.result) c.deref.ensures.value c.outcome.ensures)
+returns c = answered (bindings c.new-found.result.items) (bindings c.solve.new.found.items) _ _ _ c.outcome.result (ap bindings c.new-found.ensures.items)
+    c.in_ok-progress.ensures.solves (subst (λ es. OutcomeAnswers (bindings es) c.in_ok-progress.progress c.outcome.result) c.deref.ensures.value c.outcome.ensures)

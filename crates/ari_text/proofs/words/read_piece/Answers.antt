@@ -10,10 +10,12 @@ pub returns-then-first-eq41 : goal.returns-then-first-eq41
 returns-then-first-eq41 c = right_piece c.args.rest.now _ c.split_at.result.1.now c.args.at (first_byte c.args.rest.now c.split_at.result.1.now c.requires c.split_at.ensures.back) c.if-first-eq41.true
 
 pub returns-then-is_white : goal.returns-then-is_white
-returns-then-is_white c = white_piece c.args.rest.now _ c.split_at.result.1.now (first_byte c.args.rest.now c.split_at.result.1.now c.requires c.split_at.ensures.back) (sym c.is_white.ensures ∙ c.if-is_white.true)
+returns-then-is_white c = white_piece c.args.rest.now _ c.split_at.result.1.now (first_byte c.args.rest.now c.split_at.result.1.now c.requires c.split_at.ensures.back)
+    (sym c.is_white.ensures ∙ c.if-is_white.true)
 
 pub returns-then-first-eq59 : goal.returns-then-first-eq59
-returns-then-first-eq59 c = comment_piece c.args.rest.now _ c.split_at.result.1.now c.place_of.result (first_byte c.args.rest.now c.split_at.result.1.now c.requires c.split_at.ensures.back) c.if-first-eq59.true c.place_of.ensures
+returns-then-first-eq59 c = comment_piece c.args.rest.now _ c.split_at.result.1.now c.place_of.result
+    (first_byte c.args.rest.now c.split_at.result.1.now c.requires c.split_at.ensures.back) c.if-first-eq59.true c.place_of.ensures
 
 pub returns-then-first-eq124 : goal.returns-then-first-eq124
 returns-then-first-eq124 c =

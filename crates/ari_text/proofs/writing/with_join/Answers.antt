@@ -7,7 +7,8 @@ pub split_at-requires : goal.split_at-requires
 split_at-requires c = long_enough c.args.text.now c.if-is_typed.ensures
 
 pub returns-then-is_typed : goal.returns-then-is_typed
-returns-then-is_typed c = retyped c.args.list c.args.text.now c.split_at.result.1.now c.new-out.result.items c.extend_from_slice.new.self.items c.extend_from_slice-then-is_typed.new.self.items c.if-is_typed.ensures c.split_at.ensures.back
+returns-then-is_typed c = retyped c.args.list c.args.text.now c.split_at.result.1.now c.new-out.result.items c.extend_from_slice.new.self.items
+    c.extend_from_slice-then-is_typed.new.self.items c.if-is_typed.ensures c.split_at.ensures.back
     c.new-out.ensures.items c.in_ok-extend_from_slice.ensures.items c.in_ok-extend_from_slice-2.ensures.items
     (subst (IsJoinFile c.args.list) c.deref.ensures.value c.in_ok-check_join.ensures)
 

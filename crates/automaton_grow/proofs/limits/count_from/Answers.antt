@@ -13,7 +13,8 @@ loop-rule-preserved c =
     let fit = fit_here c.args.rules.now c.loop-rule.rule-index c.rule-item.result c.loop-rule-test.true c.rule-item.is c.loop-rule.invariant.fit in
     record {
       counted =
-          count_step c.args.rules.now c.loop-rule.rule-index c.rule-item.result c.loop-rule-test.true c.rule-item.is c.loop-rule.count c.proper-count.result _ c.proper-count.ensures c.loop-rule.invariant.counted;
+          count_step c.args.rules.now c.loop-rule.rule-index c.rule-item.result c.loop-rule-test.true c.rule-item.is c.loop-rule.count c.proper-count.result _
+          c.proper-count.ensures c.loop-rule.invariant.counted;
       fit = fit.2;
       small = omega (arith, proper_size (view c.rule-item.result.right), fit.1.nodes, c.proper-count.ensures);
     }

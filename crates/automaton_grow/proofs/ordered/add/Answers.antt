@@ -14,7 +14,8 @@ returns-then-len-gt-MOST_TRANSITIONS c =
     let total = c.len.ensures ∙ c.put.new.transitions.ok.0 in
     let above = c.if-len-gt-MOST_TRANSITIONS.true in
     let many : 5000 < length (map transition_view c.put.new.transitions.items) = omega (arith, count, total, above) in
-    add_full old (map transition_view c.put.new.transitions.items) d c.requires.sorted c.requires.few c.in-Err.at (subst (λ z. IsPlace (map transition_view z) d c.in-Err.at) c.deref.ensures.value c.in-Err.ensures) c.in_ok-put-in-Err.ensures many
+    add_full old (map transition_view c.put.new.transitions.items) d c.requires.sorted c.requires.few c.in-Err.at
+    (subst (λ z. IsPlace (map transition_view z) d c.in-Err.at) c.deref.ensures.value c.in-Err.ensures) c.in_ok-put-in-Err.ensures many
 
 pub returns-in-Ok : goal.returns-in-Ok
 returns-in-Ok c =
@@ -30,4 +31,5 @@ returns-else-len-gt-MOST_TRANSITIONS c =
     let total = c.len.ensures ∙ c.put.new.transitions.ok.0 in
     let below = c.if-len-gt-MOST_TRANSITIONS.false in
     let few : length (map transition_view c.put.new.transitions.items) ≤ 5000 = omega (arith, count, total, below) in
-    add_put old (map transition_view c.put.new.transitions.items) d c.requires.sorted c.requires.few c.in-Err.at (subst (λ z. IsPlace (map transition_view z) d c.in-Err.at) c.deref.ensures.value c.in-Err.ensures) c.in_ok-put-in-Err.ensures few
+    add_put old (map transition_view c.put.new.transitions.items) d c.requires.sorted c.requires.few c.in-Err.at
+    (subst (λ z. IsPlace (map transition_view z) d c.in-Err.at) c.deref.ensures.value c.in-Err.ensures) c.in_ok-put-in-Err.ensures few

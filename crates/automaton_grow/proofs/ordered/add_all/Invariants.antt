@@ -6,4 +6,5 @@ use Rattle.automaton_grow.proofs.ordered.add_all.Given as goal
 
 abbrev pub invariant-loop-one : goal.invariant-loop-one
 invariant-loop-one l =
-    IsAdded (Contains (map transition_view (take l.one-index l.some))) (map transition_view l.fn.transitions.items) (map transition_view l.transitions.items) × (length (map transition_view l.transitions.items) ≤ 5000)
+    IsAdded (Contains (map transition_view (take l.one-index l.some))) (map transition_view l.fn.transitions.items) (map transition_view l.transitions.items)
+    × (length (map transition_view l.transitions.items) ≤ 5000)

@@ -14,7 +14,8 @@ halves-preserved-in-Less c =
       within = c.halves.invariant.within;
       before =
           subst (λ k. AreBefore (take k (map transition_view c.args.transitions.now)) (transition_of c.args.symbol c.args.args.now c.args.target)) (sym (add-one middle))
-          (those_below (map transition_view c.args.transitions.now) middle (transition_view c.index-transitions-middle.result) _ c.requires (viewed_at c.args.transitions.now middle c.index-transitions-middle.result inside c.index-transitions-middle.is) c.in-Less.ensures);
+          (those_below (map transition_view c.args.transitions.now) middle (transition_view c.index-transitions-middle.result) _ c.requires
+          (viewed_at c.args.transitions.now middle c.index-transitions-middle.result inside c.index-transitions-middle.is) c.in-Less.ensures);
       behind = c.halves.invariant.behind;
     }
 
@@ -26,7 +27,8 @@ halves-preserved c =
       in_order = omega arith;
       within = omega arith;
       before = c.halves.invariant.before;
-      behind = those_above (map transition_view c.args.transitions.now) middle (transition_view c.index-transitions-middle.result) _ c.requires (viewed_at c.args.transitions.now middle c.index-transitions-middle.result inside c.index-transitions-middle.is) c.in-Greater.ensures;
+      behind = those_above (map transition_view c.args.transitions.now) middle (transition_view c.index-transitions-middle.result) _ c.requires
+          (viewed_at c.args.transitions.now middle c.index-transitions-middle.result inside c.index-transitions-middle.is) c.in-Greater.ensures;
     }
 
 pub returns-in-Equal : goal.returns-in-Equal

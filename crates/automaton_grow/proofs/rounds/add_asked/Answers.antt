@@ -21,7 +21,9 @@ pub returns-in_ok-push_grown-in-Fun : goal.returns-in_ok-push_grown-in-Fun
 returns-in_ok-push_grown-in-Fun c =
     let ds = map transition_view c.args.current.now in
     let all =
-    ap (map transition_view) c.deref.ensures.value ∙ c.in_ok-push_grown-in-Fun.ensures ∙ ap (λ z. map transition_view z ++ grown (state_of c.args.leaves.now c.args.choice.now) c.args.first (view c.args.rule.now.right) c.args.state) c.new-grown.ensures.items
+    ap (map transition_view) c.deref.ensures.value ∙ c.in_ok-push_grown-in-Fun.ensures
+    ∙ ap (λ z. map transition_view z ++ grown (state_of c.args.leaves.now c.args.choice.now) c.args.first (view c.args.rule.now.right) c.args.state) c.new-grown.ensures.items
     ∙ ap (λ z. grown (state_of z c.args.choice.now) c.args.first (view c.args.rule.now.right) c.args.state) c.requires.leaves in
-    asked_app (rule_view c.args.rule.now) c.args.first ds c.args.choice.now c.args.state c.in-Fun.field-0 _ (map transition_view c.deref.result.now) (map transition_view c.args.next.now.items) (map transition_view c.add_all.new.transitions.items) c.add_all.result
+    asked_app (rule_view c.args.rule.now) c.args.first ds c.args.choice.now c.args.state c.in-Fun.field-0 _ (map transition_view c.deref.result.now)
+    (map transition_view c.args.next.now.items) (map transition_view c.add_all.new.transitions.items) c.add_all.result
     (ap view c.in-Fun.is ∙ view-Fun c.in-Fun.field-0 c.in-Fun.field-1) all c.add_all.ensures

@@ -12,7 +12,8 @@ returns-in-Err c =
     let b = map transition_view c.loop-f.transitions.items in
     let e = map transition_view c.add.new.transitions.items in
     let zeros = c.deref.ensures.value ∙ c.in_ok-args.ensures.items_if_clones_equal (λ y h. h) in
-    symbols_error c.args.arities.now c.loop-f.f (get_or c.args.arities.now c.loop-f.f 0) c.loop-f-test.true (slice_get-get_or c.args.arities.now c.loop-f.f 0 c.loop-f-test.true) a b e c.in-Err.e c.loop-f.invariant
+    symbols_error c.args.arities.now c.loop-f.f (get_or c.args.arities.now c.loop-f.f 0) c.loop-f-test.true (slice_get-get_or c.args.arities.now c.loop-f.f 0 c.loop-f-test.true) a
+    b e c.in-Err.e c.loop-f.invariant
     (subst (λ z. AddAnswers (λ d. d ≡ transition_of (Some c.loop-f.f) z 0) b e (Err c.in-Err.e)) zeros c.in-Err.ensures)
 
 pub loop-f-preserved : goal.loop-f-preserved
@@ -21,5 +22,6 @@ loop-f-preserved c =
     let b = map transition_view c.loop-f.transitions.items in
     let e = map transition_view c.add.new.transitions.items in
     let zeros = c.deref.ensures.value ∙ c.in_ok-args.ensures.items_if_clones_equal (λ y h. h) in
-    symbols_next c.args.arities.now c.loop-f.f (get_or c.args.arities.now c.loop-f.f 0) c.loop-f-test.true (slice_get-get_or c.args.arities.now c.loop-f.f 0 c.loop-f-test.true) a b e c.loop-f.invariant
+    symbols_next c.args.arities.now c.loop-f.f (get_or c.args.arities.now c.loop-f.f 0) c.loop-f-test.true
+    (slice_get-get_or c.args.arities.now c.loop-f.f 0 c.loop-f-test.true) a b e c.loop-f.invariant
     (subst (λ z. AddAnswers (λ d. d ≡ transition_of (Some c.loop-f.f) z 0) b e (Ok tt)) zeros c.in-Ok.ensures)

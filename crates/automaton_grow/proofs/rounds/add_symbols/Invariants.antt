@@ -5,4 +5,5 @@ use Rattle.automaton_grow.specs.Rounds.{IsForSymbol}
 use Rattle.automaton_grow.proofs.rounds.add_symbols.Given as goal
 
 abbrev pub invariant-loop-f : goal.invariant-loop-f
-invariant-loop-f l = IsAdded (IsForSymbol l.arities l.f) (map transition_view l.fn.transitions.items) (map transition_view l.transitions.items) × (length (map transition_view l.transitions.items) ≤ 5000)
+invariant-loop-f l = IsAdded (IsForSymbol l.arities l.f) (map transition_view l.fn.transitions.items) (map transition_view l.transitions.items)
+    × (length (map transition_view l.transitions.items) ≤ 5000)

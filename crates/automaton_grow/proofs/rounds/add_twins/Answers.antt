@@ -21,12 +21,15 @@ loop-one-preserved c =
     let a = map transition_view c.args.next.now.items in
     let b = map transition_view c.loop-one.next.items in
     let So : Vec Transition Global → Type 0 =
-    λ v. IsAdded (Contains (twins c.args.from c.args.to (map transition_view (take (c.loop-one.one-index + 1) c.args.current.now)))) (map transition_view c.args.next.now.items) (map transition_view v.items) × (length (map transition_view v.items) ≤ 5000) in
+    λ v. IsAdded (Contains (twins c.args.from c.args.to (map transition_view (take (c.loop-one.one-index + 1) c.args.current.now)))) (map transition_view c.args.next.now.items)
+    (map transition_view v.items) × (length (map transition_view v.items) ≤ 5000) in
     elim c.if-one-from.branch [
       | then-one-from+in-Ok w ↦
           subst So (sym w.next-is)
-          (twins_next c.args.from c.args.to c.args.current.now c.loop-one.one-index c.one-item.result c.loop-one-test.true c.one-item.is a b (map transition_view w.add.new.transitions.items) w.if-one-from.true c.loop-one.invariant
+          (twins_next c.args.from c.args.to c.args.current.now c.loop-one.one-index c.one-item.result c.loop-one-test.true c.one-item.is a b
+          (map transition_view w.add.new.transitions.items) w.if-one-from.true c.loop-one.invariant
           (subst (λ z. AddAnswers (λ d. d ≡ transition_of c.one-item.result.symbol z c.args.to) b (map transition_view w.add.new.transitions.items) (Ok tt)) w.deref.ensures.value w.in-Ok.ensures))
       | else-one-from w ↦
-          subst So (sym w.next-is) (twins_same c.args.from c.args.to c.args.current.now c.loop-one.one-index c.one-item.result c.loop-one-test.true c.one-item.is a b w.if-one-from.false c.loop-one.invariant)
+          subst So (sym w.next-is) (twins_same c.args.from c.args.to c.args.current.now c.loop-one.one-index c.one-item.result c.loop-one-test.true c.one-item.is a b
+          w.if-one-from.false c.loop-one.invariant)
     ]

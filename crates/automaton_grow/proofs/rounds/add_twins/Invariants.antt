@@ -6,4 +6,5 @@ use Rattle.automaton_grow.proofs.rounds.add_twins.Given as goal
 
 abbrev pub invariant-loop-one : goal.invariant-loop-one
 invariant-loop-one l =
-    IsAdded (Contains (twins l.from l.to (map transition_view (take l.one-index l.current)))) (map transition_view l.fn.next.items) (map transition_view l.next.items) × (length (map transition_view l.next.items) ≤ 5000)
+    IsAdded (Contains (twins l.from l.to (map transition_view (take l.one-index l.current)))) (map transition_view l.fn.next.items) (map transition_view l.next.items)
+    × (length (map transition_view l.next.items) ≤ 5000)

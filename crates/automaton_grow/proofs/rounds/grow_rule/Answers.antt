@@ -19,6 +19,7 @@ returns c =
     let r = rule_view c.args.rule.now in
     let a = map transition_view c.args.next.now.items in
     let b = map transition_view c.add_rule.new.next.items in
-    rows_rule (automaton_view c.args.current.now) c.args.first r (map arrival_view c.in_ok-rows.rows.items) a b c.add_rule.result c.requires.states (subst (λ (z : Indexed). AreArrivals z r.left (map arrival_view c.in_ok-rows.rows.items)) c.requires.index c.in_ok-rows.ensures)
+    rows_rule (automaton_view c.args.current.now) c.args.first r (map arrival_view c.in_ok-rows.rows.items) a b c.add_rule.result c.requires.states
+    (subst (λ (z : Indexed). AreArrivals z r.left (map arrival_view c.in_ok-rows.rows.items)) c.requires.index c.in_ok-rows.ensures)
     (subst (λ z. AddAnswers (IsAskedByRows c.args.first r (map transition_view c.args.current.now.transitions.items) (map arrival_view z)) a b c.add_rule.result) c.deref-2.ensures.value
     (subst (λ z. AddAnswers (IsAskedByRows c.args.first r (map transition_view z) (map arrival_view c.deref-2.result.now)) a b c.add_rule.result) c.deref.ensures.value c.add_rule.ensures))

@@ -8,5 +8,6 @@ use Rattle.automaton_grow.proofs.rounds.grow_rules.Given as goal
 abbrev pub invariant-loop-rule : goal.invariant-loop-rule
 invariant-loop-rule l = record {
   first : l.first ≡ first_state l.sys (view l.s) l.rule-index;
-  added : IsAdded (IsAskedBelow l.sys (view l.s) l.rule-index (map transition_view l.current.transitions.items)) (map transition_view l.fn.next.items) (map transition_view l.next.items) × (length (map transition_view l.next.items) ≤ 5000);
+  added : IsAdded (IsAskedBelow l.sys (view l.s) l.rule-index (map transition_view l.current.transitions.items)) (map transition_view l.fn.next.items)
+      (map transition_view l.next.items) × (length (map transition_view l.next.items) ≤ 5000);
 }

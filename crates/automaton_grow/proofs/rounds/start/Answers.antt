@@ -13,14 +13,18 @@ add_basic-requires-clause-few c = subst (λ z. length z < 2 ^ 31) (sym c.arities
 
 pub returns-in-Ok : goal.returns-in-Ok
 returns-in-Ok c =
-    let there : map transition_view c.push_grown.new.out.items ≡ grown (state_of [] []) 2 (view c.args.s.now) 1 = c.in_ok-push_grown.ensures ∙ ap (λ z. map transition_view z ++ grown (state_of [] []) 2 (view c.args.s.now) 1) c.new-inside.ensures.items in
+    let there : map transition_view c.push_grown.new.out.items ≡ grown (state_of [] []) 2 (view c.args.s.now) 1 = c.in_ok-push_grown.ensures
+    ∙ ap (λ z. map transition_view z ++ grown (state_of [] []) 2 (view c.args.s.now) 1) c.new-inside.ensures.items in
     let some = start_inside (view c.args.s.now) (map transition_view c.deref.result.now) (ap (map transition_view) c.deref.ensures.value ∙ there) in
-    let all = started c.args.sys.now (view c.args.s.now) c.arities.result.now (map transition_view c.deref.result.now) (map transition_view c.new-transitions.result.items) (map transition_view c.add_basic.new.transitions.items) (Ok tt) c.arities.ensures some (ap (map transition_view) c.new-transitions.ensures.items) c.in-Ok.ensures in
+    let all = started c.args.sys.now (view c.args.s.now) c.arities.result.now (map transition_view c.deref.result.now) (map transition_view c.new-transitions.result.items)
+    (map transition_view c.add_basic.new.transitions.items) (Ok tt) c.arities.ensures some (ap (map transition_view) c.new-transitions.ensures.items) c.in-Ok.ensures in
     first_partial c.args.sys.now (view c.args.s.now) (map transition_view c.add_basic.new.transitions.items) all.0 all.1
 
 pub returns : goal.returns
 returns c =
-    let there : map transition_view c.push_grown.new.out.items ≡ grown (state_of [] []) 2 (view c.args.s.now) 1 = c.in_ok-push_grown.ensures ∙ ap (λ z. map transition_view z ++ grown (state_of [] []) 2 (view c.args.s.now) 1) c.new-inside.ensures.items in
+    let there : map transition_view c.push_grown.new.out.items ≡ grown (state_of [] []) 2 (view c.args.s.now) 1 = c.in_ok-push_grown.ensures
+    ∙ ap (λ z. map transition_view z ++ grown (state_of [] []) 2 (view c.args.s.now) 1) c.new-inside.ensures.items in
     let some = start_inside (view c.args.s.now) (map transition_view c.deref.result.now) (ap (map transition_view) c.deref.ensures.value ∙ there) in
     start_error c.args.sys.now (view c.args.s.now) (map transition_view c.add_basic.new.transitions.items) c.in-Err.e
-    (started c.args.sys.now (view c.args.s.now) c.arities.result.now (map transition_view c.deref.result.now) (map transition_view c.new-transitions.result.items) (map transition_view c.add_basic.new.transitions.items) (Err c.in-Err.e) c.arities.ensures some (ap (map transition_view) c.new-transitions.ensures.items) c.in-Err.ensures)
+    (started c.args.sys.now (view c.args.s.now) c.arities.result.now (map transition_view c.deref.result.now) (map transition_view c.new-transitions.result.items)
+    (map transition_view c.add_basic.new.transitions.items) (Err c.in-Err.e) c.arities.ensures some (ap (map transition_view) c.new-transitions.ensures.items) c.in-Err.ensures)

@@ -6,4 +6,11 @@ use Rattle.automaton_grow.proofs.sides.+inner.Goals as goal
 
 pub overflow_add-count : goal.overflow_add-count
 overflow_add-count t c =
-    omega (arith, inner_size (view c.args.t.now), inner_left c.deref-arg-items.result.now c.loop-arg.arg-index c.arg-item.result c.loop-arg-test.true c.arg-item.is, c.inner-count.ensures, c.requires, c.loop-arg.invariant.counted)
+    omega (
+      arith,
+      inner_size (view c.args.t.now),
+      inner_left c.deref-arg-items.result.now c.loop-arg.arg-index c.arg-item.result c.loop-arg-test.true c.arg-item.is,
+      c.inner-count.ensures,
+      c.requires,
+      c.loop-arg.invariant.counted,
+    )

@@ -22,7 +22,8 @@ evaluate-returns-in_ok-made-in-Fun t c =
     let all = members c.all.result.now in
     symbol_reached b a names c.args.t.now c.in-Fun.f c.in-Fun.args c.deref.result.now (relations es) all c.in_ok-made-in-Fun.made c.in-Fun.is c.deref.ensures.value
     (zip_relations (λ (t : Term) r. AreWhere b (Reaches a names (view t)) r) c.deref.result.now es
-    (subst (AllZip (λ t e. AreWhere b (Reaches a names (view t)) (relation_of e)) c.deref.result.now) (sym c.deref-in-Fun.ensures.value) c.in_ok-args-in-Fun.ensures)) c.all.ensures c.in_ok-made-in-Fun.ensures
+    (subst (AllZip (λ t e. AreWhere b (Reaches a names (view t)) (relation_of e)) c.deref.result.now) (sym c.deref-in-Fun.ensures.value) c.in_ok-args-in-Fun.ensures))
+    c.all.ensures c.in_ok-made-in-Fun.ensures
 
 pub evaluate_each-loop-arg-preserved : goal.evaluate_each-loop-arg-preserved
 evaluate_each-loop-arg-preserved t c =

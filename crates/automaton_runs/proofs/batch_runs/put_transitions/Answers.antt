@@ -17,8 +17,10 @@ loop-transition-preserved c = record {
   shared = c.in_ok-put_transition.ensures.shared;
   made = λ q k.
       let i = c.loop-transition.transition-index in
-      one_more (λ (t : math.Transition). Leads c.args.f (members c.args.all.now) (relations c.args.args.now) t q k) (pointed (take i c.args.transitions.now)) (transition_view c.transition-item.result.now) (pointed (take (i + 1) c.args.transitions.now))
-      (map-take_read (λ (t : Bor Transition). transition_view t.now) c.args.transitions.now i c.transition-item.result c.loop-transition-test.true c.transition-item.is) (c.loop-transition.invariant.made q k) (c.in_ok-put_transition.ensures.made q k);
+      one_more (λ (t : math.Transition). Leads c.args.f (members c.args.all.now) (relations c.args.args.now) t q k) (pointed (take i c.args.transitions.now))
+      (transition_view c.transition-item.result.now) (pointed (take (i + 1) c.args.transitions.now))
+      (map-take_read (λ (t : Bor Transition). transition_view t.now) c.args.transitions.now i c.transition-item.result c.loop-transition-test.true c.transition-item.is)
+      (c.loop-transition.invariant.made q k) (c.in_ok-put_transition.ensures.made q k);
 }
 
 pub returns : goal.returns

@@ -22,7 +22,8 @@ returns c q k =
           let first = w.relation-in-Some.result.now in
           let at : Some w.relation-in-Some.result.now ≡ slice_get (relations c.args.args.now) 0 =
           ap Some w.relation-in-Some.ensures ∙ ap (option_map relation_of) w.in-Some.ensures.value ∙ sym (slice_get-map relation_of c.args.args.now 0) in
-          subst (λ (r : NumberRelation). Relates r q k ↔ (IsOneOf rs all k × IsReachedFrom a f rs q k)) (sym w.made-is) (reached_by_first a f q k all first rs none at (w.in_ok-put_by_first-in-Some.ensures q k))
+          subst (λ (r : NumberRelation). Relates r q k ↔ (IsOneOf rs all k × IsReachedFrom a f rs q k)) (sym w.made-is)
+          (reached_by_first a f q k all first rs none at (w.in_ok-put_by_first-in-Some.ensures q k))
       | in_default+in_ok-put_transitions-in_default w ↦
           subst (λ (r : NumberRelation). Relates r q k ↔ (IsOneOf rs all k × IsReachedFrom a f rs q k)) (sym w.made-is)
           (reached_by_symbol a f q k all rs none (pointed c.with_symbol-transitions.result.now) c.with_symbol-transitions.ensures (w.in_ok-put_transitions-in_default.ensures q k))

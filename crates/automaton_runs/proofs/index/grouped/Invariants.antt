@@ -8,4 +8,5 @@ use Rattle.automaton_runs.specs.Indexed.{key_view, pointed}
 use Rattle.automaton_runs.proofs.index.grouped.Given as goal
 
 abbrev pub invariant-loop-transition : goal.invariant-loop-transition
-invariant-loop-transition l = (q : ℕ) → pointed (listed l.groups q) ≡ filter (chosen (symbols_of l.arities) (key_view l.key) l.automaton.states q) (map transition_view (take l.transition-index l.transition-items))
+invariant-loop-transition l = (q : ℕ) → pointed (listed l.groups q) ≡ filter (chosen (symbols_of l.arities) (key_view l.key) l.automaton.states q)
+    (map transition_view (take l.transition-index l.transition-items))

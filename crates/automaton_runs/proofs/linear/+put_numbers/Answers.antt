@@ -14,8 +14,11 @@ put_numbers-requires t c =
     let shown = ap length (leaves_shown c.args.t.now c.in-Fun.f c.in-Fun.args c.in-Fun.is) in
     let same = ap (λ (l : List Term). length (variable_occurrences_of (views l))) c.deref-arg-items.ensures.value in
     let bound : c.loop-arg.next + length (variable_occurrences (view c.arg-item.result)) < 4294967296 =
-    omega (arith, count_more ts i c.arg-item.result c.loop-arg-test.true c.arg-item.is, count_within ts (i + 1), c.loop-arg.invariant.next, c.requires) in
-    (subst (λ (n : ℕ). size (view c.arg-item.result) < n) c.decreases (size_below c.args.t.now c.in-Fun.f c.in-Fun.args ts i c.arg-item.result c.in-Fun.is c.deref-arg-items.ensures.value c.loop-arg-test.true c.arg-item.is), bound)
+    omega (arith, count_more ts i c.arg-item.result c.loop-arg-test.true c.arg-item.is, count_within ts (i + 1), c.loop-arg.invariant.next, c.requires) in (
+      subst (λ (n : ℕ). size (view c.arg-item.result) < n) c.decreases
+          (size_below c.args.t.now c.in-Fun.f c.in-Fun.args ts i c.arg-item.result c.in-Fun.is c.deref-arg-items.ensures.value c.loop-arg-test.true c.arg-item.is),
+      bound,
+    )
 
 pub loop-arg-preserved : goal.loop-arg-preserved
 loop-arg-preserved t c =
@@ -24,7 +27,8 @@ loop-arg-preserved t c =
     let more = count_more ts i c.arg-item.result c.loop-arg-test.true c.arg-item.is in record {
       next = omega (arith, more, c.in_ok-put_numbers-in-Fun.ensures.next, c.loop-arg.invariant.next);
       made =
-          numbered_more c.args.next.now c.loop-arg.next i ts c.loop-arg.made.items c.push.new.self.items c.arg-item.result c.in_ok-put_numbers-in-Fun.field-0 c.loop-arg-test.true c.arg-item.is c.loop-arg.invariant.next
+          numbered_more c.args.next.now c.loop-arg.next i ts c.loop-arg.made.items c.push.new.self.items c.arg-item.result c.in_ok-put_numbers-in-Fun.field-0 c.loop-arg-test.true
+          c.arg-item.is c.loop-arg.invariant.next
           c.in_ok-push-in-Fun.ensures.items c.loop-arg.invariant.made c.in_ok-put_numbers-in-Fun.ensures.term;
     }
 
@@ -33,7 +37,8 @@ returns-after-loop-arg t c =
     let ts = c.deref-arg-items.result.now in
     let whole : take c.loop-arg.arg-index ts ≡ ts = take_all c.loop-arg.arg-index ts c.loop-arg-test.false in
     let shown = leaves_shown c.args.t.now c.in-Fun.f c.in-Fun.args c.in-Fun.is in
-    let names : variable_occurrences_of (views (take c.loop-arg.arg-index ts)) ≡ variable_occurrences (view c.args.t.now) = ap (λ (l : List Term). variable_occurrences_of (views l)) (whole ∙ c.deref-arg-items.ensures.value) ∙ sym shown in record {
+    let names : variable_occurrences_of (views (take c.loop-arg.arg-index ts)) ≡ variable_occurrences (view c.args.t.now) = ap
+    (λ (l : List Term). variable_occurrences_of (views l)) (whole ∙ c.deref-arg-items.ensures.value) ∙ sym shown in record {
       next = c.loop-arg.invariant.next ∙ ap (λ (l : List ℕ). c.args.next.now + length l) names;
       term =
           numbered_symbol c.args.next.now c.args.t.now c.in-Fun.f c.in-Fun.args c.loop-arg.made ts c.in-Fun.is c.deref-arg-items.ensures.value

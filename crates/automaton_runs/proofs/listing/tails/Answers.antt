@@ -11,7 +11,8 @@ pools-preserved c =
     let inside : c.pools.place - 1 < length c.args.pools.now = omega (arith, c.pools.invariant.within, c.pools-test.true) in
     let same : c.index-pools-place.result ≡ c.index-pools-place-in-pools.result =
     c.index-pools-place.is ∙ get_or_default c.args.pools.now (c.pools.place - 1) c.index-pools-place.result c.index-pools-place-in-pools.result inside ∙ sym c.index-pools-place-in-pools.is in
-    let listed : as_lists c.in_ok-made-2.made.items ≡ before_each c.index-pools-place-in-pools.result.items (as_lists c.pools.made.items) = c.in_ok-made-2.ensures ∙ ap₂ before_each c.deref.ensures.value (ap as_lists c.deref-in-pools.ensures.value) in
+    let listed : as_lists c.in_ok-made-2.made.items ≡ before_each c.index-pools-place-in-pools.result.items (as_lists c.pools.made.items) = c.in_ok-made-2.ensures
+    ∙ ap₂ before_each c.deref.ensures.value (ap as_lists c.deref-in-pools.ensures.value) in
     let count : length c.in_ok-made-2.made.items ≡ length c.index-pools-place-in-pools.result.items * length c.pools.made.items =
     sym (length-map c.in_ok-made-2.made.items (λ v. v.items)) ∙ ap length listed ∙ length_each c.index-pools-place-in-pools.result.items (as_lists c.pools.made.items)
     ∙ ap (λ (n : ℕ). length c.index-pools-place-in-pools.result.items * n) (length-map c.pools.made.items (λ v. v.items)) in
@@ -22,6 +23,7 @@ pools-preserved c =
     let told = c.saturating_mul.ensures in
     record {
       within = omega (arith, c.pools.invariant.within);
-      made = listed ∙ ap (before_each c.index-pools-place-in-pools.result.items) c.pools.invariant.made ∙ choices_before c.args.pools.now c.pools.place c.index-pools-place-in-pools.result c.pools-test.true c.pools.invariant.within c.index-pools-place-in-pools.is;
+      made = listed ∙ ap (before_each c.index-pools-place-in-pools.result.items) c.pools.invariant.made
+          ∙ choices_before c.args.pools.now c.pools.place c.index-pools-place-in-pools.result c.pools-test.true c.pools.invariant.within c.index-pools-place-in-pools.is;
       few = omega arith;
     }

@@ -25,7 +25,8 @@ loop-transition-preserved c q =
     let t = transition_view c.transition-item.result.now in
     let place = c.args.place in
     let ts = pointed (take c.loop-transition.transition-index c.with_symbol-transition-items.result.now) in
-    let more = map-take_read (λ (t : Bor Transition). transition_view t.now) c.with_symbol-transition-items.result.now c.loop-transition.transition-index c.transition-item.result c.loop-transition-test.true c.transition-item.is in
+    let more = map-take_read (λ (t : Bor Transition). transition_view t.now) c.with_symbol-transition-items.result.now c.loop-transition.transition-index c.transition-item.result
+    c.loop-transition-test.true c.transition-item.is in
     let step = stands_more c.args.place q (pointed (take c.loop-transition.transition-index c.with_symbol-transition-items.result.now)) (transition_view c.transition-item.result.now) in
     let front = c.loop-transition.invariant q in
     let whole = λ (set : NumberSet). IsAmong q (members set) ↔ (stands_in c.args.place q (pointed (take (c.loop-transition.transition-index + 1) c.with_symbol-transition-items.result.now)) ≡ true) in

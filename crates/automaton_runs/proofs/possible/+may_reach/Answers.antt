@@ -21,13 +21,15 @@ may_reach-returns-in-Some t c =
     let e = c.in-Some.ensures.lookup in
     let states = c.in-Some.states.now in
     let here : slice_get places c.in-Var.x ≡ Some states = got places c.in-Var.x states e.0 e.1 in
-    may_variable c.args.index.now (members c.args.all.now) places c.args.t.now c.in-Var.x states c.in-Var.is (λ r at q k h. subst (λ (x : NumberRelation). Relates x q k) (same_Some r states (sym at ∙ here)) h)
+    may_variable c.args.index.now (members c.args.all.now) places c.args.t.now c.in-Var.x states c.in-Var.is
+    (λ r at q k h. subst (λ (x : NumberRelation). Relates x q k) (same_Some r states (sym at ∙ here)) h)
 
 pub may_reach-returns-in-None : goal.may_reach-returns-in-None
 may_reach-returns-in-None t c =
     let places = c.args.places.now in
     let e = c.in-None.ensures.lookup in
-    may_variable c.args.index.now (members c.args.all.now) places c.args.t.now c.in-Var.x c.new.result c.in-Var.is (λ r at q k h. absurd (let low = slice_get_within places c.in-Var.x r at in let high = not_got places c.in-Var.x e.0 in omega arith))
+    may_variable c.args.index.now (members c.args.all.now) places c.args.t.now c.in-Var.x c.new.result c.in-Var.is
+    (λ r at q k h. absurd (let low = slice_get_within places c.in-Var.x r at in let high = not_got places c.in-Var.x e.0 in omega arith))
 
 pub may_reach-returns-in_ok-made-in-Fun : goal.may_reach-returns-in_ok-made-in-Fun
 may_reach-returns-in_ok-made-in-Fun t c =
@@ -46,4 +48,5 @@ may_reach_each-loop-arg-preserved t c =
     let places = c.args.places.now in
     let R = λ (t : Term) (e : Evaluated). MayReach a all places (view t) (relation_of e) in
     subst (AllZip R (take (c.loop-arg.arg-index + 1) c.args.args.now)) (sym c.in_ok-push.ensures.items)
-    (zip_more R c.args.args.now c.loop-arg.made.items c.loop-arg.arg-index c.arg-item.result c.in_ok-may_reach.field-0 c.loop-arg-test.true c.arg-item.is c.loop-arg.invariant c.in_ok-may_reach.ensures)
+    (zip_more R c.args.args.now c.loop-arg.made.items c.loop-arg.arg-index c.arg-item.result c.in_ok-may_reach.field-0 c.loop-arg-test.true c.arg-item.is
+    c.loop-arg.invariant c.in_ok-may_reach.ensures)

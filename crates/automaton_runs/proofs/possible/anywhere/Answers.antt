@@ -8,7 +8,8 @@ use Rattle.automaton_runs.proofs.possible.anywhere.Goals as goal
 pub loop-state-preserved : goal.loop-state-preserved
 loop-state-preserved c =
     let i = c.loop-state.state-index in
-    anywhere_more (members c.args.all.now) (take c.loop-state.state-index c.args.pool.now) (get_or c.args.pool.now c.loop-state.state-index 0) (take (c.loop-state.state-index + 1) c.args.pool.now) c.loop-state.made c.insert_all.new.self
+    anywhere_more (members c.args.all.now) (take c.loop-state.state-index c.args.pool.now) (get_or c.args.pool.now c.loop-state.state-index 0)
+    (take (c.loop-state.state-index + 1) c.args.pool.now) c.loop-state.made c.insert_all.new.self
     (take_more c.args.pool.now c.loop-state.state-index 0 c.loop-state-test.true) c.loop-state.invariant c.in_ok-insert_all.ensures
 
 pub returns : goal.returns

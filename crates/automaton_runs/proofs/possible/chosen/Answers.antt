@@ -21,7 +21,8 @@ loop-number-preserved c =
           let pushed : as_lists w.push.new.self.items ≡ as_lists c.loop-number.made.items ++ w.index-lists-number.result.items ∷ [] =
           ap as_lists w.in_ok-push.ensures.items ∙ map_push (λ (u : Vec ℕ Global). u.items) c.loop-number.made.items w.in_ok-from_slice.field-0
           ∙ ap (λ (l : List ℕ). as_lists c.loop-number.made.items ++ l ∷ []) (w.in_ok-from_slice.ensures.items ∙ w.deref.ensures.value) in
-          subst P (sym w.made-is) (chosen_more lists set n old c.loop-number.invariant v.items (as_lists w.push.new.self.items) (list_at c.args.lists.now n v c.loop-number-test.true w.index-lists-number.is) pushed)
+          subst P (sym w.made-is) (chosen_more lists set n old c.loop-number.invariant v.items (as_lists w.push.new.self.items)
+          (list_at c.args.lists.now n v c.loop-number-test.true w.index-lists-number.is) pushed)
       | else-has w ↦ subst P (sym w.made-is) (chosen_skip lists set n old c.loop-number.invariant (λ h. false≢true (sym w.if-has.false ∙ c.has.ensures.1 h)))
     ]
 

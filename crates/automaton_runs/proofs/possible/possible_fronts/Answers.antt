@@ -12,16 +12,19 @@ use Rattle.automaton_runs.proofs.possible.possible_fronts.Goals as goal
 pub returns-then-len-le1 : goal.returns-then-len-le1
 returns-then-len-le1 c =
     let pools = as_lists c.args.pools.now in
-    let is : as_lists c.in_ok-all.all.items ≡ choices_of (take c.args.start (as_lists c.args.pools.now)) = c.in_ok-all.ensures ∙ ap choices_of (sym (take-map (λ v. v.items) c.args.start c.args.pools.now)) in
+    let is : as_lists c.in_ok-all.all.items ≡ choices_of (take c.args.start (as_lists c.args.pools.now)) = c.in_ok-all.ensures
+    ∙ ap choices_of (sym (take-map (λ v. v.items) c.args.start c.args.pools.now)) in
     all_fronts c.args.index.now (view c.args.t.now) (take c.args.start pools) (drop c.args.start pools) (as_lists c.in_ok-all.all.items) is
 
 pub possible-requires-clause-long : goal.possible-requires-clause-long
 possible-requires-clause-long c front h =
     let pools = as_lists c.args.pools.now in
-    let is : as_lists c.in_ok-all.all.items ≡ choices_of (take c.args.start (as_lists c.args.pools.now)) = c.in_ok-all.ensures ∙ ap choices_of (sym (take-map (λ v. v.items) c.args.start c.args.pools.now)) in
+    let is : as_lists c.in_ok-all.all.items ≡ choices_of (take c.args.start (as_lists c.args.pools.now)) = c.in_ok-all.ensures
+    ∙ ap choices_of (sym (take-map (λ v. v.items) c.args.start c.args.pools.now)) in
     let there = subst (λ (vs : List (Vec ℕ Global)). IsAmong front (as_lists vs)) c.deref.ensures.value h in
     let long = length-map c.args.pools.now (λ v. v.items) in
-    front_long c.args.index.now (view c.args.t.now) (take c.args.start pools) (drop c.args.start pools) (as_lists c.in_ok-all.all.items) is front there ∙ length-take-le c.args.start pools (omega (arith, c.requires.within))
+    front_long c.args.index.now (view c.args.t.now) (take c.args.start pools) (drop c.args.start pools) (as_lists c.in_ok-all.all.items) is front there
+    ∙ length-take-le c.args.start pools (omega (arith, c.requires.within))
 
 pub returns : goal.returns
 returns c =
@@ -30,11 +33,15 @@ returns c =
     let pools = as_lists c.args.pools.now in
     let all = as_lists c.in_ok-all.all.items in
     let set = members c.in_ok-set.set in
-    let is : as_lists c.in_ok-all.all.items ≡ choices_of (take c.args.start (as_lists c.args.pools.now)) = c.in_ok-all.ensures ∙ ap choices_of (sym (take-map (λ v. v.items) c.args.start c.args.pools.now)) in
+    let is : as_lists c.in_ok-all.all.items ≡ choices_of (take c.args.start (as_lists c.args.pools.now)) = c.in_ok-all.ensures
+    ∙ ap choices_of (sym (take-map (λ v. v.items) c.args.start c.args.pools.now)) in
     let others : as_lists (take (length c.args.pools.now - c.args.start) (drop c.args.start c.args.pools.now)) ≡ drop c.args.start (as_lists c.args.pools.now) =
     ap as_lists (take_rest c.args.pools.now c.args.start) ∙ sym (drop-map (λ v. v.items) c.args.start c.args.pools.now) in
     let possible : ArePossible c.args.index.now (view c.args.t.now) (as_lists c.in_ok-all.all.items) (drop c.args.start (as_lists c.args.pools.now)) (members c.in_ok-set.set) =
-    subst (λ (ls : List (List ℕ)). ArePossible a t all ls set) others (subst (λ (vs : List (Vec ℕ Global)). ArePossible a t (as_lists vs) (as_lists (take (length c.args.pools.now - c.args.start) (drop c.args.start c.args.pools.now))) set) c.deref.ensures.value c.in_ok-set.ensures) in
+    subst (λ (ls : List (List ℕ)). ArePossible a t all ls set) others
+    (subst (λ (vs : List (Vec ℕ Global)). ArePossible a t (as_lists vs) (as_lists (take (length c.args.pools.now - c.args.start) (drop c.args.start c.args.pools.now))) set)
+    c.deref.ensures.value c.in_ok-set.ensures) in
     IfOk-weaker c.chosen.result _ (λ fronts. AreFronts a t (take c.args.start pools) (drop c.args.start pools) (as_lists fronts.items))
-    (λ fronts chosen. chosen_fronts a t (take c.args.start pools) (drop c.args.start pools) all is set (as_lists fronts.items) possible (subst (λ (vs : List (Vec ℕ Global)). AreChosen (as_lists vs) set (as_lists fronts.items)) c.deref-2.ensures.value chosen))
+    (λ fronts chosen. chosen_fronts a t (take c.args.start pools) (drop c.args.start pools) all is set (as_lists fronts.items) possible
+    (subst (λ (vs : List (Vec ℕ Global)). AreChosen (as_lists vs) set (as_lists fronts.items)) c.deref-2.ensures.value chosen))
     c.chosen.ensures

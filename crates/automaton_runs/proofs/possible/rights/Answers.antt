@@ -14,7 +14,8 @@ loop-left-preserved c =
     elim c.match-row.branch [
       | in-Some+in_ok-insert_all w ↦
           subst (λ (s : NumberSet). (p q : ℕ) → p < left + 1 → Relates r p q → IsAmong q (members s)) (sym w.set-is)
-          (rights_more r left (members w.in-Some.row.now) (members c.loop-left.set) (members w.insert_all.new.self) (ap members_at (sym w.in-Some.is) ∙ c.row.ensures) w.in_ok-insert_all.ensures c.loop-left.invariant)
+          (rights_more r left (members w.in-Some.row.now) (members c.loop-left.set) (members w.insert_all.new.self) (ap members_at (sym w.in-Some.is) ∙ c.row.ensures)
+          w.in_ok-insert_all.ensures c.loop-left.invariant)
       | in_default w ↦
           subst (λ (s : NumberSet). (p q : ℕ) → p < left + 1 → Relates r p q → IsAmong q (members s)) (sym w.set-is)
           (rights_none r left (members c.loop-left.set) (ap members_at (sym w.in_default.is) ∙ c.row.ensures) c.loop-left.invariant)

@@ -9,7 +9,8 @@ use Rattle.rewriting.proofs.Members.{place_among}
 use Rattle.automaton_runs.proofs.runs.put_all.Goals as goal
 
 pub loop-front-init : goal.loop-front-init
-loop-front-init c = subst (λ (rows : List Pair). AreFrontArrivals c.args.index.now (view c.args.t.now) c.args.choices.now 0 rows) (sym c.requires.none) (none_of_fronts c.args.index.now (view c.args.t.now) c.args.choices.now)
+loop-front-init c = subst (λ (rows : List Pair). AreFrontArrivals c.args.index.now (view c.args.t.now) c.args.choices.now 0 rows) (sym c.requires.none)
+    (none_of_fronts c.args.index.now (view c.args.t.now) c.args.choices.now)
 
 pub put_batch-requires-clause-length : goal.put_batch-requires-clause-length
 put_batch-requires-clause-length c =
@@ -29,9 +30,15 @@ loop-front-preserved c =
     let is : c.in_ok-batch.batch ≡ record { front = c.front-item.result.items; width = c.args.choices.now.width; tails = c.args.choices.now.tails } =
     c.in_ok-batch.ensures ∙ ap (λ (f : List ℕ). let b : Batch = record { front = f; width = c.args.choices.now.width; tails = c.args.choices.now.tails } in b) c.deref.ensures.value in
     let (more, put, here) = c.in_ok-put_batch.ensures in
-    fronts_more a t c.args.choices.now c.requires.choices n front at c.in_ok-batch.batch is (map arrival_view c.loop-front.rows.items) more c.loop-front.invariant here (map arrival_view c.put_batch.new.rows.items) put
+    fronts_more a t c.args.choices.now c.requires.choices n front at c.in_ok-batch.batch is (map arrival_view c.loop-front.rows.items) more c.loop-front.invariant here
+    (map arrival_view c.put_batch.new.rows.items) put
 
 pub returns : goal.returns
 returns c =
-    let past : length c.args.choices.now.fronts ≤ c.loop-front.front-index = omega (arith, c.loop-front-test.false, ap length c.fronts-front-items.ensures, length-map c.fronts-front-items.result.now (λ v. v.items)) in
+    let past : length c.args.choices.now.fronts ≤ c.loop-front.front-index = omega (
+      arith,
+      c.loop-front-test.false,
+      ap length c.fronts-front-items.ensures,
+      length-map c.fronts-front-items.result.now (λ v. v.items),
+    ) in
     arrivals_end c.args.index.now (view c.args.t.now) c.args.choices.now c.requires.choices c.loop-front.front-index (map arrival_view c.loop-front.rows.items) past c.loop-front.invariant

@@ -33,7 +33,8 @@ loop-k-preserved c =
           let states : w.deref-in-Some.result.now ≡ members set = w.deref-in-Some.ensures.value ∙ w.in_ok-numbers.ensures in
           let row = states ∙ ap members_at (sym w.in-Some.is) ∙ c.row.ensures in
           let up = subst (AllPairs (λ x y. x < y)) (sym states) (members_ascending set) in
-          arrivals_choice a t b k holds r s c.in_ok-reached_by_occurrences.ensures c.in_ok-by_choice.ensures c.requires.ordered first old (map arrival_view c.match-row.rows.items) w.deref.result.now w.deref-in-Some.result.now
+          arrivals_choice a t b k holds r s c.in_ok-reached_by_occurrences.ensures c.in_ok-by_choice.ensures c.requires.ordered first old (map arrival_view c.match-row.rows.items)
+          w.deref.result.now w.deref-in-Some.result.now
           c.loop-k.invariant up row (w.deref.ensures.value ∙ w.in_ok-choice.ensures) (ap (λ (v : Vec Arrival Global). map arrival_view v.items) w.rows-is ∙ w.in_ok-put_arrivals.ensures)
       | in_default w ↦
           subst (λ (v : Vec Arrival Global). HaveBatchArrivals a t b (k + 1) first (map arrival_view v.items)) (sym w.rows-is)

@@ -13,5 +13,6 @@ returns-then-not-has_left-clause-asked c k z =
     let long = length-map c.args.args.now relation_of in
     let r = c.relation.result.now in
     absurd
-    (not_related (relations c.args.args.now) c.args.states.now c.loop-place.place r (omega (arith, c.loop-place-test.true)) (relation_at c.args.args.now c.loop-place.place c.index-args-place.result r c.loop-place-test.true c.index-args-place.is c.relation.ensures)
+    (not_related (relations c.args.args.now) c.args.states.now c.loop-place.place r (omega (arith, c.loop-place-test.true))
+    (relation_at c.args.args.now c.loop-place.place c.index-args-place.result r c.loop-place-test.true c.index-args-place.is c.relation.ensures)
     (λ h. false≢true (c.if-not-has_left.ensures.1 h)) (long ∙ c.if-args-states.false) k z)

@@ -19,5 +19,7 @@ returns-in_ok-insert_all c =
     let inside : 0 < length c.args.states.now = omega arith in
     let here : members c.in-Some.row.now ≡ row_of (relation_of c.args.first.now) (get_or c.args.states.now 0 0) =
     ap members_at (sym c.in-Some.is) ∙ c.row.ensures ∙ ap (λ (r : NumberRelation). row_of r (get_or c.args.states.now 0 0)) c.relation.ensures in
-    related_rest (relation_of c.args.first.now) (relations c.args.others.now) c.args.states.now (length c.args.others.now) (get_or c.args.states.now 0 0) long (get_or_default c.args.states.now 0 0 (get_or c.args.states.now 0 0) inside) (members c.clear.new.set) (members c.in-Some.row.now) (members c.insert_all.new.self) (members c.keep_related.new.set) c.clear.ensures here c.in_ok-insert_all.ensures
+    related_rest (relation_of c.args.first.now) (relations c.args.others.now) c.args.states.now (length c.args.others.now) (get_or c.args.states.now 0 0) long
+    (get_or_default c.args.states.now 0 0 (get_or c.args.states.now 0 0) inside) (members c.clear.new.set) (members c.in-Some.row.now) (members c.insert_all.new.self)
+    (members c.keep_related.new.set) c.clear.ensures here c.in_ok-insert_all.ensures
     (subst (λ (ps : List ℕ). (k : ℕ) → IsAmong k new ↔ (IsAmong k front × AreRelated rs ps k)) (take_rest c.args.states.now 1) c.keep_related.ensures)

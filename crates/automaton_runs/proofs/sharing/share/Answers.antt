@@ -19,4 +19,5 @@ returns-in_ok-put_related-in-len1-up c =
     let put : (k : ℕ) → IsAmong k new ↔ AreRelated (first ∷ relations (drop 1 c.args.args.now)) qs k =
     subst (λ (es : List Evaluated). (k : ℕ) → IsAmong k new ↔ AreRelated (first ∷ relations es) qs k) (take_rest c.args.args.now 1) c.in_ok-put_related-in-len1-up.ensures in
     let there = c.made_ones.ensures in
-    subst (λ (es : List Evaluated). AreShared all (relations es) qs (IsIn c.made_ones.result c.put_related.new.set)) (sym split) (λ k. (λ h. (tt, (put k).0 ((there k).0 h)), λ p. (there k).1 ((put k).1 p.1)))
+    subst (λ (es : List Evaluated). AreShared all (relations es) qs (IsIn c.made_ones.result c.put_related.new.set)) (sym split)
+    (λ k. (λ h. (tt, (put k).0 ((there k).0 h)), λ p. (there k).1 ((put k).1 p.1)))

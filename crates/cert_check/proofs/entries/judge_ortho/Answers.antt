@@ -51,14 +51,16 @@ returns-in_err-finish-clause-answers c = λ o h.
     let taken = before.taken o h in
     rejected_answer c.args.sys.now c.args.pairs.now.names c.args.pairs.now.bytes o ortho_opening taken.entries _ _ (handed_on _ _ c.from_residual-in_err-finish.ensures.1)
     (all_read c.args.pairs.now.names c.args.pairs.now.bytes c.entries.pairs o taken.entries before.names before.bytes c.in_ok-entry.field-0 c.in_default.not-Some c.in_ok-entry.ensures.none taken.read)
-    (rejected_there c.args.sys.now c.entries.run.system (ortho_certificate taken.entries) (ortho_certificate taken.entries) _ before.system refl (c.in_err-finish.ensures.judged taken.entries taken.tally))
+    (rejected_there c.args.sys.now c.entries.run.system (ortho_certificate taken.entries) (ortho_certificate taken.entries) _ before.system refl
+    (c.in_err-finish.ensures.judged taken.entries taken.tally))
 
 pub returns-in_default-clause-answers : goal.returns-in_default-clause-answers
 returns-in_default-clause-answers c = λ o h.
     let before = c.entries.invariant in
     let taken = before.taken o h in (
       taken.entries,
-      all_read c.args.pairs.now.names c.args.pairs.now.bytes c.entries.pairs o taken.entries before.names before.bytes c.in_ok-entry.field-0 c.in_default.not-Some c.in_ok-entry.ensures.none taken.read,
+      all_read c.args.pairs.now.names c.args.pairs.now.bytes c.entries.pairs o taken.entries before.names before.bytes c.in_ok-entry.field-0 c.in_default.not-Some
+          c.in_ok-entry.ensures.none taken.read,
       valid_there c.args.sys.now c.entries.run.system (ortho_certificate taken.entries) (ortho_certificate taken.entries) before.system refl (c.in_ok-finish.ensures.judged taken.entries taken.tally),
       refl,
     )

@@ -24,7 +24,8 @@ entries-init c =
         entries = [];
         read = h;
         counted = refl;
-        tally = tally_there c.in_ok-run.run'.system c.in_ok-prepared.prepared (certificate_of c.in_ok-run.run'.measure) _ [] c.in_ok-run.run'.tally (sym c.in_ok-run.ensures.system) same c.in_ok-run.ensures.tally;
+        tally = tally_there c.in_ok-run.run'.system c.in_ok-prepared.prepared (certificate_of c.in_ok-run.run'.measure) _ [] c.in_ok-run.run'.tally (sym c.in_ok-run.ensures.system)
+            same c.in_ok-run.ensures.tally;
       };
     }
 
@@ -39,7 +40,8 @@ entries-preserved c =
       measure = before.measure ∙ same;
       taken = λ o h.
           one_taken c.entries.pairs c.next.new.self o c.entries.counter _ _ c.in_ok-entry.field-0 c.in-Some.entry c.in-Some.is c.in_ok-entry.ensures.entry
-          (λ es t. tally_there c.take_quasi.new.run.system c.entries.run.system (certificate_of c.take_quasi.new.run.measure) (certificate_of c.entries.run.measure) (es ++ pair_entry_view c.in-Some.entry ∷ []) _
+          (λ es t. tally_there c.take_quasi.new.run.system c.entries.run.system (certificate_of c.take_quasi.new.run.measure) (certificate_of c.entries.run.measure)
+          (es ++ pair_entry_view c.in-Some.entry ∷ []) _
           (sym c.in_ok-take_quasi.ensures.system) same (c.in_ok-take_quasi.ensures.tally es t))
           (before.taken o h);
     }
@@ -52,7 +54,8 @@ take_quasi-requires c =
 pub returns-in_err-entry-clause-answers : goal.returns-in_err-entry-clause-answers
 returns-in_err-entry-clause-answers c = λ o h.
     let before = c.entries.invariant in
-    refused_answer c.args.sys.now c.args.pairs.now.names c.args.pairs.now.bytes o (quasi_opening (measure_view c.args.measure.now)) c.entries.pairs before.names before.bytes c.in_err-entry.field-0.0 c.in_err-entry.ensures.refused
+    refused_answer c.args.sys.now c.args.pairs.now.names c.args.pairs.now.bytes o (quasi_opening (measure_view c.args.measure.now)) c.entries.pairs before.names before.bytes
+    c.in_err-entry.field-0.0 c.in_err-entry.ensures.refused
     _ (handed_on _ _ c.from_residual-in_err-entry.ensures.1)
 
 pub returns-in_err-finish-clause-answers : goal.returns-in_err-finish-clause-answers
@@ -72,7 +75,8 @@ returns-in_default-clause-answers c = λ o h.
     let taken = before.taken o h in
     let measure = measure_view c.args.measure.now in (
       taken.entries,
-      all_read c.args.pairs.now.names c.args.pairs.now.bytes c.entries.pairs o taken.entries before.names before.bytes c.in_ok-entry.field-0 c.in_default.not-Some c.in_ok-entry.ensures.none taken.read,
+      all_read c.args.pairs.now.names c.args.pairs.now.bytes c.entries.pairs o taken.entries before.names before.bytes c.in_ok-entry.field-0 c.in_default.not-Some
+          c.in_ok-entry.ensures.none taken.read,
       valid_there c.args.sys.now c.entries.run.system (quasi_certificate measure taken.entries)
           (quasi_certificate (certificate_of c.entries.run.measure) taken.entries) before.system
           (ap (λ m. quasi_certificate m taken.entries) (sym before.measure)) (c.in_ok-finish.ensures.judged taken.entries taken.tally),

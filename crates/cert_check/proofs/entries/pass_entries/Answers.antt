@@ -20,7 +20,8 @@ returns-in_default c = λ o h.
     let before = c.entries.invariant in
     let taken = before.taken o h in (
       taken.entries,
-      all_read c.args.pairs.now.names c.args.pairs.now.bytes c.entries.pairs o taken.entries before.names before.bytes c.in_ok-_entry.field-0 c.in_default.not-Some c.in_ok-_entry.ensures.none taken.read,
+      all_read c.args.pairs.now.names c.args.pairs.now.bytes c.entries.pairs o taken.entries before.names before.bytes c.in_ok-_entry.field-0 c.in_default.not-Some
+          c.in_ok-_entry.ensures.none taken.read,
     )
 
 pub unreachable-requires : goal.unreachable-requires

@@ -16,7 +16,8 @@ arguments-init c =
     record {
       read = as_reads (λ none. (ap (λ (qs : List ℕ). further_states c.args.states name (length qs) ∷ []) (sym (one none)), λ u. ap (begun c.args.states) (sym (one none))))
           (then_reads (c.opened.ensures.opened c.if-not-opened.false names c.args.f 0 (states_behind c.args.states name) (argument_state c.args.states name 1 ∷ []) (between space ∷ []) refl)
-          (then_reads (c.number-first.ensures.read names (argument_state c.args.states name 1) (λ q. further_states c.args.states name 1 ∷ []) refl) (c.put.ensures.read names c.args.end (further_states c.args.states name 1 ∷ []))));
+          (then_reads (c.number-first.ensures.read names (argument_state c.args.states name 1) (λ q. further_states c.args.states name 1 ∷ []) refl)
+          (c.put.ensures.read names c.args.end (further_states c.args.states name 1 ∷ []))));
       some = λ none. let e = ap length (one none) in omega (arith, e);
     }
 
@@ -27,8 +28,10 @@ arguments-preserved c =
     let k = length c.arguments.args.items in
     let there =
     then_reads (c.either.ensures.one c.arguments-test.true names (further_states c.args.states name k) (argument_state c.args.states name (suc k) ∷ []) (head_closed name k ∷ []) refl)
-    (then_reads (c.number-next.ensures.read names (argument_state c.args.states name (suc k)) (λ q. further_states c.args.states name (suc k) ∷ []) refl) (c.put-in-arguments.ensures.read names c.args.end (further_states c.args.states name (suc k) ∷ []))) in
-    let more : c.put-in-arguments.new.at.refused ≡ None → length c.put-in-arguments.new.list.items ≡ k + 1 = λ none. ap length (c.put-in-arguments.ensures.grown none) ∙ length_push c.arguments.args.items c.number-next.result in
+    (then_reads (c.number-next.ensures.read names (argument_state c.args.states name (suc k)) (λ q. further_states c.args.states name (suc k) ∷ []) refl)
+    (c.put-in-arguments.ensures.read names c.args.end (further_states c.args.states name (suc k) ∷ []))) in
+    let more : c.put-in-arguments.new.at.refused ≡ None → length c.put-in-arguments.new.list.items ≡ k + 1 = λ none. ap length (c.put-in-arguments.ensures.grown none)
+    ∙ length_push c.arguments.args.items c.number-next.result in
     let some : c.put-in-arguments.new.at.refused ≡ None → 0 < k = λ none. c.arguments.invariant.some (open_before there none) in
     record {
       read = as_reads (λ none. (
@@ -46,7 +49,8 @@ returns c =
     let name = name_of names f in
     let b = c.args.states in
     let k = length c.arguments.args.items in
-    let met = arity_met names f k c.has_so_many-2.result c.requires (c.has_so_many-2.ensures ∙ ap (λ (n : ℕ). is_number n (arity_at names f)) (let ok = c.arguments.args.ok.0 in let counted = c.len.ensures in omega (arith, ok, counted))) in
+    let met = arity_met names f k c.has_so_many-2.result c.requires
+    (c.has_so_many-2.ensures ∙ ap (λ (n : ℕ). is_number n (arity_at names f)) (let ok = c.arguments.args.ok.0 in let counted = c.len.ensures in omega (arith, ok, counted))) in
     let there =
     then_reads (c.either.ensures.other c.arguments-test.false names (further_states b name k) (argument_state b name (suc k) ∷ []) (head_closed name k ∷ []) refl)
     (then_reads (c.checked.ensures names f k (head_closed name k) (between space ∷ []) refl met) (c.text-2.ensures.read names (between space) [] refl)) in
@@ -60,5 +64,6 @@ returns-then-not-opened c =
     let name = name_of names f in
     let b = c.args.states in
     as_marks (λ none u. ap (λ (qs : List ℕ). states_marks b qs ++ (behind (has_arity (u f) (length qs)) ∷ fixed (codes " ") ∷ [])) (sym c.new-args.ensures.items))
-    (then_reads (c.opened.ensures.none c.if-not-opened.true names f 0 (states_behind b name) (argument_state b name 1 ∷ []) (between space ∷ []) refl (arity_met names f 0 c.has_so_many.result c.requires c.has_so_many.ensures))
+    (then_reads (c.opened.ensures.none c.if-not-opened.true names f 0 (states_behind b name) (argument_state b name 1 ∷ []) (between space ∷ []) refl
+    (arity_met names f 0 c.has_so_many.result c.requires c.has_so_many.ensures))
     (c.text.ensures.read names (between space) [] refl))

@@ -16,7 +16,8 @@ returns-clause-read c =
     as_marks (λ none u.
     ap (λ (ms : List Mark). fixed (codes " ") ∷ word (numeral b) (in_range 0 1 (suc largest) b ∷ is_few states b ∷ []) ∷ fixed (codes "\naccepting") ∷ ms)
     (append_assoc (accepting_marks b qs) (fixed (codes "\ntransitions ") ∷ []) (number_for transitions n ∷ fixed (codes "\n") ∷ transitions_marks u b ts)
-    ∙ ap (λ (k : ℕ). accepting_marks b qs ++ (fixed (codes "\ntransitions ") ∷ number_for transitions k ∷ fixed (codes "\n") ∷ transitions_marks u b ts)) (sym (c.transitions-transitions.ensures.counted none))))
+    ∙ ap (λ (k : ℕ). accepting_marks b qs ++ (fixed (codes "\ntransitions ") ∷ number_for transitions k ∷ fixed (codes "\n") ∷ transitions_marks u b ts))
+    (sym (c.transitions-transitions.ensures.counted none))))
     (then_reads (framed (state_count ∷ []) (c.text.ensures.read names (between space) [] refl))
     (then_reads (c.counted-states.ensures.read names state_count (λ k. accepting_line k ∷ []) refl)
     (then_reads (c.text-2.ensures.read names (accepting_line b) (accepting b ∷ []) refl)

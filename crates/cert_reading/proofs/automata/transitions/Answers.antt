@@ -14,7 +14,8 @@ returns-then-is_some-clause-read c =
     let k = c.args.count - (c.transitions.counter + 1) in
     let e = some_now _ _ c.is_some.ensures c.if-is_some.true in
     already e.0 e.1
-    (then_reads (as_reads (λ none. (transitions_next b c.args.count c.transitions.counter c.transitions-test.true, λ u. refl)) c.transitions.invariant.read) (then_nothing (c.transition-next.ensures.read k) (c.put.ensures.read names c.args.end (transitions_of b k))))
+    (then_reads (as_reads (λ none. (transitions_next b c.args.count c.transitions.counter c.transitions-test.true, λ u. refl)) c.transitions.invariant.read)
+    (then_nothing (c.transition-next.ensures.read k) (c.put.ensures.read names c.args.end (transitions_of b k))))
 
 pub transitions-preserved : goal.transitions-preserved
 transitions-preserved c =
@@ -25,7 +26,8 @@ transitions-preserved c =
     let items = c.transitions.transitions.items in
     let next = c.transition-next.result in
     record {
-      read = as_marks (λ none u. transitions_push transition_view u b items next ∙ ap (λ ts. transitions_marks u b (map transition_view ts)) (sym (c.put.ensures.grown none))) (then_reads before there);
+      read = as_marks (λ none u. transitions_push transition_view u b items next ∙ ap (λ ts. transitions_marks u b (map transition_view ts))
+          (sym (c.put.ensures.grown none))) (then_reads before there);
       counted = λ none.
           let e = c.transitions.invariant.counted (open_before there none) in
           let n = ap length (c.put.ensures.grown none) ∙ length_push items next in

@@ -8,7 +8,8 @@ use Rattle.cert_grammar.proofs.Views.{step_of_rule, step_of_hypothesis, derivati
 use Rattle.cert_words.specs.Walks.{Reads}
 use Rattle.cert_words.proofs.Walking.{then_reads, then_nothing, as_reads, as_marks, already, open_before, framed}
 use Rattle.cert_words.proofs.Stepping.{some_now}
-use Rattle.cert_reading.proofs.DerivationMarks.{steps_push, derivations_push, steps_counted, derivations_counted, steps_next, steps_end, derivations_next, derivations_end, counted_all, at_next, any_names}
+use Rattle.cert_reading.proofs.DerivationMarks.{steps_push, derivations_push, steps_counted, derivations_counted, steps_next, steps_end, derivations_next, derivations_end}
+use Rattle.cert_reading.proofs.DerivationMarks.{counted_all, at_next, any_names}
 use Rattle.cert_reading.proofs.derivations.+derivation.Goals as goal
 
 pub derivation-returns-then-is_some : goal.derivation-returns-then-is_some
@@ -31,7 +32,8 @@ pub derivations-returns-then-is_some-clause-read : goal.derivations-returns-then
 derivations-returns-then-is_some-clause-read t c = λ names.
     let e = some_now _ _ c.is_some.ensures c.if-is_some.true in
     already e.0 e.1 (then_reads (as_reads (λ none. (derivations_next c.args.level c.args.count c.derivations.counter c.derivations-test.true, λ u. refl)) (c.derivations.invariant.read names))
-    (then_nothing (c.derivation-next.ensures names (c.args.count - (c.derivations.counter + 1))) (c.put.ensures.read names c.args.end (derivations c.args.level (c.args.count - (c.derivations.counter + 1))))))
+    (then_nothing (c.derivation-next.ensures names (c.args.count - (c.derivations.counter + 1)))
+    (c.put.ensures.read names c.args.end (derivations c.args.level (c.args.count - (c.derivations.counter + 1))))))
 
 pub derivations-derivations-preserved : goal.derivations-derivations-preserved
 derivations-derivations-preserved t c =
@@ -40,7 +42,8 @@ derivations-derivations-preserved t c =
       read = λ names.
           as_marks (λ none u. derivations_push c.args.level c.derivations.derivations.items c.put.new.list.items c.derivation-next.result (c.put.ensures.grown none))
           (then_reads (as_reads (λ none. (derivations_next c.args.level c.args.count c.derivations.counter c.derivations-test.true, λ u. refl)) (c.derivations.invariant.read names))
-          (then_nothing (c.derivation-next.ensures names (c.args.count - (c.derivations.counter + 1))) (c.put.ensures.read names c.args.end (derivations c.args.level (c.args.count - (c.derivations.counter + 1))))));
+          (then_nothing (c.derivation-next.ensures names (c.args.count - (c.derivations.counter + 1)))
+          (c.put.ensures.read names c.args.end (derivations c.args.level (c.args.count - (c.derivations.counter + 1))))));
       counted = λ none.
           let e = c.derivations.invariant.counted (open_before (then_reads (c.derivation-next.ensures any_names k) (c.put.ensures.read any_names c.args.end (derivations c.args.level k))) none) in
           let n = ap length (c.put.ensures.grown none) ∙ length_push c.derivations.derivations.items c.derivation-next.result in
@@ -48,7 +51,8 @@ derivations-derivations-preserved t c =
     }
 
 pub derivations-returns-clause-read : goal.derivations-returns-clause-read
-derivations-returns-clause-read t c = λ names. as_reads (λ none. (derivations_end c.args.level c.args.count c.derivations.counter c.derivations-test.false, λ u. refl)) (c.derivations.invariant.read names)
+derivations-returns-clause-read t c = λ names. as_reads (λ none. (derivations_end c.args.level c.args.count c.derivations.counter c.derivations-test.false, λ u. refl))
+    (c.derivations.invariant.read names)
 
 pub derivations-returns-clause-counted : goal.derivations-returns-clause-counted
 derivations-returns-clause-counted t c = λ none.
@@ -63,22 +67,26 @@ step-returns-then-either t c = λ names more.
     let n = c.number-count.result in
     let ds = derivations_of (map derivation_view c.derivations-conds.result.items) in
     let rest = steps_of level more in
-    as_marks (λ none u. ap (λ (k : ℕ). rule_mark rule p k ++ derivations_marks (suc level) ds) (sym (c.derivations-conds.ensures.counted none)) ∙ ap (step_marks level) (sym (step_of_rule rule c.position-pos.result c.derivations-conds.result)))
-    (then_reads (c.either.ensures.one c.if-either.true names (steps_left level more) (any_number space ∷ any_position space ∷ condition_count level ∷ rest) (any_number space ∷ any_position line ∷ rest) refl)
+    as_marks (λ none u. ap (λ (k : ℕ). rule_mark rule p k ++ derivations_marks (suc level) ds) (sym (c.derivations-conds.ensures.counted none))
+    ∙ ap (step_marks level) (sym (step_of_rule rule c.position-pos.result c.derivations-conds.result)))
+    (then_reads (c.either.ensures.one c.if-either.true names (steps_left level more) (any_number space ∷ any_position space ∷ condition_count level ∷ rest)
+    (any_number space ∷ any_position line ∷ rest) refl)
     (then_reads (framed (any_position space ∷ condition_count level ∷ rest) (c.number-rule.ensures.read names (any_number space) (λ k. between space ∷ []) refl))
     (then_reads (framed (any_position space ∷ condition_count level ∷ rest) (c.text.ensures.read names (between space) [] refl))
     (then_reads (framed (condition_count level ∷ rest) (c.position-pos.ensures names (any_position space) (between space ∷ []) refl))
     (then_reads (framed (condition_count level ∷ rest) (c.text-then-either.ensures.read names (between space) [] refl))
     (then_reads (framed rest (c.number-count.ensures.read names (condition_count level) (λ k. between line ∷ derivations (suc level) k) refl))
     (then_reads (framed rest (framed (derivations (suc level) n) (c.text-then-either-2.ensures.read names (between line) [] refl)))
-    (framed rest (at_next (λ (k : ℕ). Reads names c.args.end (derivations k n) (λ u. derivations_marks k ds) [] c.text-then-either-2.new.at c.derivations-conds.new.at) level (c.derivations-conds.ensures.read names))))))))))
+    (framed rest (at_next (λ (k : ℕ). Reads names c.args.end (derivations k n) (λ u. derivations_marks k ds) [] c.text-then-either-2.new.at c.derivations-conds.new.at) level
+    (c.derivations-conds.ensures.read names))))))))))
 
 pub step-returns : goal.step-returns
 step-returns t c = λ names more.
     let level = c.args.level in
     let rest = steps_of level more in
     as_marks (λ none u. ap (step_marks level) (sym (step_of_hypothesis c.number-number.result c.position-pos-2.result)))
-    (then_reads (c.either.ensures.other c.if-either.false names (steps_left level more) (any_number space ∷ any_position space ∷ condition_count level ∷ rest) (any_number space ∷ any_position line ∷ rest) refl)
+    (then_reads (c.either.ensures.other c.if-either.false names (steps_left level more) (any_number space ∷ any_position space ∷ condition_count level ∷ rest)
+    (any_number space ∷ any_position line ∷ rest) refl)
     (then_reads (framed (any_position line ∷ rest) (c.number-number.ensures.read names (any_number space) (λ k. between space ∷ []) refl))
     (then_reads (framed (any_position line ∷ rest) (c.text-2.ensures.read names (between space) [] refl))
     (then_reads (framed rest (c.position-pos-2.ensures names (any_position line) (between line ∷ []) refl)) (framed rest (c.text-3.ensures.read names (between line) [] refl))))))
@@ -105,7 +113,11 @@ steps-steps-preserved t c =
 
 pub steps-returns-clause-read : goal.steps-returns-clause-read
 steps-returns-clause-read t c = λ names.
-    as_reads (λ none. (steps_end c.args.level c.args.count c.steps.counter c.steps-test.false, λ u. ap (steps_marks c.args.level) (sym (derivation_of_steps (record { steps = c.steps.steps }))))) (c.steps.invariant.read names)
+    as_reads (λ none. (
+      steps_end c.args.level c.args.count c.steps.counter c.steps-test.false,
+      λ u. ap (steps_marks c.args.level)
+          (sym (derivation_of_steps (record { steps = c.steps.steps }))),
+    )) (c.steps.invariant.read names)
 
 pub steps-returns-clause-counted : goal.steps-returns-clause-counted
 steps-returns-clause-counted t c = λ none.

@@ -9,13 +9,15 @@ use Rattle.cert_reading.proofs.derivations.+derivation.Given as goal
 
 abbrev pub invariant-steps-steps : goal.invariant-steps-steps
 invariant-steps-steps l = record {
-  read : (names : NameTable) → Reads names l.fn.end (spec.steps_of l.fn.level l.fn.count) (λ u. steps_marks l.fn.level (derivation_of (map step_view l.steps.items))) (spec.steps_of l.fn.level (l.fn.count - l.counter)) l.fn.at l.at;
+  read : (names : NameTable) → Reads names l.fn.end (spec.steps_of l.fn.level l.fn.count) (λ u. steps_marks l.fn.level (derivation_of (map step_view l.steps.items)))
+      (spec.steps_of l.fn.level (l.fn.count - l.counter)) l.fn.at l.at;
   counted : l.at.refused ≡ None → length l.steps.items ≡ l.counter;
 }
 
 abbrev pub invariant-derivations-derivations : goal.invariant-derivations-derivations
 invariant-derivations-derivations l = record {
-  read : (names : NameTable) → Reads names l.fn.end (spec.derivations l.fn.level l.fn.count) (λ u. derivations_marks l.fn.level (derivations_of (map derivation_view l.derivations.items))) (spec.derivations l.fn.level (l.fn.count - l.counter)) l.fn.at l.at;
+  read : (names : NameTable) → Reads names l.fn.end (spec.derivations l.fn.level l.fn.count)
+      (λ u. derivations_marks l.fn.level (derivations_of (map derivation_view l.derivations.items))) (spec.derivations l.fn.level (l.fn.count - l.counter)) l.fn.at l.at;
   counted : l.at.refused ≡ None → length l.derivations.items ≡ l.counter;
 }
 

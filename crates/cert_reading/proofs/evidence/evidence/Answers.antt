@@ -62,4 +62,5 @@ returns-in-5-clause-read c =
 pub returns-in_default-clause-read : goal.returns-in_default-clause-read
 returns-in_default-clause-read c =
     let v = version_by c.args.uses in
-    past c.args.names.now c.args.end (evidence v) (kinds v) _ _ _ _ _ (let other = c.in_default in omega (arith, other)) (c.choose.ensures.chosen c.args.names.now (evidence v) (kinds v) (are_kinds v) refl)
+    past c.args.names.now c.args.end (evidence v) (kinds v) _ _ _ _ _ (let other = c.in_default in omega (arith, other))
+    (c.choose.ensures.chosen c.args.names.now (evidence v) (kinds v) (are_kinds v) refl)

@@ -18,4 +18,5 @@ returns c = λ names v.
     let s = c.args.at.now in
     let i = body v c.args.given in
     let stuck = stuck_among names c.args.end s.left.now s.shares i c.stuck.result (leads i) (leads i) refl (c.in_default.ensures.none v) refl c.stuck.ensures in
-    word_where (λ x. body_place v c.args.given s.left.now) (λ none. stuck) (stopped c.stuck.result (none_now _ _ c.is_some.ensures c.if-is_some.false) refl (front_same _ _ (ap (λ (z : Shared). z.texts) c.in_default.ensures.kept)) (stuck_stops names c.args.end i s.left.now s.shares (told c.stuck.result) stuck))
+    word_where (λ x. body_place v c.args.given s.left.now) (λ none. stuck) (stopped c.stuck.result (none_now _ _ c.is_some.ensures c.if-is_some.false) refl
+    (front_same _ _ (ap (λ (z : Shared). z.texts) c.in_default.ensures.kept)) (stuck_stops names c.args.end i s.left.now s.shares (told c.stuck.result) stuck))

@@ -18,7 +18,8 @@ returns-in-Some-clause-steps c = λ names.
     let i = simplified c.args.given in
     let none = none_now _ _ c.is_some.ensures c.if-is_some.false in
     word_where (λ x. simplified_place c.args.given s.left.now) (λ x. none_refused s _ none)
-    (go c.in-Some.rest none (text_run names c.args.end s.left.now s.shares i (codes "simplify ") _ _ (simplification_count ∷ body second_version c.args.given ∷ []) (first_one i s.left.now _ _ refl c.in-Some.ensures.there) c.in-Some.ensures))
+    (go c.in-Some.rest none (text_run names c.args.end s.left.now s.shares i (codes "simplify ") _ _ (simplification_count ∷ body second_version c.args.given ∷ [])
+    (first_one i s.left.now _ _ refl c.in-Some.ensures.there) c.in-Some.ensures))
 
 pub kind_there-requires : goal.kind_there-requires
 kind_there-requires c = none_now _ _ c.is_some.ensures c.if-is_some.false
@@ -34,5 +35,8 @@ returns-clause-kind c = λ names.
     let s = c.args.at.now in
     let i = simplified c.args.given in
     let none = none_now _ _ c.is_some.ensures c.if-is_some.false in
-    let stuck = stuck_among names c.args.end s.left.now s.shares i c.stuck.result (leads i) (leads i) refl (missed i s.left.now _ _ refl c.in_default.ensures ∙ c.in_default-kind_there.ensures.none second_version) refl c.stuck.ensures in
-    word_where (λ x. simplified_place c.args.given s.left.now) (λ x. stuck) (stopped c.stuck.result none refl (front_same _ _ (ap (λ (z : Shared). z.texts) c.in_default-kind_there.ensures.kept)) (stuck_stops names c.args.end i s.left.now s.shares (told c.stuck.result) stuck))
+    let stuck = stuck_among names c.args.end s.left.now s.shares i c.stuck.result (leads i) (leads i) refl (missed i s.left.now _ _ refl c.in_default.ensures
+    ∙ c.in_default-kind_there.ensures.none second_version) refl c.stuck.ensures in
+    word_where (λ x. simplified_place c.args.given s.left.now) (λ x. stuck)
+    (stopped c.stuck.result none refl (front_same _ _ (ap (λ (z : Shared). z.texts) c.in_default-kind_there.ensures.kept))
+    (stuck_stops names c.args.end i s.left.now s.shares (told c.stuck.result) stuck))

@@ -17,8 +17,10 @@ numbers-preserved c = λ names.
       λ u. coefficients_push 1 n ks c.numbered-next.result (omega (arith, is)) ∙ ap (coefficients_marks 1) (sym grown),
     ))
     (then_reads (c.numbers.invariant names)
-    (then_reads (as_reads (λ none. (ap (λ (j : ℕ). coefficient j ∷ []) is, λ u. refl)) (c.either.ensures.one c.numbers-test.true names (coefficients_behind (length ks)) (coefficient (suc (length ks)) ∷ []) [] refl))
+    (then_reads (as_reads (λ none. (ap (λ (j : ℕ). coefficient j ∷ []) is, λ u. refl)) (c.either.ensures.one c.numbers-test.true names (coefficients_behind (length ks))
+    (coefficient (suc (length ks)) ∷ []) [] refl))
     (then_reads (c.numbered-next.ensures.read names (coefficient n) (λ j. coefficients_behind n ∷ []) refl) (c.put.ensures.read names c.args.end (coefficients_behind n ∷ [])))))
 
 pub returns : goal.returns
-returns c = λ names. then_reads (c.numbers.invariant names) (c.either.ensures.other c.numbers-test.false names (coefficients_behind (length c.numbers.coeffs.items)) (coefficient (suc (length c.numbers.coeffs.items)) ∷ []) [] refl)
+returns c = λ names. then_reads (c.numbers.invariant names) (c.either.ensures.other c.numbers-test.false names (coefficients_behind (length c.numbers.coeffs.items))
+    (coefficient (suc (length c.numbers.coeffs.items)) ∷ []) [] refl)

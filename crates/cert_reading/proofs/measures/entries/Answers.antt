@@ -48,4 +48,5 @@ returns-clause-read c = λ v.
     let n = c.len.result + 1 in
     let is : suc (length c.entries.entries.items) ≡ n = omega (arith, c.entries.entries.ok.0, c.len.ensures) in
     let same : n ≡ suc (length (map linear_entry_view c.entries.entries.items)) = omega (arith, is, length-map c.entries.entries.items linear_entry_view) in
-    as_where (λ none. (ap (λ (j : ℕ). entries_from v j ∷ []) same, λ u. append-nil _)) (then_where (as_where (λ none. (ap (λ (j : ℕ). entries_from v j ∷ []) is, λ u. refl)) (c.entries.invariant v)) (c.in_default.ensures.none v))
+    as_where (λ none. (ap (λ (j : ℕ). entries_from v j ∷ []) same, λ u. append-nil _))
+    (then_where (as_where (λ none. (ap (λ (j : ℕ). entries_from v j ∷ []) is, λ u. refl)) (c.entries.invariant v)) (c.in_default.ensures.none v))

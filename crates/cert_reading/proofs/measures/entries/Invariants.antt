@@ -5,7 +5,8 @@ use Rattle.cert_reading.specs.Stops.{ReadsWhere, WithinOpening}
 use Rattle.cert_reading.proofs.measures.entries.Given as goal
 
 abbrev pub invariant-entries : goal.invariant-entries
-invariant-entries l = (v : Version) → ReadsWhere (WithinOpening v) l.fn.names l.fn.end (entries_from v 1 ∷ []) (λ u. entries_marks u 1 (map linear_entry_view l.entries.items)) (entries_from v (suc (length l.entries.items)) ∷ []) l.fn.at l.at
+invariant-entries l = (v : Version) → ReadsWhere (WithinOpening v) l.fn.names l.fn.end (entries_from v 1 ∷ []) (λ u. entries_marks u 1 (map linear_entry_view l.entries.items))
+    (entries_from v (suc (length l.entries.items)) ∷ []) l.fn.at l.at
 
 abbrev pub decreases-entries : goal.decreases-entries
 decreases-entries l = 25000 - length l.entries.items

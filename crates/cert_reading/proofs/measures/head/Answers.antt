@@ -13,7 +13,8 @@ returns-in-Symbol-clause-head c = λ v i low behind s.
 
 pub returns-in-Symbol-clause-few : goal.returns-in-Symbol-clause-few
 returns-in-Symbol-clause-few c = λ none.
-    c.in-Symbol.ensures.few (λ e. cc) (open_before (c.text.ensures.read c.args.names.now (between space) [] refl) (open_before (c.name-f.ensures measured_name (λ name. coefficients_behind 0 ∷ []) refl) none))
+    c.in-Symbol.ensures.few (λ e. cc) (open_before (c.text.ensures.read c.args.names.now (between space) [] refl)
+    (open_before (c.name-f.ensures measured_name (λ name. coefficients_behind 0 ∷ []) refl) none))
 
 pub returns-in-Condition-clause-head : goal.returns-in-Condition-clause-head
 returns-in-Condition-clause-head c = λ v i low behind s.

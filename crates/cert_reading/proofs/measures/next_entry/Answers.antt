@@ -11,7 +11,8 @@ returns-clause-entry c = λ v.
     let n = c.args.n in
     let low = entries_from v (suc n) in
     as_marks_where (λ none u. sym (append-nil _))
-    (then_where (c.in-Some.ensures.head v (entries_from v n) low (coefficients_behind 0) (entry_at v n)) (low_where low (low_unopened v low (entry_at v n).later) (c.coefficients-coeffs.ensures c.args.names.now)))
+    (then_where (c.in-Some.ensures.head v (entries_from v n) low (coefficients_behind 0) (entry_at v n))
+    (low_where low (low_unopened v low (entry_at v n).later) (c.coefficients-coeffs.ensures c.args.names.now)))
 
 pub returns-in_default-clause-none : goal.returns-in_default-clause-none
 returns-in_default-clause-none c = λ v. c.in_default.ensures.none v (entries_from v c.args.n) (entries_from v (suc c.args.n)) (coefficients_behind 0) (entry_at v c.args.n)

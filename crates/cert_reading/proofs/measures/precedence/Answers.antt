@@ -48,4 +48,5 @@ returns-clause-read c =
     let n = c.len.result + 1 in
     let is : suc (length c.order.order.items) ≡ n = omega (arith, c.order.order.ok.0, c.len.ensures) in
     let same : n ≡ suc (length (map head_view c.order.order.items)) = omega (arith, is, length-map c.order.order.items head_view) in
-    as_where (λ none. (ap (λ (j : ℕ). heads_from j ∷ []) same, λ u. append-nil _)) (then_where (as_where (λ none. (ap (λ (j : ℕ). heads_from j ∷ []) is, λ u. refl)) (c.order.invariant)) (c.in_default.ensures.none))
+    as_where (λ none. (ap (λ (j : ℕ). heads_from j ∷ []) same, λ u. append-nil _))
+    (then_where (as_where (λ none. (ap (λ (j : ℕ). heads_from j ∷ []) is, λ u. refl)) (c.order.invariant)) (c.in_default.ensures.none))

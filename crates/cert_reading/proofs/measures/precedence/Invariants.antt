@@ -5,7 +5,8 @@ use Rattle.cert_reading.specs.Stops.{ReadsWhere, WithinOpening}
 use Rattle.cert_reading.proofs.measures.precedence.Given as goal
 
 abbrev pub invariant-order : goal.invariant-order
-invariant-order l = ReadsWhere (WithinOpening second_version) l.fn.names l.fn.end (heads_from 1 ∷ []) (λ u. heads_marks u 1 (map head_view l.order.items)) (heads_from (suc (length l.order.items)) ∷ []) l.fn.at l.at
+invariant-order l = ReadsWhere (WithinOpening second_version) l.fn.names l.fn.end (heads_from 1 ∷ []) (λ u. heads_marks u 1 (map head_view l.order.items))
+    (heads_from (suc (length l.order.items)) ∷ []) l.fn.at l.at
 
 abbrev pub decreases-order : goal.decreases-order
 decreases-order l = 25000 - length l.order.items

@@ -44,12 +44,14 @@ pairs-preserved c =
           let grown = c.put.ensures.grown none in
           let long = ap length grown ∙ length_push items next in (
             (let more : suc n ≡ suc (length c.put.new.list.items) = omega (arith, long, is) in ap (λ (j : ℕ). pairs_from v j ∷ []) more),
-            λ u. pairs_push pair_entry_view u (uses_by names c.args.uses) 1 n items next (omega (arith, is)) ∙ ap (λ xs. pairs_marks u (uses_by names c.args.uses) 1 (map pair_entry_view xs)) (sym grown),
+            λ u. pairs_push pair_entry_view u (uses_by names c.args.uses) 1 n items next (omega (arith, is))
+                ∙ ap (λ xs. pairs_marks u (uses_by names c.args.uses) 1 (map pair_entry_view xs)) (sym grown),
           ))
           (then_where before step);
       plain = λ none.
           let was = open_before_where (reads_anywhere (c.put.ensures.read names c.args.end (pairs_from v (suc n) ∷ []))) none in
-          plain_pairs v (automata_by c.args.uses) pair_entry_view items c.put.new.list.items next (c.put.ensures.grown none) (c.pairs.invariant.plain (open_before_where (anywhere c.in-Some.ensures.pair) was)) (c.in-Some.ensures.plain was);
+          plain_pairs v (automata_by c.args.uses) pair_entry_view items c.put.new.list.items next (c.put.ensures.grown none)
+          (c.pairs.invariant.plain (open_before_where (anywhere c.in-Some.ensures.pair) was)) (c.in-Some.ensures.plain was);
       known = known_behind v (automata_by c.args.uses) (c.put.ensures.read names c.args.end []) [] (counts_still [] tt) c.in-Some.ensures.known;
     }
 

@@ -18,8 +18,13 @@ returns-then-not-counted_or-clause-last c =
     let line = between space ∷ any_number space ∷ any_position space ∷ any_number space ∷ evidence v ∷ pairs_from v (suc n) ∷ [] in
     let names = c.args.names.now in
     let ends = Items.line in
-    then_where (word_where (λ s. first_entry v n c.args.at.now.left.now c.args.at.now.left.now) (λ none. c.counted_or.ensures.here none names (pairs_from v n) line (between ends ∷ []) refl) (c.counted_or.ensures.other c.if-not-counted_or.true names (pairs_from v n) line (between ends ∷ []) refl))
-    (word_behind (λ going. line_entry v n c.args.at.now.left.now c.counted_or.new.at.left.now (c.counted_or.ensures.text c.if-not-counted_or.true (open_before (c.counted_or.ensures.other c.if-not-counted_or.true names (pairs_from v n) line (between ends ∷ []) refl) going) going)) (λ none. c.choose.ensures.here none names (between ends) (line_end ∷ []) refl refl) (one_choice names c.args.end (between ends) line_end _ _ _ (c.choose.ensures.chosen names (between ends) (line_end ∷ []) refl refl)))
+    then_where (word_where (λ s. first_entry v n c.args.at.now.left.now c.args.at.now.left.now)
+    (λ none. c.counted_or.ensures.here none names (pairs_from v n) line (between ends ∷ []) refl)
+    (c.counted_or.ensures.other c.if-not-counted_or.true names (pairs_from v n) line (between ends ∷ []) refl))
+    (word_behind (λ going. line_entry v n c.args.at.now.left.now c.counted_or.new.at.left.now
+    (c.counted_or.ensures.text c.if-not-counted_or.true (open_before (c.counted_or.ensures.other c.if-not-counted_or.true names (pairs_from v n) line (between ends ∷ []) refl)
+    going) going)) (λ none. c.choose.ensures.here none names (between ends) (line_end ∷ []) refl refl)
+    (one_choice names c.args.end (between ends) line_end _ _ _ (c.choose.ensures.chosen names (between ends) (line_end ∷ []) refl refl)))
 
 pub evidence-evidence-requires : goal.evidence-evidence-requires
 evidence-evidence-requires c =
@@ -36,7 +41,10 @@ evidence-evidence-requires c =
     (then_reads (framed (any_number space ∷ rest) (c.text-3.ensures.read names (between space) [] refl))
     (then_reads (framed rest (c.number-outer.ensures.read names (any_number space) (λ k. between space ∷ []) refl))
     (framed rest (c.text-4.ensures.read names (between space) [] refl)))))))) in
-    known_behind v (automata_by c.args.uses) front [] (counts_still (word (codes "pair") (is_few pairs n ∷ []) ∷ fixed (codes " ") ∷ number c.number-inner.result ∷ fixed (codes " ") ∷ position c.position-pos.result.items ∷ fixed (codes " ") ∷ number c.number-outer.result ∷ fixed (codes " ") ∷ []) (tt, (tt, (tt, (tt, (places_still c.position-pos.result.items 0, (tt, (tt, (tt, tt))))))))) c.requires
+    known_behind v (automata_by c.args.uses) front []
+    (counts_still (word (codes "pair") (is_few pairs n ∷ []) ∷ fixed (codes " ") ∷ number c.number-inner.result ∷ fixed (codes " ") ∷ position c.position-pos.result.items
+    ∷ fixed (codes " ") ∷ number c.number-outer.result ∷ fixed (codes " ") ∷ []) (tt, (tt, (tt, (tt, (places_still c.position-pos.result.items 0, (tt, (tt, (tt, tt)))))))))
+    c.requires
 
 pub returns-clause-pair : goal.returns-clause-pair
 returns-clause-pair c =
@@ -45,7 +53,9 @@ returns-clause-pair c =
     let v = version_by c.args.uses in
     let line = between space ∷ any_number space ∷ any_position space ∷ any_number space ∷ evidence v ∷ pairs_from v (suc n) ∷ [] in
     as_marks_where (λ none u. sym (append-nil _))
-    (then_where (word_where (λ s. first_entry v n c.args.at.now.left.now c.args.at.now.left.now) (λ none. c.counted_or.ensures.here none names (pairs_from v n) line (between Items.line ∷ []) refl) (c.counted_or.ensures.word c.if-not-counted_or.false names (pairs_from v n) line (between Items.line ∷ []) refl))
+    (then_where (word_where (λ s. first_entry v n c.args.at.now.left.now c.args.at.now.left.now)
+    (λ none. c.counted_or.ensures.here none names (pairs_from v n) line (between Items.line ∷ []) refl)
+    (c.counted_or.ensures.word c.if-not-counted_or.false names (pairs_from v n) line (between Items.line ∷ []) refl))
     (low_where (pairs_from v (suc n)) (low_entry v n c.args.at.now.left.now (pairs_from v (suc n)) (pair_later v (suc n) (suc n) (omega arith)))
     (then_reads (framed (any_number space ∷ any_position space ∷ any_number space ∷ evidence v ∷ []) (c.text.ensures.read names (between space) [] refl))
     (then_reads (framed (any_position space ∷ any_number space ∷ evidence v ∷ []) (c.number-inner.ensures.read names (any_number space) (λ k. between space ∷ []) refl))

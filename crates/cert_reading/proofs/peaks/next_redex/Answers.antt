@@ -14,7 +14,8 @@ returns-then-not-counted_or-clause-last c =
     let n = c.args.n in
     let v = version_by c.args.uses in
     let names = c.args.names.now in
-    then_reads (c.counted_or.ensures.other c.if-not-counted_or.true names (redexes_from v n) (between space ∷ any_number space ∷ any_position space ∷ any_number space ∷ infeasibility v ∷ redexes_from v (suc n) ∷ []) (between line ∷ []) refl)
+    then_reads (c.counted_or.ensures.other c.if-not-counted_or.true names (redexes_from v n)
+    (between space ∷ any_number space ∷ any_position space ∷ any_number space ∷ infeasibility v ∷ redexes_from v (suc n) ∷ []) (between line ∷ []) refl)
     (one_choice names c.args.end (between line) line_end _ _ _ (c.choose.ensures.chosen names (between line) (line_end ∷ []) refl refl))
 
 pub infeasibility-evidence-requires : goal.infeasibility-evidence-requires
@@ -23,7 +24,8 @@ infeasibility-evidence-requires c =
     let n = c.args.n in
     let v = version_by c.args.uses in
     let rest = infeasibility v ∷ redexes_from v (suc n) ∷ [] in
-    let front = then_reads (c.counted_or.ensures.word c.if-not-counted_or.false names (redexes_from v n) (between space ∷ any_number space ∷ any_position space ∷ any_number space ∷ rest) (between line ∷ []) refl)
+    let front = then_reads (c.counted_or.ensures.word c.if-not-counted_or.false names (redexes_from v n)
+    (between space ∷ any_number space ∷ any_position space ∷ any_number space ∷ rest) (between line ∷ []) refl)
     (then_reads (framed (any_number space ∷ any_position space ∷ any_number space ∷ rest) (c.text.ensures.read names (between space) [] refl))
     (then_reads (framed (any_position space ∷ any_number space ∷ rest) (c.number-which.ensures.read names (any_number space) (λ k. between space ∷ []) refl))
     (then_reads (framed (any_position space ∷ any_number space ∷ rest) (c.text-2.ensures.read names (between space) [] refl))
@@ -31,7 +33,10 @@ infeasibility-evidence-requires c =
     (then_reads (framed (any_number space ∷ rest) (c.text-3.ensures.read names (between space) [] refl))
     (then_reads (framed rest (c.number-rule.ensures.read names (any_number space) (λ k. between space ∷ []) refl))
     (framed rest (c.text-4.ensures.read names (between space) [] refl)))))))) in
-    known_behind v (automata_by c.args.uses) front [] (counts_still (word (codes "redex") (is_few redexes n ∷ []) ∷ fixed (codes " ") ∷ number c.number-which.result ∷ fixed (codes " ") ∷ position c.position-pos.result.items ∷ fixed (codes " ") ∷ number c.number-rule.result ∷ fixed (codes " ") ∷ []) (tt, (tt, (tt, (tt, (places_still c.position-pos.result.items 0, (tt, (tt, (tt, tt))))))))) c.requires
+    known_behind v (automata_by c.args.uses) front []
+    (counts_still (word (codes "redex") (is_few redexes n ∷ []) ∷ fixed (codes " ") ∷ number c.number-which.result ∷ fixed (codes " ") ∷ position c.position-pos.result.items
+    ∷ fixed (codes " ") ∷ number c.number-rule.result ∷ fixed (codes " ") ∷ []) (tt, (tt, (tt, (tt, (places_still c.position-pos.result.items 0, (tt, (tt, (tt, tt)))))))))
+    c.requires
 
 pub returns-clause-redex : goal.returns-clause-redex
 returns-clause-redex c =
@@ -40,7 +45,8 @@ returns-clause-redex c =
     let v = version_by c.args.uses in
     let rest = redexes_from v (suc n) ∷ [] in
     as_marks (λ none u. sym (append-nil _))
-    (then_reads (c.counted_or.ensures.word c.if-not-counted_or.false names (redexes_from v n) (between space ∷ any_number space ∷ any_position space ∷ any_number space ∷ infeasibility v ∷ rest) (between line ∷ []) refl)
+    (then_reads (c.counted_or.ensures.word c.if-not-counted_or.false names (redexes_from v n)
+    (between space ∷ any_number space ∷ any_position space ∷ any_number space ∷ infeasibility v ∷ rest) (between line ∷ []) refl)
     (then_reads (framed (any_number space ∷ any_position space ∷ any_number space ∷ infeasibility v ∷ rest) (c.text.ensures.read names (between space) [] refl))
     (then_reads (framed (any_position space ∷ any_number space ∷ infeasibility v ∷ rest) (c.number-which.ensures.read names (any_number space) (λ k. between space ∷ []) refl))
     (then_reads (framed (any_position space ∷ any_number space ∷ infeasibility v ∷ rest) (c.text-2.ensures.read names (between space) [] refl))

@@ -48,7 +48,8 @@ redexes-preserved c =
           (then_reads before step);
       plain = λ none.
           let was = open_before (c.put.ensures.read names c.args.end (redexes_from v (suc n) ∷ [])) none in
-          plain_redexes v (automata_by c.args.uses) redex_view items c.put.new.list.items next (c.put.ensures.grown none) (c.redexes.invariant.plain (open_before (c.in-Some.ensures.redex) was)) (c.in-Some.ensures.plain was);
+          plain_redexes v (automata_by c.args.uses) redex_view items c.put.new.list.items next (c.put.ensures.grown none)
+          (c.redexes.invariant.plain (open_before (c.in-Some.ensures.redex) was)) (c.in-Some.ensures.plain was);
       known = known_behind v (automata_by c.args.uses) (c.put.ensures.read names c.args.end []) [] (counts_still [] tt) c.in-Some.ensures.known;
     }
 

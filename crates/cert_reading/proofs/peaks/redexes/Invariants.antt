@@ -9,7 +9,8 @@ use Rattle.cert_reading.proofs.peaks.redexes.Given as goal
 
 abbrev pub invariant-redexes : goal.invariant-redexes
 invariant-redexes l = record {
-  read : Reads l.fn.names l.fn.end (spec.redexes_from (version_by l.fn.uses) 1 ∷ []) (λ u. redexes_marks u (uses_by l.fn.names l.fn.uses) 1 (map redex_view l.redexes.items)) (spec.redexes_from (version_by l.fn.uses) (suc (length l.redexes.items)) ∷ []) l.fn.at l.at;
+  read : Reads l.fn.names l.fn.end (spec.redexes_from (version_by l.fn.uses) 1 ∷ []) (λ u. redexes_marks u (uses_by l.fn.names l.fn.uses) 1 (map redex_view l.redexes.items))
+      (spec.redexes_from (version_by l.fn.uses) (suc (length l.redexes.items)) ∷ []) l.fn.at l.at;
   plain : l.at.refused ≡ None → RedexesUse (version_by l.fn.uses) (automata_by l.fn.uses) (map redex_view l.redexes.items);
   known : AreKnown l.fn.names l.fn.uses l.fn.end l.at;
 }

@@ -15,7 +15,8 @@ returns-then-is_some-clause-read c = λ given.
     let k = c.args.count - (c.automata.counter + 1) in
     let e = some_now _ _ c.is_some.ensures c.if-is_some.true in
     already_where e.0 e.1
-    (then_where (as_where (λ none. (automata_next given c.args.count c.automata.counter c.automata-test.true, λ u. refl)) (c.automata.invariant.read given)) (then_nothing_where (c.shared_automaton-next.ensures.read k given) (low_where (behind_automata k given) (above_automata k given) (c.put.ensures.read names c.args.end []))))
+    (then_where (as_where (λ none. (automata_next given c.args.count c.automata.counter c.automata-test.true, λ u. refl)) (c.automata.invariant.read given))
+    (then_nothing_where (c.shared_automaton-next.ensures.read k given) (low_where (behind_automata k given) (above_automata k given) (c.put.ensures.read names c.args.end []))))
 
 pub automata-preserved : goal.automata-preserved
 automata-preserved c =
@@ -23,7 +24,8 @@ automata-preserved c =
     let k = c.args.count - (c.automata.counter + 1) in
     let items = c.automata.automata.items in
     let next = c.shared_automaton-next.result in
-    let before : c.put.new.at.refused ≡ None → c.automata.at.refused ≡ None = λ none. open_before_where (c.shared_automaton-next.ensures.read k None) (open_before (c.put.ensures.read names c.args.end []) none) in
+    let before : c.put.new.at.refused ≡ None → c.automata.at.refused ≡ None = λ none. open_before_where (c.shared_automaton-next.ensures.read k None)
+    (open_before (c.put.ensures.read names c.args.end []) none) in
     record {
       read = λ given.
           as_marks_where (λ none u. automata_push automaton_view u items next ∙ ap (λ as_items. automata_marks u (map automaton_view as_items)) (sym (c.put.ensures.grown none)))
@@ -32,7 +34,8 @@ automata-preserved c =
       counted = λ none.
           let n = ap length (c.put.ensures.grown none) ∙ length_push items next in
           omega (arith, c.automata.invariant.counted (before none), n, length-map c.put.new.list.items automaton_view, length-map items automaton_view);
-      plain = λ none. plain_automata automaton_view items c.put.new.list.items next (c.put.ensures.grown none) (c.automata.invariant.plain (before none)) (c.shared_automaton-next.ensures.plain (open_before (c.put.ensures.read names c.args.end []) none));
+      plain = λ none. plain_automata automaton_view items c.put.new.list.items next (c.put.ensures.grown none) (c.automata.invariant.plain (before none))
+          (c.shared_automaton-next.ensures.plain (open_before (c.put.ensures.read names c.args.end []) none));
     }
 
 pub returns-clause-read : goal.returns-clause-read

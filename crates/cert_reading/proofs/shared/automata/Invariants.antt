@@ -8,7 +8,8 @@ use Rattle.cert_reading.proofs.shared.automata.Given as goal
 
 abbrev pub invariant-automata : goal.invariant-automata
 invariant-automata l = record {
-  read : (given : Option Bool) → ReadsWhere BeforeEntries l.fn.names l.fn.end (spec.behind_automata l.fn.count given ∷ []) (λ u. automata_marks u (map automaton_view l.automata.items)) (spec.behind_automata (l.fn.count - l.counter) given ∷ []) l.fn.at l.at;
+  read : (given : Option Bool) → ReadsWhere BeforeEntries l.fn.names l.fn.end (spec.behind_automata l.fn.count given ∷ [])
+      (λ u. automata_marks u (map automaton_view l.automata.items)) (spec.behind_automata (l.fn.count - l.counter) given ∷ []) l.fn.at l.at;
   counted : l.at.refused ≡ None → length (map automaton_view l.automata.items) ≡ l.counter;
   plain : l.at.refused ≡ None → ArePlainAutomata (map automaton_view l.automata.items);
 }

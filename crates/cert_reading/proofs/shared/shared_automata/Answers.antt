@@ -12,8 +12,11 @@ returns-clause-read c = λ given.
     let n = c.counted-count.result in
     let all = map automaton_view c.automata.result.items in
     as_marks_where (λ none u. ap (λ (k : ℕ). fixed (codes "shared ") ∷ number_for shared_automata k ∷ fixed (codes "\n") ∷ automata_marks u all) (sym (c.automata.ensures.counted none)))
-    (then_where (word_where (λ x. line_place given c.args.at.now.left.now) (λ none. c.text.ensures.here none names (shared_line given) (shared_count given ∷ []) refl) (c.text.ensures.read names (shared_line given) (shared_count given ∷ []) refl))
-    (then_where (word_where (λ x. count_place given c.text.new.at.left.now) (λ none. c.counted-count.ensures.here none names (shared_count given) (λ k. between line ∷ behind_automata k given ∷ []) refl) (c.counted-count.ensures.read names (shared_count given) (λ k. between line ∷ behind_automata k given ∷ []) refl))
+    (then_where (word_where (λ x. line_place given c.args.at.now.left.now) (λ none. c.text.ensures.here none names (shared_line given) (shared_count given ∷ []) refl)
+    (c.text.ensures.read names (shared_line given) (shared_count given ∷ []) refl))
+    (then_where (word_where (λ x. count_place given c.text.new.at.left.now)
+    (λ none. c.counted-count.ensures.here none names (shared_count given) (λ k. between line ∷ behind_automata k given ∷ []) refl)
+    (c.counted-count.ensures.read names (shared_count given) (λ k. between line ∷ behind_automata k given ∷ []) refl))
     (then_where (low_where (behind_automata n given) (above_automata n given) (c.text-2.ensures.read names (between line) [] refl)) (c.automata.ensures.read given))))
 
 pub returns-clause-known : goal.returns-clause-known

@@ -14,7 +14,8 @@ returns-clause-read c = λ more given.
     let a = automaton_view c.behind_word-automaton.result in
     let anew = automaton_anew (name_of names) a in
     let none = none_now _ _ c.is_some.ensures c.if-is_some.false in
-    let read = then_reads (c.begins.ensures.read names (automata_left more given) (between space ∷ state_count ∷ automaton_end more given ∷ []) refl) (framed (automaton_end more given ∷ []) c.behind_word-automaton.ensures.read) in
+    let read = then_reads (c.begins.ensures.read names (automata_left more given) (between space ∷ state_count ∷ automaton_end more given ∷ []) refl)
+    (framed (automaton_end more given ∷ []) c.behind_word-automaton.ensures.read) in
     sealed_where {f = λ u. automaton_marks u a} (end_place more given c.behind_word-automaton.new.at.left.now) none
     (c.ended.ensures.here none names (automata_left more given ∷ []) (λ u. automaton_marks u a) (automaton_end more given) (behind_automata more given ∷ []) c.args.at.now refl anew refl read) read
     (c.ended.ensures.read names (automata_left more given ∷ []) (λ u. automaton_marks u a) (automaton_end more given) (behind_automata more given ∷ []) c.args.at.now refl anew refl read)
@@ -25,7 +26,8 @@ returns-then-is_some-clause-read c = λ more given.
     let new = between space ∷ state_count ∷ automaton_end more given ∷ [] in
     let e = some_now _ _ c.is_some.ensures c.if-is_some.true in
     already_where e.0 e.1
-    (then_where (word_where (λ x. begin_place more given c.args.at.now.left.now) (λ none. c.begins.ensures.here none names (automata_left more given) new refl) (c.begins.ensures.read names (automata_left more given) new refl))
+    (then_where (word_where (λ x. begin_place more given c.args.at.now.left.now) (λ none. c.begins.ensures.here none names (automata_left more given) new refl)
+    (c.begins.ensures.read names (automata_left more given) new refl))
     (low_where (automaton_end more given) (above_end more given) c.behind_word-automaton.ensures.read))
 
 pub returns-clause-plain : goal.returns-clause-plain

@@ -17,10 +17,12 @@ returns-then-is_some-clause-read c =
     let k = c.args.count - (c.steps.counter + 1) in
     let e = some_now _ _ c.is_some.ensures c.if-is_some.true in
     already e.0 e.1
-    (then_reads (as_reads (λ none. (steps_next c.args.count c.steps.counter c.steps-test.true, λ u. refl)) c.steps.invariant.read) (then_nothing (c.simplification-next.ensures.read k) (c.put.ensures.read names c.args.end (simplifications_of k))))
+    (then_reads (as_reads (λ none. (steps_next c.args.count c.steps.counter c.steps-test.true, λ u. refl)) c.steps.invariant.read)
+    (then_nothing (c.simplification-next.ensures.read k) (c.put.ensures.read names c.args.end (simplifications_of k))))
 
 pub returns-then-is_some-clause-known : goal.returns-then-is_some-clause-known
-returns-then-is_some-clause-known c = known_behind second_version (map automaton_view c.args.automata.now) (c.put.ensures.read c.args.names.now c.args.end []) [] (counts_still [] tt) c.simplification-next.ensures.known
+returns-then-is_some-clause-known c = known_behind second_version (map automaton_view c.args.automata.now) (c.put.ensures.read c.args.names.now c.args.end []) []
+    (counts_still [] tt) c.simplification-next.ensures.known
 
 pub steps-preserved : goal.steps-preserved
 steps-preserved c =
@@ -31,13 +33,15 @@ steps-preserved c =
     let next = c.simplification-next.result in
     let before : c.put.new.at.refused ≡ None → c.steps.at.refused ≡ None = λ none. open_before (c.simplification-next.ensures.read k) (open_before (c.put.ensures.read names c.args.end []) none) in
     record {
-      read = as_marks (λ none u. steps_push simp_view u (by_number (number_in names all)) items next ∙ ap (λ ss. simplifications_marks u (by_number (number_in names all)) (map simp_view ss)) (sym (c.put.ensures.grown none)))
+      read = as_marks (λ none u. steps_push simp_view u (by_number (number_in names all)) items next
+          ∙ ap (λ ss. simplifications_marks u (by_number (number_in names all)) (map simp_view ss)) (sym (c.put.ensures.grown none)))
           (then_reads (as_reads (λ none. (steps_next c.args.count c.steps.counter c.steps-test.true, λ u. refl)) c.steps.invariant.read)
           (then_nothing (c.simplification-next.ensures.read k) (c.put.ensures.read names c.args.end (simplifications_of k))));
       counted = λ none.
           let n = ap length (c.put.ensures.grown none) ∙ length_push items next in
           omega (arith, c.steps.invariant.counted (before none), n, length-map c.put.new.list.items simp_view, length-map items simp_view);
-      plain = λ none. plain_steps second_version all simp_view items c.put.new.list.items next (c.put.ensures.grown none) (c.steps.invariant.plain (before none)) (c.simplification-next.ensures.plain (open_before (c.put.ensures.read names c.args.end []) none));
+      plain = λ none. plain_steps second_version all simp_view items c.put.new.list.items next (c.put.ensures.grown none) (c.steps.invariant.plain (before none))
+          (c.simplification-next.ensures.plain (open_before (c.put.ensures.read names c.args.end []) none));
       known = known_behind second_version all (c.put.ensures.read names c.args.end []) [] (counts_still [] tt) c.simplification-next.ensures.known;
     }
 

@@ -15,7 +15,8 @@ infeasibility-evidence-requires c =
     let rest = infeasibility second_version ∷ [] in
     let front = then_reads (c.either.ensures.one c.if-either.true names (simplifications_left 0) (any_number space ∷ rest) (any_number space ∷ any_number line ∷ []) refl)
     (then_reads (framed rest (c.number-rule.ensures.read names (any_number space) (λ k. between space ∷ []) refl)) (framed rest (c.text.ensures.read names (between space) [] refl))) in
-    known_behind second_version (map automaton_view c.args.automata.now) front [] (counts_still (fixed (codes "drop ") ∷ number c.number-rule.result ∷ fixed (codes " ") ∷ []) (tt, (tt, (tt, tt)))) c.requires
+    known_behind second_version (map automaton_view c.args.automata.now) front [] (counts_still (fixed (codes "drop ") ∷ number c.number-rule.result ∷ fixed (codes " ") ∷ [])
+    (tt, (tt, (tt, tt)))) c.requires
 
 pub returns-then-either-clause-read : goal.returns-then-either-clause-read
 returns-then-either-clause-read c = λ more.

@@ -19,7 +19,8 @@ pub argument-returns-then-is_some-clause-close : goal.argument-returns-then-is_s
 argument-returns-then-is_some-clause-close t c = λ q g fs e.
     let n = c.args.n in
     let err = some_now _ _ c.is_some.ensures c.if-is_some.true in
-    refused_node c.args.names.now c.args.end (node n (g ∷ fs)) c.args.depth n (λ name. name_behind (suc n) name (g ∷ fs) ∷ []) (term_behind (suc n) (g ∷ fs) ∷ []) _ _ c.args.at.now c.next_node-node.new.at c.next_node-node.result err.0 err.1
+    refused_node c.args.names.now c.args.end (node n (g ∷ fs)) c.args.depth n (λ name. name_behind (suc n) name (g ∷ fs) ∷ []) (term_behind (suc n) (g ∷ fs) ∷ []) _ _ c.args.at.now
+    c.next_node-node.new.at c.next_node-node.result err.0 err.1
     (c.next_node-node.ensures.read (node n (g ∷ fs)) (λ name. name_behind (suc n) name (g ∷ fs) ∷ []) (term_behind (suc n) (g ∷ fs) ∷ []) (node_leads n c.args.depth g fs e))
 
 pub argument-returns-in-Variable-clause-comma : goal.argument-returns-in-Variable-clause-comma
@@ -32,7 +33,11 @@ argument-returns-in-Variable-clause-comma t c = λ q g fs e.
 pub argument-returns-in-Variable-clause-close : goal.argument-returns-in-Variable-clause-close
 argument-returns-in-Variable-clause-close t c = λ q g fs e.
     let n = c.args.n in
-    as_reads (λ none. (ap (λ (k : ℕ). term_closed k g.name g.argument fs ∷ []) (suc_is n), λ u. ap (λ (x : Term). term_marks u c.args.depth n x ++ (fixed (codes ")") ∷ [])) (sym (view-Var c.in-Variable.x))))
+    as_reads (λ none. (
+      ap (λ (k : ℕ). term_closed k g.name g.argument fs ∷ []) (suc_is n),
+      λ u. ap (λ (x : Term). term_marks u c.args.depth n x ++ (fixed (codes ")") ∷ []))
+          (sym (view-Var c.in-Variable.x)),
+    ))
     (then_reads (c.in-Variable.ensures.read (node n (g ∷ fs)) (λ name. name_behind (suc n) name (g ∷ fs) ∷ []) (term_behind (suc n) (g ∷ fs) ∷ []) (node_leads n c.args.depth g fs e))
     (c.either-comma.ensures.other q c.args.names.now (term_behind (suc n) (g ∷ fs)) (node (suc n) (with_next g ∷ fs) ∷ []) (term_closed (suc n) g.name g.argument fs ∷ []) refl))
 
@@ -48,7 +53,8 @@ argument-returns-in-Comma-clause-comma t c = λ q g fs e.
       λ u. ap (λ (x : Term). term_marks u c.args.depth n x ++ (fixed (codes ",") ∷ [])) (sym (view-Fun f c.new.result ∙ ap (λ l. app f (views l)) c.new.ensures.items)),
     ))
     (then_reads (c.in-Symbol.ensures.read (node n (g ∷ fs)) (λ w. name_behind (suc n) w (g ∷ fs) ∷ []) (term_behind (suc n) (g ∷ fs) ∷ []) (node_leads n c.args.depth g fs e))
-    (then_reads (c.in-Comma.ensures.comma refl names f 0 (name_behind (suc n) name (g ∷ fs)) (node (suc n) (record { name = name; argument = 1 } ∷ g ∷ fs) ∷ []) (next_argument (suc n) g fs ∷ []) (symbol_end (suc n) g fs ∷ []) refl (arity_met names f 0 c.has_so_many.result found c.has_so_many.ensures))
+    (then_reads (c.in-Comma.ensures.comma refl names f 0 (name_behind (suc n) name (g ∷ fs)) (node (suc n) (record { name = name; argument = 1 } ∷ g ∷ fs) ∷ [])
+    (next_argument (suc n) g fs ∷ []) (symbol_end (suc n) g fs ∷ []) refl (arity_met names f 0 c.has_so_many.result found c.has_so_many.ensures))
     (c.text.ensures.read names (next_argument (suc n) g fs) (node (suc n) (with_next g ∷ fs) ∷ []) refl)))
 
 pub argument-returns-in-Close-clause-close : goal.argument-returns-in-Close-clause-close
@@ -63,7 +69,8 @@ argument-returns-in-Close-clause-close t c = λ q g fs e.
       λ u. ap (λ (x : Term). term_marks u c.args.depth n x ++ (fixed (codes ")") ∷ [])) (sym (view-Fun f c.new-in-Close.result ∙ ap (λ l. app f (views l)) c.new-in-Close.ensures.items)),
     ))
     (then_reads (c.in-Symbol.ensures.read (node n (g ∷ fs)) (λ w. name_behind (suc n) w (g ∷ fs) ∷ []) (term_behind (suc n) (g ∷ fs) ∷ []) (node_leads n c.args.depth g fs e))
-    (then_reads (c.in-Close.ensures.close refl names f 0 (name_behind (suc n) name (g ∷ fs)) (node (suc n) (record { name = name; argument = 1 } ∷ g ∷ fs) ∷ []) (next_argument (suc n) g fs ∷ []) (symbol_end (suc n) g fs ∷ []) refl (arity_met names f 0 c.has_so_many.result found c.has_so_many.ensures))
+    (then_reads (c.in-Close.ensures.close refl names f 0 (name_behind (suc n) name (g ∷ fs)) (node (suc n) (record { name = name; argument = 1 } ∷ g ∷ fs) ∷ [])
+    (next_argument (suc n) g fs ∷ []) (symbol_end (suc n) g fs ∷ []) refl (arity_met names f 0 c.has_so_many.result found c.has_so_many.ensures))
     (c.text-in-Close.ensures.read names (symbol_end (suc n) g fs) (term_closed (suc n) g.name g.argument fs ∷ []) refl)))
 
 pub argument-returns-then-closed_or-clause-comma : goal.argument-returns-then-closed_or-clause-comma
@@ -80,8 +87,10 @@ argument-returns-then-closed_or-clause-comma t c = λ q g fs e.
     let met = arity_met names f k c.has_so_many-in-Open.result found (c.has_so_many-in-Open.ensures ∙ ap (λ (m : ℕ). is_number m (arity_at names f)) many) in
     let deeper : suc (suc (length (g ∷ fs))) ≡ c.args.depth + 1 = omega (arith, e) in
     let inside =
-    at_next (λ (d : ℕ). Reads names c.args.end (node (suc n) (record { name = name; argument = 1 } ∷ g ∷ fs) ∷ []) (λ u. inner_marks u d (suc n) (views args.items)) (term_closed next name k (g ∷ fs) ∷ []) c.opened_or.new.at c.arguments-args.new.at) c.args.depth
-    (at_next (λ (m : ℕ). Reads names c.args.end (node m (record { name = name; argument = 1 } ∷ g ∷ fs) ∷ []) (λ u. inner_marks u (c.args.depth + 1) m (views args.items)) (term_closed next name k (g ∷ fs) ∷ []) c.opened_or.new.at c.arguments-args.new.at) n
+    at_next (λ (d : ℕ). Reads names c.args.end (node (suc n) (record { name = name; argument = 1 } ∷ g ∷ fs) ∷ []) (λ u. inner_marks u d (suc n) (views args.items))
+    (term_closed next name k (g ∷ fs) ∷ []) c.opened_or.new.at c.arguments-args.new.at) c.args.depth
+    (at_next (λ (m : ℕ). Reads names c.args.end (node m (record { name = name; argument = 1 } ∷ g ∷ fs) ∷ []) (λ u. inner_marks u (c.args.depth + 1) m (views args.items))
+    (term_closed next name k (g ∷ fs) ∷ []) c.opened_or.new.at c.arguments-args.new.at) n
     (c.arguments-args.ensures.read name (g ∷ fs) deeper)) in
     let last =
     then_reads (c.closed_or.ensures.comma c.if-closed_or.true names f k (term_closed next name k (g ∷ fs)) (next_argument next g fs ∷ []) (symbol_end next g fs ∷ []) refl met)
@@ -92,7 +101,8 @@ argument-returns-then-closed_or-clause-comma t c = λ q g fs e.
     symbol_closed u c.args.depth n f k (map view args.items) (fixed (codes ",")) (omega (arith, some, len)) (sym len)
     ∙ ap (λ (x : Term). term_marks u c.args.depth n x ++ (fixed (codes ",") ∷ [])) (sym (view-Fun f args)))
     (then_reads (c.in-Symbol.ensures.read (node n (g ∷ fs)) (λ w. name_behind (suc n) w (g ∷ fs) ∷ []) (term_behind (suc n) (g ∷ fs) ∷ []) (node_leads n c.args.depth g fs e))
-    (then_reads (c.in-Open.ensures.opened refl names f 0 (name_behind (suc n) name (g ∷ fs)) (node (suc n) (record { name = name; argument = 1 } ∷ g ∷ fs) ∷ []) (next_argument (suc n) g fs ∷ []) (symbol_end (suc n) g fs ∷ []) refl)
+    (then_reads (c.in-Open.ensures.opened refl names f 0 (name_behind (suc n) name (g ∷ fs)) (node (suc n) (record { name = name; argument = 1 } ∷ g ∷ fs) ∷ [])
+    (next_argument (suc n) g fs ∷ []) (symbol_end (suc n) g fs ∷ []) refl)
     (then_reads inside last)))
 
 pub argument-returns-then-closed_or-clause-counted : goal.argument-returns-then-closed_or-clause-counted
@@ -125,8 +135,10 @@ argument-returns-else-closed_or-clause-close t c = λ q g fs e.
     let met = arity_met names f k c.has_so_many-in-Open.result found (c.has_so_many-in-Open.ensures ∙ ap (λ (m : ℕ). is_number m (arity_at names f)) many) in
     let deeper : suc (suc (length (g ∷ fs))) ≡ c.args.depth + 1 = omega (arith, e) in
     let inside =
-    at_next (λ (d : ℕ). Reads names c.args.end (node (suc n) (record { name = name; argument = 1 } ∷ g ∷ fs) ∷ []) (λ u. inner_marks u d (suc n) (views args.items)) (term_closed next name k (g ∷ fs) ∷ []) c.opened_or.new.at c.arguments-args.new.at) c.args.depth
-    (at_next (λ (m : ℕ). Reads names c.args.end (node m (record { name = name; argument = 1 } ∷ g ∷ fs) ∷ []) (λ u. inner_marks u (c.args.depth + 1) m (views args.items)) (term_closed next name k (g ∷ fs) ∷ []) c.opened_or.new.at c.arguments-args.new.at) n
+    at_next (λ (d : ℕ). Reads names c.args.end (node (suc n) (record { name = name; argument = 1 } ∷ g ∷ fs) ∷ []) (λ u. inner_marks u d (suc n) (views args.items))
+    (term_closed next name k (g ∷ fs) ∷ []) c.opened_or.new.at c.arguments-args.new.at) c.args.depth
+    (at_next (λ (m : ℕ). Reads names c.args.end (node m (record { name = name; argument = 1 } ∷ g ∷ fs) ∷ []) (λ u. inner_marks u (c.args.depth + 1) m (views args.items))
+    (term_closed next name k (g ∷ fs) ∷ []) c.opened_or.new.at c.arguments-args.new.at) n
     (c.arguments-args.ensures.read name (g ∷ fs) deeper)) in
     let last =
     then_reads (c.closed_or.ensures.close c.if-closed_or.false names f k (term_closed next name k (g ∷ fs)) (next_argument next g fs ∷ []) (symbol_end next g fs ∷ []) refl met)
@@ -137,7 +149,8 @@ argument-returns-else-closed_or-clause-close t c = λ q g fs e.
     symbol_closed u c.args.depth n f k (map view args.items) (fixed (codes ")")) (omega (arith, some, len)) (sym len)
     ∙ ap (λ (x : Term). term_marks u c.args.depth n x ++ (fixed (codes ")") ∷ [])) (sym (view-Fun f args)))
     (then_reads (c.in-Symbol.ensures.read (node n (g ∷ fs)) (λ w. name_behind (suc n) w (g ∷ fs) ∷ []) (term_behind (suc n) (g ∷ fs) ∷ []) (node_leads n c.args.depth g fs e))
-    (then_reads (c.in-Open.ensures.opened refl names f 0 (name_behind (suc n) name (g ∷ fs)) (node (suc n) (record { name = name; argument = 1 } ∷ g ∷ fs) ∷ []) (next_argument (suc n) g fs ∷ []) (symbol_end (suc n) g fs ∷ []) refl)
+    (then_reads (c.in-Open.ensures.opened refl names f 0 (name_behind (suc n) name (g ∷ fs)) (node (suc n) (record { name = name; argument = 1 } ∷ g ∷ fs) ∷ [])
+    (next_argument (suc n) g fs ∷ []) (symbol_end (suc n) g fs ∷ []) refl)
     (then_reads inside last)))
 
 pub argument-returns-else-closed_or-clause-counted : goal.argument-returns-else-closed_or-clause-counted
@@ -178,7 +191,8 @@ arguments-arguments-preserved t c =
             λ u. commas_push u d n c.arguments.next (map view items) (view arg) (before none) ∙ ap (commas u d n) (sym (seen none)),
           ))
           (then_reads (c.arguments.invariant.going c.arguments-test.true name fs e)
-          (then_nothing (c.argument-arg.ensures.comma q (record { name = name; argument = suc k }) fs e) (c.put.ensures.read names c.args.end (node next (record { name = name; argument = suc (suc k) } ∷ fs) ∷ []))));
+          (then_nothing (c.argument-arg.ensures.comma q (record { name = name; argument = suc k }) fs e)
+          (c.put.ensures.read names c.args.end (node next (record { name = name; argument = suc (suc k) } ∷ fs) ∷ []))));
       closed = λ q name fs e.
           as_reads (λ none. let l = longer none in let m : suc k ≡ length new = omega (arith, l) in (
             ap (λ (j : ℕ). term_closed next name j fs ∷ []) m,

@@ -10,8 +10,12 @@ use Rattle.cert_reading.proofs.terms.+argument.Given as goal
 
 abbrev pub invariant-arguments-arguments : goal.invariant-arguments-arguments
 invariant-arguments-arguments l = record {
-  going : l.more ≡ true → (name : List ℕ) (fs : List Frame) → suc (suc (length fs)) ≡ l.fn.depth → Reads l.fn.names l.fn.end (spec.node l.fn.n (record { name = name; argument = 1 } ∷ fs) ∷ []) (λ u. commas u l.fn.depth l.fn.n (map view l.args.items)) (spec.node l.next (record { name = name; argument = suc (length l.args.items) } ∷ fs) ∷ []) l.fn.at l.at;
-  closed : l.more ≡ false → (name : List ℕ) (fs : List Frame) → suc (suc (length fs)) ≡ l.fn.depth → Reads l.fn.names l.fn.end (spec.node l.fn.n (record { name = name; argument = 1 } ∷ fs) ∷ []) (λ u. inner_marks u l.fn.depth l.fn.n (views l.args.items)) (spec.term_closed l.next name (length l.args.items) fs ∷ []) l.fn.at l.at;
+  going : l.more ≡ true → (name : List ℕ) (fs : List Frame) → suc (suc (length fs)) ≡ l.fn.depth
+      → Reads l.fn.names l.fn.end (spec.node l.fn.n (record { name = name; argument = 1 } ∷ fs) ∷ []) (λ u. commas u l.fn.depth l.fn.n (map view l.args.items))
+      (spec.node l.next (record { name = name; argument = suc (length l.args.items) } ∷ fs) ∷ []) l.fn.at l.at;
+  closed : l.more ≡ false → (name : List ℕ) (fs : List Frame) → suc (suc (length fs)) ≡ l.fn.depth
+      → Reads l.fn.names l.fn.end (spec.node l.fn.n (record { name = name; argument = 1 } ∷ fs) ∷ []) (λ u. inner_marks u l.fn.depth l.fn.n (views l.args.items))
+      (spec.term_closed l.next name (length l.args.items) fs ∷ []) l.fn.at l.at;
   counted : l.at.refused ≡ None → l.next ≡ l.fn.n + size_all (views l.args.items);
   some : l.at.refused ≡ None → l.more ≡ false → 0 < length l.args.items;
   low : l.fn.n ≤ l.next;

@@ -29,7 +29,8 @@ returns-then-not-opened c =
     let found = c.in-Symbol.ensures.found (none_now _ _ c.is_some.ensures c.if-is_some.false) in
     as_marks (λ none u. ap (λ (x : Term). term_marks u 1 1 x ++ (fixed (codes "\n") ∷ [])) (sym (view-Fun f c.new.result ∙ ap (λ l. app f (views l)) c.new.ensures.items)))
     (then_reads (c.in-Symbol.ensures.read (node 1 []) (λ w. name_behind 2 w [] ∷ []) (term_behind 2 [] ∷ []) refl)
-    (then_reads (c.opened.ensures.none c.if-not-opened.true names f 0 (name_behind 2 (name_of names f) []) (node 2 (record { name = name_of names f; argument = 1 } ∷ []) ∷ []) (between line ∷ []) refl (arity_met names f 0 c.has_so_many.result found c.has_so_many.ensures))
+    (then_reads (c.opened.ensures.none c.if-not-opened.true names f 0 (name_behind 2 (name_of names f) []) (node 2 (record { name = name_of names f; argument = 1 } ∷ []) ∷ [])
+    (between line ∷ []) refl (arity_met names f 0 c.has_so_many.result found c.has_so_many.ensures))
     (c.text-then-not-opened.ensures.read names (between line) [] refl)))
 
 pub returns-else-not-opened : goal.returns-else-not-opened

@@ -13,7 +13,8 @@ use Rattle.cert_reading.proofs.uses.used_automaton.Goals as goal
 pub returns-in-InFull-clause-read : goal.returns-in-InFull-clause-read
 returns-in-InFull-clause-read c =
     let names = c.args.names.now in
-    subst (λ (w : Uses). Reads names c.args.end (between (use_between (version_by w)) ∷ use_item (version_by w) ∷ []) (λ u. use_marks u (uses_by names w) (automaton_view c.automaton.result)) [] c.args.at.now c.automaton.new.at) (sym c.in-InFull.is)
+    subst (λ (w : Uses). Reads names c.args.end (between (use_between (version_by w)) ∷ use_item (version_by w) ∷ [])
+    (λ u. use_marks u (uses_by names w) (automaton_view c.automaton.result)) [] c.args.at.now c.automaton.new.at) (sym c.in-InFull.is)
     (then_reads (framed (states_line ∷ []) (c.text.ensures.read names (between line) [] refl)) c.automaton.ensures.read)
 
 pub returns-in-InFull-clause-plain : goal.returns-in-InFull-clause-plain
@@ -28,11 +29,13 @@ returns-in-ByNumber-clause-read c =
     let whole = then_reads (framed (shared_use ∷ []) (c.text-in-ByNumber.ensures.read names (between space) [] refl))
     (then_reads (c.used-number.ensures.read names shared_use (λ m. between line ∷ []) refl)
     (then_nothing (c.text-in-ByNumber-2.ensures.read names (between line) [] refl) (c.copied.ensures.read names c.args.end []))) in
-    subst (λ (w : Uses). Reads names c.args.end (between (use_between (version_by w)) ∷ use_item (version_by w) ∷ []) (λ u. use_marks u (uses_by names w) (automaton_view c.copied.result)) [] c.args.at.now c.copied.new.at) (sym c.in-ByNumber.is)
+    subst (λ (w : Uses). Reads names c.args.end (between (use_between (version_by w)) ∷ use_item (version_by w) ∷ [])
+    (λ u. use_marks u (uses_by names w) (automaton_view c.copied.result)) [] c.args.at.now c.copied.new.at) (sym c.in-ByNumber.is)
     (as_marks (λ none u.
     let facts = use_facts all n known none whole in
     ap (λ (m : ℕ). fixed (codes " ") ∷ use_mark m ∷ fixed (codes "\n") ∷ [])
-    (sym (number_there names all (automaton_view c.copied.result) n facts (c.copied.ensures.copied none facts.low (subst (λ (m : ℕ). n ≤ m) (length-map c.in-ByNumber.automata.now automaton_view) facts.high))))) whole)
+    (sym (number_there names all (automaton_view c.copied.result) n facts
+    (c.copied.ensures.copied none facts.low (subst (λ (m : ℕ). n ≤ m) (length-map c.in-ByNumber.automata.now automaton_view) facts.high))))) whole)
 
 pub returns-in-ByNumber-clause-plain : goal.returns-in-ByNumber-clause-plain
 returns-in-ByNumber-clause-plain c = λ none.

@@ -18,7 +18,8 @@ returns-then-not-second c =
     let names = c.args.names.now in
     let given = c.first_line-given.result.0 in
     let d = certificate_view c.body.result in
-    let line = subst (λ (v : Bool). ReadsWhere BeforeEntries names c.args.end (opening ∷ []) (λ u. first_marks given v) (behind_version v given ∷ []) c.args.at.now c.first_line-given.new.at) c.if-not-second.true (c.first_line-given.ensures names) in
+    let line = subst (λ (v : Bool). ReadsWhere BeforeEntries names c.args.end (opening ∷ []) (λ u. first_marks given v) (behind_version v given ∷ []) c.args.at.now
+    c.first_line-given.new.at) c.if-not-second.true (c.first_line-given.ensures names) in
     record {
       version = first_version;
       shared = [];
@@ -43,13 +44,20 @@ returns c =
     let given = c.first_line-given.result.0 in
     let all = map automaton_view c.shared_automata-automata.result.items in
     let d = certificate_view c.second_body.result in
-    let line = subst (λ (v : Bool). ReadsWhere BeforeEntries names c.args.end (opening ∷ []) (λ u. first_marks given v) (behind_version v given ∷ []) c.args.at.now c.first_line-given.new.at) c.if-not-second.false (c.first_line-given.ensures names) in
-    let body = subst (λ xs. ReadsWhere Anywhere names c.args.end (simplified given ∷ []) (λ u. body_marks u (by_number (number_in names (map automaton_view xs))) given d ++ closing) [] c.shared_automata-automata.new.at c.second_body.new.at) c.deref.ensures.value c.second_body.ensures.read in
+    let line = subst (λ (v : Bool). ReadsWhere BeforeEntries names c.args.end (opening ∷ []) (λ u. first_marks given v) (behind_version v given ∷ []) c.args.at.now
+    c.first_line-given.new.at) c.if-not-second.false (c.first_line-given.ensures names) in
+    let body = subst (λ xs. ReadsWhere Anywhere names c.args.end (simplified given ∷ []) (λ u. body_marks u (by_number (number_in names (map automaton_view xs))) given d
+    ++ closing) [] c.shared_automata-automata.new.at c.second_body.new.at) c.deref.ensures.value c.second_body.ensures.read in
     record {
       version = second_version;
       shared = all;
       can_share = tt;
       given = given;
-      read = as_marks_where (λ none u. append_assoc (answer_marks given) (fixed (codes "concon 2\n") ∷ []) (shared_marks u all ++ (body_marks u (by_number (number_in names all)) given d ++ closing))) (then_where (anywhere line) (then_where (anywhere (c.shared_automata-automata.ensures.read given)) body));
-      plain = λ none. (subst (λ xs. IsPlainBy second_version (map automaton_view xs) d) c.deref.ensures.value (c.second_body.ensures.plain none), c.shared_automata-automata.ensures.plain (open_before_where body none));
+      read = as_marks_where (λ none u. append_assoc (answer_marks given) (fixed (codes "concon 2\n") ∷ [])
+          (shared_marks u all ++ (body_marks u (by_number (number_in names all)) given d ++ closing)))
+          (then_where (anywhere line) (then_where (anywhere (c.shared_automata-automata.ensures.read given)) body));
+      plain = λ none. (
+        subst (λ xs. IsPlainBy second_version (map automaton_view xs) d) c.deref.ensures.value (c.second_body.ensures.plain none),
+        c.shared_automata-automata.ensures.plain (open_before_where body none),
+      );
     }

@@ -17,7 +17,8 @@ use Rattle.cert_reading.proofs.UseReads.{known_behind, known_where}
 use Rattle.cert_reading.proofs.whole.of_kind.Goals as goal
 
 pub all_pairs-pairs-requires : goal.all_pairs-pairs-requires
-all_pairs-pairs-requires c = known_behind (version_by c.args.uses) (automata_by c.args.uses) (c.text.ensures.read c.args.names.now (between line) [] refl) [] (counts_still (fixed (codes "\n") ∷ []) (tt, tt)) c.requires
+all_pairs-pairs-requires c = known_behind (version_by c.args.uses) (automata_by c.args.uses) (c.text.ensures.read c.args.names.now (between line) [] refl) []
+    (counts_still (fixed (codes "\n") ∷ []) (tt, tt)) c.requires
 
 pub all_pairs-pairs-requires-in-Quasi : goal.all_pairs-pairs-requires-in-Quasi
 all_pairs-pairs-requires-in-Quasi c =
@@ -25,17 +26,21 @@ all_pairs-pairs-requires-in-Quasi c =
     let v = version_by c.args.uses in
     let all = automata_by c.args.uses in
     let m = measure_view c.measure-measure.result in
-    known_where v all c.measure-measure.ensures.read [] (counts_still (measure_marks (name_of names) m) (measure_still m (name_of names))) (known_behind v all (c.text.ensures.read names (between line) [] refl) [] (counts_still (fixed (codes "\n") ∷ []) (tt, tt)) c.requires)
+    known_where v all c.measure-measure.ensures.read [] (counts_still (measure_marks (name_of names) m) (measure_still m (name_of names)))
+    (known_behind v all (c.text.ensures.read names (between line) [] refl) [] (counts_still (fixed (codes "\n") ∷ []) (tt, tt)) c.requires)
 
 pub peak-peak-requires : goal.peak-peak-requires
-peak-peak-requires c = known_behind (version_by c.args.uses) (automata_by c.args.uses) (c.text.ensures.read c.args.names.now (between line) [] refl) [] (counts_still (fixed (codes "\n") ∷ []) (tt, tt)) c.requires
+peak-peak-requires c = known_behind (version_by c.args.uses) (automata_by c.args.uses) (c.text.ensures.read c.args.names.now (between line) [] refl) []
+    (counts_still (fixed (codes "\n") ∷ []) (tt, tt)) c.requires
 
 pub returns-in-Ortho-clause-read : goal.returns-in-Ortho-clause-read
 returns-in-Ortho-clause-read c =
     let names = c.args.names.now in
     let v = version_by c.args.uses in
     let w = uses_by names c.args.uses in
-    subst (λ (k : Kind). ReadsWhere Anywhere names c.args.end (between line ∷ item_by v k ∷ []) (λ u. fixed (codes "\n") ∷ (behind_kind u w (certificate_view (code.Ortho c.all_pairs-pairs.result)) ++ closing)) [] c.args.at.now c.all_pairs-pairs.new.at) (sym c.in-Ortho.is)
+    subst (λ (k : Kind). ReadsWhere Anywhere names c.args.end (between line ∷ item_by v k ∷ [])
+    (λ u. fixed (codes "\n") ∷ (behind_kind u w (certificate_view (code.Ortho c.all_pairs-pairs.result)) ++ closing)) [] c.args.at.now c.all_pairs-pairs.new.at)
+    (sym c.in-Ortho.is)
     (as_marks_where (λ none u. ap (λ (d : math.Certificate). fixed (codes "\n") ∷ (behind_kind u w d ++ closing)) (sym (ortho_shown c.all_pairs-pairs.result)))
     (then_where (reads_anywhere (framed (pairs_from v 1 ∷ []) (c.text.ensures.read names (between line) [] refl))) c.all_pairs-pairs.ensures.read))
 
@@ -46,19 +51,23 @@ returns-in-Quasi-clause-read c =
     let w = uses_by names c.args.uses in
     let m = measure_view c.measure-measure.result in
     let ps = map pair_entry_view c.all_pairs-pairs-in-Quasi.result.items in
-    subst (λ (k : Kind). ReadsWhere Anywhere names c.args.end (between line ∷ item_by v k ∷ []) (λ u. fixed (codes "\n") ∷ (behind_kind u w (certificate_view (code.Quasi c.measure-measure.result c.all_pairs-pairs-in-Quasi.result)) ++ closing)) [] c.args.at.now c.all_pairs-pairs-in-Quasi.new.at) (sym c.in-Quasi.is)
+    subst (λ (k : Kind). ReadsWhere Anywhere names c.args.end (between line ∷ item_by v k ∷ [])
+    (λ u. fixed (codes "\n") ∷ (behind_kind u w (certificate_view (code.Quasi c.measure-measure.result c.all_pairs-pairs-in-Quasi.result)) ++ closing)) [] c.args.at.now
+    c.all_pairs-pairs-in-Quasi.new.at) (sym c.in-Quasi.is)
     (as_marks_where (λ none u.
     ap (λ (ms : List Mark). fixed (codes "\n") ∷ ms) (sym (append_assoc (measure_marks u m) (pairs_marks u w 1 ps) closing))
     ∙ ap (λ (d : math.Certificate). fixed (codes "\n") ∷ (behind_kind u w d ++ closing)) (sym (quasi_shown c.measure-measure.result c.all_pairs-pairs-in-Quasi.result)))
     (then_where (reads_anywhere (framed (measure v ∷ []) (c.text.ensures.read names (between line) [] refl)))
-    (then_where (anywhere c.measure-measure.ensures.read) (measure_where v m c.measure-measure.ensures.first c.measure-measure.ensures.begins (last_some_two (pairs_marks (name_of names) w 1 ps) _ _) tt c.all_pairs-pairs-in-Quasi.ensures.read))))
+    (then_where (anywhere c.measure-measure.ensures.read) (measure_where v m c.measure-measure.ensures.first c.measure-measure.ensures.begins
+    (last_some_two (pairs_marks (name_of names) w 1 ps) _ _) tt c.all_pairs-pairs-in-Quasi.ensures.read))))
 
 pub returns-in-Peak-clause-read : goal.returns-in-Peak-clause-read
 returns-in-Peak-clause-read c =
     let names = c.args.names.now in
     let v = version_by c.args.uses in
     let w = uses_by names c.args.uses in
-    subst (λ (k : Kind). ReadsWhere Anywhere names c.args.end (between line ∷ item_by v k ∷ []) (λ u. fixed (codes "\n") ∷ (behind_kind u w (certificate_view (code.Peak c.peak-peak.result)) ++ closing)) [] c.args.at.now c.peak-peak.new.at) (sym c.in-Peak.is)
+    subst (λ (k : Kind). ReadsWhere Anywhere names c.args.end (between line ∷ item_by v k ∷ [])
+    (λ u. fixed (codes "\n") ∷ (behind_kind u w (certificate_view (code.Peak c.peak-peak.result)) ++ closing)) [] c.args.at.now c.peak-peak.new.at) (sym c.in-Peak.is)
     (as_marks_where (λ none u. ap (λ (d : math.Certificate). fixed (codes "\n") ∷ (behind_kind u w d ++ closing)) (sym (peak_shown c.peak-peak.result)))
     (then_where (reads_anywhere (framed (start_line v ∷ []) (c.text.ensures.read names (between line) [] refl))) (reads_anywhere c.peak-peak.ensures.read)))
 
@@ -66,7 +75,8 @@ pub returns-in-Ortho-clause-plain : goal.returns-in-Ortho-clause-plain
 returns-in-Ortho-clause-plain c = λ none. subst (IsPlainBy (version_by c.args.uses) (automata_by c.args.uses)) (sym (ortho_shown c.all_pairs-pairs.result)) (c.all_pairs-pairs.ensures.plain none)
 
 pub returns-in-Quasi-clause-plain : goal.returns-in-Quasi-clause-plain
-returns-in-Quasi-clause-plain c = λ none. subst (IsPlainBy (version_by c.args.uses) (automata_by c.args.uses)) (sym (quasi_shown c.measure-measure.result c.all_pairs-pairs-in-Quasi.result)) (c.measure-measure.ensures.first, c.all_pairs-pairs-in-Quasi.ensures.plain none)
+returns-in-Quasi-clause-plain c = λ none. subst (IsPlainBy (version_by c.args.uses) (automata_by c.args.uses))
+    (sym (quasi_shown c.measure-measure.result c.all_pairs-pairs-in-Quasi.result)) (c.measure-measure.ensures.first, c.all_pairs-pairs-in-Quasi.ensures.plain none)
 
 pub returns-in-Peak-clause-plain : goal.returns-in-Peak-clause-plain
 returns-in-Peak-clause-plain c = λ none. subst (IsPlainBy (version_by c.args.uses) (automata_by c.args.uses)) (sym (peak_shown c.peak-peak.result)) (c.peak-peak.ensures.plain none)

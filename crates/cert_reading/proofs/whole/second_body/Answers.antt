@@ -15,13 +15,15 @@ use Rattle.cert_reading.proofs.UseReads.{known_behind, known_where}
 use Rattle.cert_reading.proofs.whole.second_body.Goals as goal
 
 pub of_kind-requires : goal.of_kind-requires
-of_kind-requires c = known_where second_version (map automaton_view c.args.automata.now) (c.in-Some.ensures.kind c.args.names.now) [] (counts_still (kind_mark c.args.given c.in-Some.kind ∷ []) (kind_still c.args.given c.in-Some.kind)) c.requires
+of_kind-requires c = known_where second_version (map automaton_view c.args.automata.now) (c.in-Some.ensures.kind c.args.names.now) []
+    (counts_still (kind_mark c.args.given c.in-Some.kind ∷ []) (kind_still c.args.given c.in-Some.kind)) c.requires
 
 pub returns-in-Some-clause-read : goal.returns-in-Some-clause-read
 returns-in-Some-clause-read c =
     let names = c.args.names.now in
     let w = by_number (number_in names (map automaton_view c.args.automata.now)) in
-    as_marks_where (λ none u. ap (λ (ms : List Mark). ms ++ closing) (kind_marks u w c.args.given c.in-Some.kind (certificate_view c.of_kind.result) c.of_kind.ensures.kind)) (then_where (anywhere (c.in-Some.ensures.kind names)) c.of_kind.ensures.read)
+    as_marks_where (λ none u. ap (λ (ms : List Mark). ms ++ closing) (kind_marks u w c.args.given c.in-Some.kind (certificate_view c.of_kind.result) c.of_kind.ensures.kind))
+    (then_where (anywhere (c.in-Some.ensures.kind names)) c.of_kind.ensures.read)
 
 pub all_simplifications-steps-requires : goal.all_simplifications-steps-requires
 all_simplifications-steps-requires c =
@@ -29,7 +31,8 @@ all_simplifications-steps-requires c =
     let all = map automaton_view c.args.automata.now in
     let n = c.counted_steps-count.result in
     let first = known_where second_version all (c.in_default.ensures.steps names) [] (counts_still (fixed (codes "simplify ") ∷ []) (tt, tt)) c.requires in
-    let count = then_reads (c.counted_steps-count.ensures names simplification_count (λ k. between line ∷ simplifications_of k) refl) (framed (simplifications_of n) (c.text.ensures.read names (between line) [] refl)) in
+    let count = then_reads (c.counted_steps-count.ensures names simplification_count (λ k. between line ∷ simplifications_of k) refl)
+    (framed (simplifications_of n) (c.text.ensures.read names (between line) [] refl)) in
     known_behind second_version all count [] (counts_still (word (numeral n) (in_range 0 1 (suc largest) n ∷ is_few simplifications n ∷ []) ∷ fixed (codes "\n") ∷ []) (tt, (tt, tt))) first
 
 pub body-body-requires : goal.body-body-requires
@@ -47,18 +50,27 @@ returns-clause-read c =
     let rest = body second_version given ∷ [] in
     as_marks_where (λ none u.
     let counted = c.all_simplifications-steps.ensures.counted (open_before_where c.body-body.ensures.read (open_before (c.behind_steps.ensures.read c.args.names.now c.args.end []) none)) in
-    ap (λ (k : ℕ). fixed (codes "simplify ") ∷ word (numeral k) (in_range 0 1 (suc largest) k ∷ is_few simplifications k ∷ []) ∷ fixed (codes "\n") ∷ (simplifications_marks u w ss ++ (body_marks u w given d ++ closing))) (sym counted)
-    ∙ ap (λ (ms : List Mark). fixed (codes "simplify ") ∷ word (numeral (length ss)) (in_range 0 1 (suc largest) (length ss) ∷ is_few simplifications (length ss) ∷ []) ∷ fixed (codes "\n") ∷ ms) (sym (append_assoc (simplifications_marks u w ss) (body_marks u w given d) closing))
+    ap (λ (k : ℕ). fixed (codes "simplify ") ∷ word (numeral k) (in_range 0 1 (suc largest) k ∷ is_few simplifications k ∷ []) ∷ fixed (codes "\n")
+    ∷ (simplifications_marks u w ss ++ (body_marks u w given d ++ closing))) (sym counted)
+    ∙ ap (λ (ms : List Mark). fixed (codes "simplify ") ∷ word (numeral (length ss)) (in_range 0 1 (suc largest) (length ss) ∷ is_few simplifications (length ss) ∷ []) ∷ fixed
+    (codes "\n") ∷ ms) (sym (append_assoc (simplifications_marks u w ss) (body_marks u w given d) closing))
     ∙ ap (λ (e : math.Certificate). body_marks u w given e ++ closing) (sym (c.behind_steps.ensures.steps none)))
     (then_where (anywhere (c.in_default.ensures.steps names))
-    (then_where (reads_anywhere (framed rest (then_reads (c.counted_steps-count.ensures names simplification_count (λ k. between line ∷ simplifications_of k) refl) (framed (simplifications_of n) (c.text.ensures.read names (between line) [] refl)))))
-    (then_where (reads_anywhere (framed rest c.all_simplifications-steps.ensures.read)) (then_nothing_where c.body-body.ensures.read (reads_anywhere (c.behind_steps.ensures.read names c.args.end []))))))
+    (then_where (reads_anywhere (framed rest (then_reads (c.counted_steps-count.ensures names simplification_count (λ k. between line ∷ simplifications_of k) refl)
+    (framed (simplifications_of n) (c.text.ensures.read names (between line) [] refl)))))
+    (then_where (reads_anywhere (framed rest c.all_simplifications-steps.ensures.read))
+    (then_nothing_where c.body-body.ensures.read (reads_anywhere (c.behind_steps.ensures.read names c.args.end []))))))
 
 pub returns-clause-plain : goal.returns-clause-plain
 returns-clause-plain c = λ none.
     let all = map automaton_view c.args.automata.now in
     let was = open_before (c.behind_steps.ensures.read c.args.names.now c.args.end []) none in
-    subst (IsPlainBy second_version all) (sym (c.behind_steps.ensures.steps none)) (c.body-body.ensures.unsimplified, c.all_simplifications-steps.ensures.plain (open_before_where c.body-body.ensures.read (open_before (c.behind_steps.ensures.read c.args.names.now c.args.end []) none)), c.body-body.ensures.plain was)
+    subst (IsPlainBy second_version all) (sym (c.behind_steps.ensures.steps none)) (
+      c.body-body.ensures.unsimplified,
+      c.all_simplifications-steps.ensures.plain
+          (open_before_where c.body-body.ensures.read (open_before (c.behind_steps.ensures.read c.args.names.now c.args.end []) none)),
+      c.body-body.ensures.plain was,
+    )
 
 pub returns-in-Some-clause-plain : goal.returns-in-Some-clause-plain
 returns-in-Some-clause-plain c = c.of_kind.ensures.plain

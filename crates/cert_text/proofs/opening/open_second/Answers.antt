@@ -20,31 +20,38 @@ pub all_simplifications-steps-requires : goal.all_simplifications-steps-requires
 all_simplifications-steps-requires c =
     let names = c.args.names.now in
     let n = c.counted_steps-count.result in
-    let count = then_reads (c.counted_steps-count.ensures names simplification_count (λ k. between line ∷ simplifications_of k) refl) (framed (simplifications_of n) (c.text.ensures.read names (between line) [] refl)) in
-    subst (λ xs. AreShared second_version names (map automaton_view xs) (length c.args.bytes.now) c.text.new.at) (sym c.deref.ensures.value) (known_at_steps n c.requires (c.in_default.ensures.steps names) count)
+    let count = then_reads (c.counted_steps-count.ensures names simplification_count (λ k. between line ∷ simplifications_of k) refl)
+    (framed (simplifications_of n) (c.text.ensures.read names (between line) [] refl)) in
+    subst (λ xs. AreShared second_version names (map automaton_view xs) (length c.args.bytes.now) c.text.new.at) (sym c.deref.ensures.value)
+    (known_at_steps n c.requires (c.in_default.ensures.steps names) count)
 
 pub open_body-requires-2 : goal.open_body-requires-2
 open_body-requires-2 c =
     let names = c.args.names.now in
     let n = c.counted_steps-count.result in
-    let count = then_reads (c.counted_steps-count.ensures names simplification_count (λ k. between line ∷ simplifications_of k) refl) (framed (simplifications_of n) (c.text.ensures.read names (between line) [] refl)) in
+    let count = then_reads (c.counted_steps-count.ensures names simplification_count (λ k. between line ∷ simplifications_of k) refl)
+    (framed (simplifications_of n) (c.text.ensures.read names (between line) [] refl)) in
     let steps = c.all_simplifications-steps.ensures in
     record {
       given = c.args.given;
       steps = Some (map simp_view c.all_simplifications-steps.result.items);
-      begun = steps_begin_by _ n (map simp_view c.all_simplifications-steps.result.items) c.kind_word-kind.result (ap (map automaton_view) c.deref.ensures.value) c.requires (c.in_default.ensures.steps names) count steps.read steps.counted steps.plain steps.known (c.kind_word-kind.ensures names second_version);
+      begun = steps_begin_by _ n (map simp_view c.all_simplifications-steps.result.items) c.kind_word-kind.result (ap (map automaton_view) c.deref.ensures.value) c.requires
+          (c.in_default.ensures.steps names) count steps.read steps.counted steps.plain steps.known (c.kind_word-kind.ensures names second_version);
     }
 
 pub returns-in-Ok-clause-opened : goal.returns-in-Ok-clause-opened
 returns-in-Ok-clause-opened c =
     let names = c.args.names.now in
     let n = c.counted_steps-count.result in
-    let count = then_reads (c.counted_steps-count.ensures names simplification_count (λ k. between line ∷ simplifications_of k) refl) (framed (simplifications_of n) (c.text.ensures.read names (between line) [] refl)) in
+    let count = then_reads (c.counted_steps-count.ensures names simplification_count (λ k. between line ∷ simplifications_of k) refl)
+    (framed (simplifications_of n) (c.text.ensures.read names (between line) [] refl)) in
     let steps = c.all_simplifications-steps.ensures in
     let ss = map simp_view c.all_simplifications-steps.result.items in
-    subst (λ (t : OpenedText). IsOpenedAs names c.args.bytes.now t) (ap (λ (o : Opened). behind_steps ss (opened_view o)) (sym c.in-Ok.ensures.ok) ∙ sym (simplified_opened c.all_simplifications-steps.result c.in-Ok.body))
+    subst (λ (t : OpenedText). IsOpenedAs names c.args.bytes.now t) (ap (λ (o : Opened). behind_steps ss (opened_view o)) (sym c.in-Ok.ensures.ok)
+    ∙ sym (simplified_opened c.all_simplifications-steps.result c.in-Ok.body))
     (c.in_ok-body.ensures.opened (record {
       given = c.args.given;
       steps = Some ss;
-      begun = steps_begin_by _ n ss c.kind_word-kind.result (ap (map automaton_view) c.deref.ensures.value) c.requires (c.in_default.ensures.steps names) count steps.read steps.counted steps.plain steps.known (c.kind_word-kind.ensures names second_version);
+      begun = steps_begin_by _ n ss c.kind_word-kind.result (ap (map automaton_view) c.deref.ensures.value) c.requires (c.in_default.ensures.steps names) count steps.read
+          steps.counted steps.plain steps.known (c.kind_word-kind.ensures names second_version);
     }))

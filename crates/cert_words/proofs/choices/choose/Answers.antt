@@ -14,14 +14,17 @@ returns-then-is_some-clause-chosen c = λ names i cs e q.
 
 pub returns-in-Some-clause-chosen : goal.returns-in-Some-clause-chosen
 returns-in-Some-clause-chosen c = λ names i cs e q.
-    first_chosen names c.args.end i c.args.at.now _ c.args.at.now.left.now c.in-Some.rest.now cs c.in-Some.place (subst (λ (ls : List Lead). IsFirst c.args.at.now.left.now ls c.in-Some.place c.in-Some.rest.now) q c.in-Some.ensures)
-    (λ x w f h. go c.in-Some.rest (none_now _ _ c.is_some.ensures c.if-is_some.false) (text_run names c.args.end c.args.at.now.left.now c.args.at.now.shares i x.bytes w _ x.items (first_is i c.args.at.now.left.now _ _ e f) h))
+    first_chosen names c.args.end i c.args.at.now _ c.args.at.now.left.now c.in-Some.rest.now cs c.in-Some.place
+    (subst (λ (ls : List Lead). IsFirst c.args.at.now.left.now ls c.in-Some.place c.in-Some.rest.now) q c.in-Some.ensures)
+    (λ x w f h. go c.in-Some.rest (none_now _ _ c.is_some.ensures c.if-is_some.false) (text_run names c.args.end c.args.at.now.left.now c.args.at.now.shares i x.bytes w _ x.items
+    (first_is i c.args.at.now.left.now _ _ e f) h))
 
 pub returns-in-None-clause-chosen : goal.returns-in-None-clause-chosen
 returns-in-None-clause-chosen c = λ names i cs e q.
     let many = same_number c.args.texts.now cs q in
     past_last names c.args.end i c.args.at.now _ cs (length c.args.texts.now) c.stuck.result many refl
-    (stop c.stuck.result (none_now _ _ c.is_some.ensures c.if-is_some.false) (stuck_among names c.args.end c.args.at.now.left.now c.args.at.now.shares i c.stuck.result (map lead_of cs) (map bare c.args.texts.now) e
+    (stop c.stuck.result (none_now _ _ c.is_some.ensures c.if-is_some.false) (stuck_among names c.args.end c.args.at.now.left.now c.args.at.now.shares i c.stuck.result
+    (map lead_of cs) (map bare c.args.texts.now) e
     (none_of c.args.at.now.left.now cs (length c.args.texts.now) many (subst (Missed c.args.at.now.left.now (length c.args.texts.now)) q c.in-None.ensures))
     (same_longest c.args.at.now.left.now cs ∙ ap (λ (ls : List Lead). longest ls c.args.at.now.left.now) (sym q)) c.stuck.ensures))
 

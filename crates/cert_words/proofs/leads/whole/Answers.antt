@@ -8,4 +8,5 @@ returns c =
     let bytes = c.args.left.now in
     let size = c.scan-size.ensures.size ∙ ap (λ (m : Mode). (scan m bytes).size) c.mode_of.ensures in
     let mode = c.scan-size.ensures.mode ∙ ap (λ (m : Mode). (scan m bytes).mode) c.mode_of.ensures in
-    is_front c.args.lead bytes _ _ _ c.requires (sym (ap is_word mode) ∙ sym c.is_word.ensures ∙ c.if-not-is_word.false) size c.scan-size.ensures.within c.split_at.ensures.front c.split_at.ensures.back (sym c.ends_lead.ensures ∙ c.if-not-ends_lead.false)
+    is_front c.args.lead bytes _ _ _ c.requires (sym (ap is_word mode) ∙ sym c.is_word.ensures ∙ c.if-not-is_word.false) size c.scan-size.ensures.within c.split_at.ensures.front
+    c.split_at.ensures.back (sym c.ends_lead.ensures ∙ c.if-not-ends_lead.false)

@@ -8,12 +8,15 @@ pub places_of-requires-clause-spelt : goal.places_of-requires-clause-spelt
 places_of-requires-clause-spelt c = spelt_place _ _ _ c.in-Some.ensures
 
 pub returns-in_default : goal.returns-in_default
-returns-in_default c = λ names i new e. stop _ (none_now _ _ c.is_some.ensures c.if-is_some.false) (stuck_one names c.args.end c.args.at.now.left.now c.args.at.now.shares i _ _ e c.in_default.ensures c.stuck.ensures)
+returns-in_default c = λ names i new e. stop _ (none_now _ _ c.is_some.ensures c.if-is_some.false)
+    (stuck_one names c.args.end c.args.at.now.left.now c.args.at.now.shares i _ _ e c.in_default.ensures c.stuck.ensures)
 
 pub returns-in-Ok : goal.returns-in-Ok
 returns-in-Ok c = λ names i new e. go _ (none_now _ _ c.is_some.ensures c.if-is_some.false)
-    (position_run names c.args.end c.args.at.now.left.now c.args.at.now.shares i _ _ new _ (first_one i c.args.at.now.left.now _ _ e c.in-Some.ensures.there) c.in-Some.ensures (c.in-Ok.ensures names).0 (subst (λ (k : ℕ). verdict names k (are_places 0 (places c.in-Some.word.now)) ≡ None) c.saturating_sub.ensures (c.in-Ok.ensures names).1))
+    (position_run names c.args.end c.args.at.now.left.now c.args.at.now.shares i _ _ new _ (first_one i c.args.at.now.left.now _ _ e c.in-Some.ensures.there) c.in-Some.ensures
+    (c.in-Ok.ensures names).0 (subst (λ (k : ℕ). verdict names k (are_places 0 (places c.in-Some.word.now)) ≡ None) c.saturating_sub.ensures (c.in-Ok.ensures names).1))
 
 pub returns-in-Err : goal.returns-in-Err
 returns-in-Err c = λ names i new e. stop _ (none_now _ _ c.is_some.ensures c.if-is_some.false)
-    (position_stop names c.args.end c.args.at.now.left.now c.args.at.now.shares i _ _ new _ (first_one i c.args.at.now.left.now _ _ e c.in-Some.ensures.there) c.in-Some.ensures (subst (λ (k : ℕ). IsTold (verdict names k (are_places 0 (places c.in-Some.word.now))) (told c.in-Err.refused)) c.saturating_sub.ensures (c.in-Err.ensures names)))
+    (position_stop names c.args.end c.args.at.now.left.now c.args.at.now.shares i _ _ new _ (first_one i c.args.at.now.left.now _ _ e c.in-Some.ensures.there) c.in-Some.ensures
+    (subst (λ (k : ℕ). IsTold (verdict names k (are_places 0 (places c.in-Some.word.now))) (told c.in-Err.refused)) c.saturating_sub.ensures (c.in-Err.ensures names)))

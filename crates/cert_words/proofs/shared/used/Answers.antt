@@ -7,14 +7,18 @@ use Rattle.cert_words.proofs.Sharings.{use_read, use_bad, use_heavy}
 use Rattle.cert_words.proofs.shared.used.Goals as goal
 
 pub returns-in_default-clause-read : goal.returns-in_default-clause-read
-returns-in_default-clause-read c = λ names i new e. stop _ (none_now _ _ c.is_some.ensures c.if-is_some.false) (stuck_one names c.args.end c.args.at.now.left.now c.args.at.now.shares i _ _ e c.in_default.ensures c.stuck.ensures)
+returns-in_default-clause-read c = λ names i new e. stop _ (none_now _ _ c.is_some.ensures c.if-is_some.false)
+    (stuck_one names c.args.end c.args.at.now.left.now c.args.at.now.shares i _ _ e c.in_default.ensures c.stuck.ensures)
 
 pub returns-in_default-within-clause-read : goal.returns-in_default-within-clause-read
 returns-in_default-within-clause-read c = λ names i new e. stop _ (none_now _ _ c.is_some.ensures c.if-is_some.false)
-    (number_stop names c.args.end c.args.at.now.left.now c.args.at.now.shares i _ new _ _ _ (first_one i c.args.at.now.left.now _ _ e c.in-Some.ensures.there) c.in-Some.ensures (out_of_range names _ 0 (suc largest) (value c.in-Some.word.now) _ (shares (is_use (value c.in-Some.word.now)) ∷ shares (is_light (value c.in-Some.word.now)) ∷ []) c.place-here.ensures c.in_default-within.ensures))
+    (number_stop names c.args.end c.args.at.now.left.now c.args.at.now.shares i _ new _ _ _ (first_one i c.args.at.now.left.now _ _ e c.in-Some.ensures.there) c.in-Some.ensures
+    (out_of_range names _ 0 (suc largest) (value c.in-Some.word.now) _ (shares (is_use (value c.in-Some.word.now)) ∷ shares (is_light (value c.in-Some.word.now)) ∷ [])
+    c.place-here.ensures c.in_default-within.ensures))
 
 pub returns-in-Good-clause-read : goal.returns-in-Good-clause-read
-returns-in-Good-clause-read c = λ names i new e. use_read names c.args.end c.args.at.now i c.in-Some.word.now new c.in-Some-within.n _ e (none_now _ _ c.is_some.ensures c.if-is_some.false) (none_now _ _ c.is_some.ensures c.if-is_some.false) c.in-Some.ensures c.in-Some-within.ensures c.in-Good.ensures
+returns-in-Good-clause-read c = λ names i new e. use_read names c.args.end c.args.at.now i c.in-Some.word.now new c.in-Some-within.n _ e
+    (none_now _ _ c.is_some.ensures c.if-is_some.false) (none_now _ _ c.is_some.ensures c.if-is_some.false) c.in-Some.ensures c.in-Some-within.ensures c.in-Good.ensures
 
 pub returns-in-Good-clause-used : goal.returns-in-Good-clause-used
 returns-in-Good-clause-used c = λ none. c.in-Good.ensures.0

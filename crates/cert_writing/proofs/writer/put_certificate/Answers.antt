@@ -6,4 +6,5 @@ use Rattle.cert_writing.proofs.writer.put_certificate.Goals as goal
 pub returns-in-Ok : goal.returns-in-Ok
 returns-in-Ok g c =
     let p = g.met.O.Output.parts in
-    as_text g.O.Output.took _ _ _ _ (whole_text c.args.names.now (certificate_view c.args.cert.now) _ c.in-Ok.ensures) (p _ _ _ _ _ c.put_heading.ensures (p _ _ _ _ _ c.put_body.ensures c.put.ensures))
+    as_text g.O.Output.took _ _ _ _ (whole_text c.args.names.now (certificate_view c.args.cert.now) _ c.in-Ok.ensures)
+    (p _ _ _ _ _ c.put_heading.ensures (p _ _ _ _ _ c.put_body.ensures c.put.ensures))

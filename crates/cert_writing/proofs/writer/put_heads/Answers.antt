@@ -7,4 +7,5 @@ use Rattle.cert_writing.proofs.writer.put_heads.Goals as goal
 
 pub heads-preserved : goal.heads-preserved
 heads-preserved g c =
-    next_of g.O.Output.took g.met.O.Output.parts (λ xs. heads_text c.args.names.now (map head_view xs)) (λ x. head_line_text c.args.names.now (head_view x)) (λ x xs. refl) _ _ _ _ _ _ _ c.heads-test.true c.heads.invariant c.put_head_line.ensures
+    next_of g.O.Output.took g.met.O.Output.parts (λ xs. heads_text c.args.names.now (map head_view xs)) (λ x. head_line_text c.args.names.now (head_view x)) (λ x xs. refl) _ _ _ _
+    _ _ _ c.heads-test.true c.heads.invariant c.put_head_line.ensures

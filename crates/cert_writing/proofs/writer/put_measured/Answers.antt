@@ -12,4 +12,5 @@ returns-in-File g c =
 pub returns-in-Aux : goal.returns-in-Aux
 returns-in-Aux g c =
     let p = g.met.O.Output.parts in
-    as_text g.O.Output.took _ _ _ _ (ap (λ x. measured_text c.args.names.now (head_view x)) c.in-Aux.is) (p _ _ _ _ _ c.put-in-Aux.ensures (p _ _ _ _ _ c.put_number.ensures (p _ _ _ _ _ c.put-in-Aux-2.ensures c.put_number-in-Aux.ensures)))
+    as_text g.O.Output.took _ _ _ _ (ap (λ x. measured_text c.args.names.now (head_view x)) c.in-Aux.is)
+    (p _ _ _ _ _ c.put-in-Aux.ensures (p _ _ _ _ _ c.put_number.ensures (p _ _ _ _ _ c.put-in-Aux-2.ensures c.put_number-in-Aux.ensures)))

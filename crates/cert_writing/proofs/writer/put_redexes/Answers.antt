@@ -8,4 +8,6 @@ use Rattle.cert_writing.proofs.writer.put_redexes.Goals as goal
 
 pub redexes-preserved : goal.redexes-preserved
 redexes-preserved g c =
-    next_lent g.O.Output.took g.met.O.Output.parts (λ xs. redexes_text c.args.names.now (uses_view c.args.names.now c.args.uses.now) (map redex_view xs)) (λ x. redex_text c.args.names.now (uses_view c.args.names.now c.args.uses.now) (redex_view x)) (λ x xs. refl) _ _ _ _ _ _ _ c.redexes-test.true c.redex-item.is c.redexes.invariant c.put_redex.ensures
+    next_lent g.O.Output.took g.met.O.Output.parts (λ xs. redexes_text c.args.names.now (uses_view c.args.names.now c.args.uses.now) (map redex_view xs))
+    (λ x. redex_text c.args.names.now (uses_view c.args.names.now c.args.uses.now) (redex_view x)) (λ x xs. refl) _ _ _ _ _ _ _ c.redexes-test.true c.redex-item.is
+    c.redexes.invariant c.put_redex.ensures

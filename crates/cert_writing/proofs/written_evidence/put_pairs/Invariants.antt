@@ -6,4 +6,5 @@ use Rattle.cert_writing.proofs.Writing.{Leads}
 use Rattle.cert_writing.proofs.written_evidence.put_pairs.Given as goal
 
 abbrev pub invariant-pairs : goal.invariant-pairs
-invariant-pairs g l = Leads g.O.Output.took l.fn.to (pairs_text l.names (uses_view l.names l.uses) (map pair_entry_view l.pairs)) l.to (pairs_text l.names (uses_view l.names l.uses) (map pair_entry_view (drop l.pair-index l.pairs)))
+invariant-pairs g l = Leads g.O.Output.took l.fn.to (pairs_text l.names (uses_view l.names l.uses) (map pair_entry_view l.pairs)) l.to
+    (pairs_text l.names (uses_view l.names l.uses) (map pair_entry_view (drop l.pair-index l.pairs)))

@@ -7,4 +7,5 @@ use Rattle.cert_writing.proofs.written_evidence.put_transitions.Goals as goal
 
 pub transitions-preserved : goal.transitions-preserved
 transitions-preserved g c =
-    next_lent g.O.Output.took g.met.O.Output.parts (λ xs. transitions_text c.args.names.now (map transition_view xs)) (λ x. transition_text c.args.names.now (transition_view x)) (λ x xs. refl) _ _ _ _ _ _ _ c.transitions-test.true c.transition-item.is c.transitions.invariant c.put_transition.ensures
+    next_lent g.O.Output.took g.met.O.Output.parts (λ xs. transitions_text c.args.names.now (map transition_view xs)) (λ x. transition_text c.args.names.now (transition_view x))
+    (λ x xs. refl) _ _ _ _ _ _ _ c.transitions-test.true c.transition-item.is c.transitions.invariant c.put_transition.ensures

@@ -19,8 +19,10 @@ put_step-conds-init g t c =
     let ok = c.in-Rule.conds.ok.0 in
     let counted = c.len.ensures in
     let many : c.len.result ≡ length c.in-Rule.conds.items = omega (arith, ok, counted) in
-    conditions_begin g.O.Output.took g.met.O.Output.parts _ _ c.args.step.now _ c.in-Rule.pos c.in-Rule.conds _ _ _ c.in-Rule.is c.deref.ensures.value many c.deref-cond-items.ensures.value c.put_rule_line.ensures
+    conditions_begin g.O.Output.took g.met.O.Output.parts _ _ c.args.step.now _ c.in-Rule.pos c.in-Rule.conds _ _ _ c.in-Rule.is c.deref.ensures.value many
+    c.deref-cond-items.ensures.value c.put_rule_line.ensures
 
 pub put_step-conds-preserved : goal.put_step-conds-preserved
 put_step-conds-preserved g t c =
-    next_lent g.O.Output.took g.met.O.Output.parts (λ xs. derivations_text (derivations_of (map derivation_view xs))) (λ d. derivation_text (derivation_view d)) (λ d ds. refl) _ _ _ _ _ _ _ c.conds-test.true c.cond-item.is c.conds.invariant c.put_derivation.ensures
+    next_lent g.O.Output.took g.met.O.Output.parts (λ xs. derivations_text (derivations_of (map derivation_view xs))) (λ d. derivation_text (derivation_view d))
+    (λ d ds. refl) _ _ _ _ _ _ _ c.conds-test.true c.cond-item.is c.conds.invariant c.put_derivation.ensures

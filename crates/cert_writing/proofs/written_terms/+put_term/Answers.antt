@@ -17,7 +17,8 @@ put_arguments-further-init g t c = arguments_begin g.O.Output.took g.met.O.Outpu
 pub put_arguments-further-preserved : goal.put_arguments-further-preserved
 put_arguments-further-preserved g t c =
     let p = g.met.O.Output.parts in
-    next_lent g.O.Output.took p (λ xs. further_text c.args.names.now (views xs)) (λ x. codes "," ++ term_text c.args.names.now (view x)) (λ x xs. refl) _ _ _ _ _ _ _ c.further-test.true c.arg-item.is c.further.invariant (p _ _ _ _ _ c.put-in-further.ensures c.put_term-in-further.ensures)
+    next_lent g.O.Output.took p (λ xs. further_text c.args.names.now (views xs)) (λ x. codes "," ++ term_text c.args.names.now (view x)) (λ x xs. refl) _ _ _ _ _ _ _
+    c.further-test.true c.arg-item.is c.further.invariant (p _ _ _ _ _ c.put-in-further.ensures c.put_term-in-further.ensures)
 
 pub put_arguments-returns-after-further : goal.put_arguments-returns-after-further
 put_arguments-returns-after-further g t c = none_left g.O.Output.took (λ xs. further_text c.args.names.now (views xs)) _ _ _ _ _ _ c.further-test.false c.further.invariant c.put-in-len1-up.ensures

@@ -10,6 +10,7 @@ returns g c =
     record {
       asks = c.judge-judged.ensures.begins;
       says =
-          answered (IsCheckAnswer (shelf_run g.S.Shelf c.args.shelf.now c.judge-judged.new.shelf) c.args.check.file.now c.args.check.cert.now) (said_of_check c.args.check.file.now c.args.check.cert.now) (reply_said c.judged_reply.result)
+          answered (IsCheckAnswer (shelf_run g.S.Shelf c.args.shelf.now c.judge-judged.new.shelf) c.args.check.file.now c.args.check.cert.now)
+          (said_of_check c.args.check.file.now c.args.check.cert.now) (reply_said c.judged_reply.result)
           (check_answer c.judge-judged.result) c.judge-judged.ensures.answers c.judged_reply.ensures;
     }

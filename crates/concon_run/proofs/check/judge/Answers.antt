@@ -11,7 +11,8 @@ returns-clause-answers g c =
     let failed = Rose (g.S.Shelf.faults c.system_of.new.shelf c.args.cert.now) (g.S.Shelf.faults c.verdict_on.new.shelf c.args.cert.now) in
     certificate_answered (shelf_run g.S.Shelf c.args.shelf.now c.verdict_on.new.shelf) c.args.file.now c.args.cert.now
     c.in-Ok.found.0 c.in-Ok.found.1 c.in-Ok.ensures.answers failed (rose_since _ _ _ (c.system_of.ensures.never_falls c.args.cert.now)) c.verdict_on.result
-    (subst (λ contents. CertificateAnswers (told_or_any (contents c.args.cert.now)) failed c.in-Ok.found.0 c.in-Ok.found.1 c.verdict_on.result) c.system_of.ensures.contents c.verdict_on.ensures.answers)
+    (subst (λ contents. CertificateAnswers (told_or_any (contents c.args.cert.now)) failed c.in-Ok.found.0 c.in-Ok.found.1 c.verdict_on.result)
+    c.system_of.ensures.contents c.verdict_on.ensures.answers)
 
 pub returns-clause-begins : goal.returns-clause-begins
 returns-clause-begins g c = inr c.verdict_on.ensures.begun

@@ -10,6 +10,7 @@ returns g c =
     record {
       asks = c.search-searched.ensures.begun;
       says =
-          answered (IsProveAnswer (shelf_run g.S.Shelf c.args.shelf.now c.search-searched.new.shelf) c.args.prove.file.now c.args.prove.budget) (said_of_prove c.args.prove.file.now) (reply_said c.searched_reply.result)
+          answered (IsProveAnswer (shelf_run g.S.Shelf c.args.shelf.now c.search-searched.new.shelf) c.args.prove.file.now c.args.prove.budget)
+          (said_of_prove c.args.prove.file.now) (reply_said c.searched_reply.result)
           (prove_answer c.search-searched.result) c.search-searched.ensures.answers c.searched_reply.ensures;
     }

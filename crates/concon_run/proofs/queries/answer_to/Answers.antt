@@ -12,7 +12,8 @@ returns-clause-answers g c =
     let failed = Rose (g.S.Shelf.faults c.system_of.new.shelf c.args.query.now) (g.S.Shelf.faults c.reply_on.new.shelf c.args.query.now) in
     query_answered (shelf_run g.S.Shelf c.args.shelf.now c.reply_on.new.shelf) c.args.file.now c.args.query.now c.args.units
     c.in-Ok.found.0 c.in-Ok.found.1 c.in-Ok.ensures.answers failed (rose_since _ _ _ (c.system_of.ensures.never_falls c.args.query.now)) c.reply_on.result
-    (subst (λ contents. QueryReplies (told_or_any (contents c.args.query.now)) failed c.in-Ok.found.0 c.in-Ok.found.1 c.args.units c.reply_on.result) c.system_of.ensures.contents c.reply_on.ensures.answers)
+    (subst (λ contents. QueryReplies (told_or_any (contents c.args.query.now)) failed c.in-Ok.found.0 c.in-Ok.found.1 c.args.units c.reply_on.result)
+    c.system_of.ensures.contents c.reply_on.ensures.answers)
 
 pub returns-clause-begins : goal.returns-clause-begins
 returns-clause-begins g c = inr c.reply_on.ensures.begun

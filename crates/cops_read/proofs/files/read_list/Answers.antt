@@ -48,7 +48,8 @@ of_sound-system-requires-clause-sound c =
     rules_sound tree c.args.file h c.in_ok-read_block.field-0 c.new.result.symbols c.is_some-has_type.result c.args.file.rules.items
     (block_is tree c.args.file c.in_ok-read_block.field-0 c.deref.result.now h c.in_ok-read_block.ensures c.deref.ensures.value) (ap (λ (n : NameTable). n.symbols) c.new.ensures)
     (type_is tree c.args.file c.is_some-has_type.result h c.is_some-has_type.ensures) refl
-    c.read_rules.new.scope.names c.in_ok-arities.arities.items c.in_ok-rules.rules.items c.in_ok-rules.ensures.rules (c.in_ok-arities.ensures ∙ ap (λ (n : NameTable). map (λ (s : List ℕ × ℕ). s.1) n.symbols) c.into_names-names.ensures)
+    c.read_rules.new.scope.names c.in_ok-arities.arities.items c.in_ok-rules.rules.items c.in_ok-rules.ensures.rules
+    (c.in_ok-arities.ensures ∙ ap (λ (n : NameTable). map (λ (s : List ℕ × ℕ). s.1) n.symbols) c.into_names-names.ensures)
 
 pub of_sound-system-requires-clause-counted : goal.of_sound-system-requires-clause-counted
 of_sound-system-requires-clause-counted c =
@@ -57,7 +58,8 @@ of_sound-system-requires-clause-counted c =
     rules_counted tree c.args.file h c.in_ok-read_block.field-0 c.new.result.symbols c.is_some-has_type.result c.args.file.rules.items
     (block_is tree c.args.file c.in_ok-read_block.field-0 c.deref.result.now h c.in_ok-read_block.ensures c.deref.ensures.value) (ap (λ (n : NameTable). n.symbols) c.new.ensures)
     (type_is tree c.args.file c.is_some-has_type.result h c.is_some-has_type.ensures) refl
-    c.read_rules.new.scope.names c.in_ok-arities.arities.items c.in_ok-rules.rules.items c.in_ok-rules.ensures.rules (c.in_ok-arities.ensures ∙ ap (λ (n : NameTable). map (λ (s : List ℕ × ℕ). s.1) n.symbols) c.into_names-names.ensures)
+    c.read_rules.new.scope.names c.in_ok-arities.arities.items c.in_ok-rules.rules.items c.in_ok-rules.ensures.rules
+    (c.in_ok-arities.ensures ∙ ap (λ (n : NameTable). map (λ (s : List ℕ × ℕ). s.1) n.symbols) c.into_names-names.ensures)
 
 pub returns : goal.returns
 returns c tree h =
@@ -65,4 +67,5 @@ returns c tree h =
     (file_read tree c.args.file h c.in_ok-read_block.field-0 c.new.result.symbols c.is_some-has_type.result c.args.file.rules.items
     (block_is tree c.args.file c.in_ok-read_block.field-0 c.deref.result.now h c.in_ok-read_block.ensures c.deref.ensures.value) (ap (λ (n : NameTable). n.symbols) c.new.ensures)
     (type_is tree c.args.file c.is_some-has_type.result h c.is_some-has_type.ensures) refl
-    c.read_rules.new.scope.names c.in_ok-arities.arities.items c.in_ok-rules.rules.items c.in_ok-rules.ensures.rules (c.in_ok-arities.ensures ∙ ap (λ (n : NameTable). map (λ (s : List ℕ × ℕ). s.1) n.symbols) c.into_names-names.ensures) c.of_sound-system.result c.of_sound-system.ensures)
+    c.read_rules.new.scope.names c.in_ok-arities.arities.items c.in_ok-rules.rules.items c.in_ok-rules.ensures.rules
+    (c.in_ok-arities.ensures ∙ ap (λ (n : NameTable). map (λ (s : List ℕ × ℕ). s.1) n.symbols) c.into_names-names.ensures) c.of_sound-system.result c.of_sound-system.ensures)

@@ -14,7 +14,8 @@ pub returns-in_err-cond-clause-conditions : goal.returns-in_err-cond-clause-cond
 returns-in_err-cond-clause-conditions c cs h =
     let n = next_condition c.args.texts.now cs c.conditions.i c.index-texts-i.result h c.conditions-test.true c.index-texts-i.is in
     let told = rw c.conditions.invariant.block at (c.in_err-cond.ensures.condition n.item n.is) in
-    handed (ConditionsAnswers c.args.scope.now.block c.args.scope.now.names.symbols c.args.scope.now.variables c.args.rule cs c.read_condition.new.scope.names.symbols c.read_condition.new.scope.variables)
+    handed (ConditionsAnswers c.args.scope.now.block c.args.scope.now.names.symbols c.args.scope.now.variables c.args.rule cs c.read_condition.new.scope.names.symbols
+    c.read_condition.new.scope.variables)
     c.in_err-cond.field-0.0 c.from_residual.result c.from_residual.ensures.1
     (conditions_fail c.args.scope.now.block c.args.scope.now.names.symbols c.args.scope.now.variables c.args.rule cs c.conditions.i c.conditions.scope.names.symbols c.conditions.scope.variables
     c.conditions.conds.items (c.conditions.invariant.read cs h) (IsCondition c.index-texts-i.result) n c.in_err-cond.field-0.0 told)
@@ -24,8 +25,10 @@ conditions-preserved c = record {
   read = λ cs h.
       let n = next_condition c.args.texts.now cs c.conditions.i c.index-texts-i.result h c.conditions-test.true c.index-texts-i.is in
       let read = rw c.conditions.invariant.block at (c.in_ok-cond.ensures.condition n.item n.is) in
-      let next = conditions_step c.args.scope.now.block c.args.scope.now.names.symbols c.args.scope.now.variables c.args.rule cs c.conditions.i c.conditions.scope.names.symbols c.conditions.scope.variables
-      c.conditions.conds.items (c.conditions.invariant.read cs h) (IsCondition c.index-texts-i.result) n c.read_condition.new.scope.names.symbols c.read_condition.new.scope.variables c.in_ok-cond.cond read in
+      let next = conditions_step c.args.scope.now.block c.args.scope.now.names.symbols c.args.scope.now.variables c.args.rule cs c.conditions.i
+      c.conditions.scope.names.symbols c.conditions.scope.variables
+      c.conditions.conds.items (c.conditions.invariant.read cs h) (IsCondition c.index-texts-i.result) n c.read_condition.new.scope.names.symbols
+      c.read_condition.new.scope.variables c.in_ok-cond.cond read in
       rw (add-one, c.in_ok-push.ensures.items) next;
   block = c.in_ok-cond.ensures.block ∙ c.conditions.invariant.block;
   rules = c.in_ok-cond.ensures.rules ∙ c.conditions.invariant.rules;

@@ -15,7 +15,8 @@ read_rule-requires-clause-text c =
 
 pub returns-in_err-rule-clause-rules : goal.returns-in_err-rule-clause-rules
 returns-in_err-rule-clause-rules c trees h =
-    let n = rule_taken c.args.texts.items c.rules.yielded (into_iter_items c.rules.text-iterator) c.in-Some.text (into_iter_items c.next.new.self) c.rules.invariant.left c.in-Some.ensures.steps.0 trees h in
+    let n = rule_taken c.args.texts.items c.rules.yielded (into_iter_items c.rules.text-iterator) c.in-Some.text (into_iter_items c.next.new.self) c.rules.invariant.left
+    c.in-Some.ensures.steps.0 trees h in
     let number : c.len-in-rules.result ≡ length c.rules.yielded = c.len-in-rules.ensures ∙ c.rules.rules.ok.0 ∙ c.rules.invariant.number in
     let told = rw (c.rules.invariant.block, number) at (c.in_err-rule.ensures.rule n.item n.is) in
     handed (RulesAnswers c.args.scope.now.block c.args.has_type c.args.scope.now.names.symbols trees c.read_rule.new.scope.names.symbols c.read_rule.new.scope.names.variables)
@@ -26,7 +27,8 @@ returns-in_err-rule-clause-rules c trees h =
 pub rules-preserved : goal.rules-preserved
 rules-preserved c = record {
   read = λ trees h.
-      let n = rule_taken c.args.texts.items c.rules.yielded (into_iter_items c.rules.text-iterator) c.in-Some.text (into_iter_items c.next.new.self) c.rules.invariant.left c.in-Some.ensures.steps.0 trees h in
+      let n = rule_taken c.args.texts.items c.rules.yielded (into_iter_items c.rules.text-iterator) c.in-Some.text (into_iter_items c.next.new.self) c.rules.invariant.left
+      c.in-Some.ensures.steps.0 trees h in
       let number : c.len-in-rules.result ≡ length c.rules.yielded = c.len-in-rules.ensures ∙ c.rules.rules.ok.0 ∙ c.rules.invariant.number in
       let next = rules_step_as c.args.scope.now.block c.args.has_type c.args.scope.now.names.symbols trees (length c.rules.yielded) c.rules.scope.names.symbols c.rules.scope.names.variables
       c.rules.rules.items (c.rules.invariant.read trees h) (IsRule c.in-Some.text) n c.rules.scope.block c.read_rule.new.scope.names.symbols c.read_rule.new.scope.names.variables

@@ -35,7 +35,8 @@ read_term-returns-in_err-terms-in-Symbol-clause-term t c p rest h =
     let told = c.in_err-terms-in-Symbol.ensures.terms (arguments_of p) rest many (later c.args.nodes.now c.args.place.before p rest h) in
     let told' = rw c.in_ok-number.ensures.block at told in
     handed (TermAnswers c.args.scope.now.block c.args.scope.now.names.symbols c.args.scope.now.variables (side_at c.args.place) c.args.place.depth c.args.place.argument c.args.place.before p
-    c.read_arguments.new.scope.names.symbols c.read_arguments.new.scope.variables) c.in_err-terms-in-Symbol.field-0.0 c.from_residual-in_err-terms-in-Symbol.result c.from_residual-in_err-terms-in-Symbol.ensures.1
+    c.read_arguments.new.scope.names.symbols c.read_arguments.new.scope.variables) c.in_err-terms-in-Symbol.field-0.0 c.from_residual-in_err-terms-in-Symbol.result
+    c.from_residual-in_err-terms-in-Symbol.ensures.1
     (arguments_fail c.args.scope.now.block c.args.scope.now.names.symbols c.args.scope.now.variables (side_at c.args.place) c.args.place.depth c.args.place.argument c.args.place.before
     p (node_view c.in-Some.node.now) c.read_head.new.scope.names.symbols c.read_head.new.scope.variables c.in-Symbol.number c.in_err-terms-in-Symbol.field-0.0 same head.0 head.1 told')
 
@@ -93,7 +94,8 @@ read_arguments-returns-in_err-term-clause-terms t c ps rest many h =
     let loop = c.arguments.invariant.read ps rest many h in
     let test = c.arguments-test.true in
     let n = next_phrase ps c.arguments.argument (omega (arith, many)) in
-    let told = c.in_err-term.ensures.term n.phrase _ (nodes_here c.args.scope.now.block c.args.scope.now.names.symbols c.args.scope.now.variables (side_at c.args.first) c.args.first.depth c.args.first.before
+    let told = c.in_err-term.ensures.term n.phrase _ (nodes_here c.args.scope.now.block c.args.scope.now.names.symbols c.args.scope.now.variables (side_at c.args.first)
+    c.args.first.depth c.args.first.before
     c.args.nodes.now ps rest c.arguments.argument c.arguments.scope.names.symbols c.arguments.scope.variables c.arguments.terms.items c.arguments.before loop n) in
     let told' = rw c.arguments.invariant.block at told in
     handed (ArgumentsAnswers c.args.scope.now.block c.args.scope.now.names.symbols c.args.scope.now.variables (side_at c.args.first) c.args.first.depth c.args.first.before ps
@@ -107,7 +109,8 @@ read_arguments-arguments-preserved t c = record {
       let loop = c.arguments.invariant.read ps rest many h in
       let test = c.arguments-test.true in
       let n = next_phrase ps c.arguments.argument (omega (arith, many)) in
-      let read = c.in_ok-term.ensures.term n.phrase _ (nodes_here c.args.scope.now.block c.args.scope.now.names.symbols c.args.scope.now.variables (side_at c.args.first) c.args.first.depth c.args.first.before
+      let read = c.in_ok-term.ensures.term n.phrase _ (nodes_here c.args.scope.now.block c.args.scope.now.names.symbols c.args.scope.now.variables (side_at c.args.first)
+      c.args.first.depth c.args.first.before
       c.args.nodes.now ps rest c.arguments.argument c.arguments.scope.names.symbols c.arguments.scope.variables c.arguments.terms.items c.arguments.before loop n) in
       let read' = rw c.arguments.invariant.block at read in
       let next = loop_step c.args.scope.now.block c.args.scope.now.names.symbols c.args.scope.now.variables (side_at c.args.first) c.args.first.depth c.args.first.before

@@ -9,7 +9,8 @@ use Rattle.cops_read.proofs.terms.+term.Given as goal
 abbrev pub invariant-read_arguments-arguments : goal.invariant-read_arguments-arguments
 invariant-read_arguments-arguments l = record {
   read : (ps : Phrases) (rest : List Node) → l.count ≡ count ps → nodes_view (drop l.first.before l.nodes) ≡ flat_all ps ++ rest
-      → Loop l.fn.scope.block l.fn.scope.names.symbols l.fn.scope.variables (side_at l.first) l.first.depth l.first.before l.nodes ps rest l.argument l.scope.names.symbols l.scope.variables l.terms.items l.before;
+      → Loop l.fn.scope.block l.fn.scope.names.symbols l.fn.scope.variables (side_at l.first) l.first.depth l.first.before l.nodes ps rest l.argument l.scope.names.symbols
+      l.scope.variables l.terms.items l.before;
   block : l.scope.block ≡ l.fn.scope.block;
   rules : l.scope.names.variables ≡ l.fn.scope.names.variables;
   few : length l.scope.variables ≤ most_variables;

@@ -12,7 +12,8 @@ put_arguments-further-init t c = arguments_begin _ _ _ _ c.in-len1-up.len_at_lea
 pub put_arguments-further-preserved : goal.put_arguments-further-preserved
 put_arguments-further-preserved t c =
     let text = λ (xs : List Term). further_text c.args.names.now c.args.rule (views xs) in
-    next_of text text (λ (x : Term). codes "," ++ term_text c.args.names.now c.args.rule (view x)) (λ x xs. refl) _ _ _ c.further-test.true c.arg-item.is c.further.invariant (both c.in_ok-put-2.ensures c.in_ok-put_term-2.ensures)
+    next_of text text (λ (x : Term). codes "," ++ term_text c.args.names.now c.args.rule (view x)) (λ x xs. refl) _ _ _ c.further-test.true c.arg-item.is c.further.invariant
+    (both c.in_ok-put-2.ensures c.in_ok-put_term-2.ensures)
 
 pub put_arguments-returns-in_ok-put-3 : goal.put_arguments-returns-in_ok-put-3
 put_arguments-returns-in_ok-put-3 t c = ends (none_left (λ (xs : List Term). further_text c.args.names.now c.args.rule (views xs)) _ _ c.further-test.false c.further.invariant) c.in_ok-put-3.ensures

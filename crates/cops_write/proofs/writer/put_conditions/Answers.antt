@@ -12,4 +12,5 @@ others-init c = conditions_begin _ _ _ _ c.in-len1-up.len_at_least c.first-item.
 pub others-preserved : goal.others-preserved
 others-preserved c =
     let text = λ (xs : List Cond). others_text c.args.names.now c.args.rule (map condition_view xs) in
-    next_of text text (λ (x : Cond). codes ", " ++ condition_text c.args.names.now c.args.rule (condition_view x)) (λ x xs. refl) _ _ _ c.others-test.true c.cond-item.is c.others.invariant (both c.in_ok-put-2.ensures c.in_ok-put_condition-2.ensures)
+    next_of text text (λ (x : Cond). codes ", " ++ condition_text c.args.names.now c.args.rule (condition_view x)) (λ x xs. refl) _ _ _ c.others-test.true c.cond-item.is
+    c.others.invariant (both c.in_ok-put-2.ensures c.in_ok-put_condition-2.ensures)

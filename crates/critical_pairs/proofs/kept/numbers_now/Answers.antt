@@ -7,7 +7,8 @@ note-requires c = number_fits c.args.earlier.now c.requires.origins.0 c.args.ori
 
 pub loop-place-preserved : goal.loop-place-preserved
 loop-place-preserved c =
-    let next = next_noted c.args.earlier.now c.requires.origins.0 c.args.origins.now c.requires.origins.1 c.loop-place.now.items c.loop-place.place (c.loop-place.place + 1) _ (add-one c.loop-place.place) refl c.loop-place.invariant.long c.loop-place.invariant.numbers in
+    let next = next_noted c.args.earlier.now c.requires.origins.0 c.args.origins.now c.requires.origins.1 c.loop-place.now.items c.loop-place.place (c.loop-place.place + 1) _
+    (add-one c.loop-place.place) refl c.loop-place.invariant.long c.loop-place.invariant.numbers in
     record { long = ap length c.note.ensures ∙ next.0; numbers = subst (λ z. AreFirstNumbers c.args.origins.now z (c.loop-place.place + 1)) (sym c.note.ensures) next.1 }
 
 pub returns : goal.returns

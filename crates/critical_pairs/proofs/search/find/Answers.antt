@@ -56,7 +56,8 @@ loop-inner-smaller c =
     let sys = c.args.sys.now in
     let s = stands (goal.at.loop-inner-smaller c).In-Some in
     fewer_left sys (rest_of sys c.loop-inner.cursor) _ (c.in-Some.inner, (s.at.0, c.settle.new.self.outer))
-    (pass_more sys (rest_of sys c.loop-inner.cursor) (rest_of sys c.settle.new.self) _ c.settle.ensures.passes (next_there sys c.requires.sound c.settle.new.self _ c.in-Some.inner c.settle.ensures.cursor s refl refl refl (add-one c.settle.new.self.candidate)))
+    (pass_more sys (rest_of sys c.loop-inner.cursor) (rest_of sys c.settle.new.self) _ c.settle.ensures.passes
+    (next_there sys c.requires.sound c.settle.new.self _ c.in-Some.inner c.settle.ensures.cursor s refl refl refl (add-one c.settle.new.self.candidate)))
 
 pub loop-inner-preserved : goal.loop-inner-preserved
 loop-inner-preserved c =

@@ -10,10 +10,14 @@ use Rattle.critical_pairs.proofs.spots.overlap_by.Goals.{After-index-outer_rules
 
 -- the renamed rules of the triple
 low : (c : After-index-outer_rules-triple) → rule_view c.index-inner_rules-triple.result ≡ rule_under even c.requires.spot.inner
-low c = low_renamed c.args.sys.now c.args.triple.now.inner c.args.triple.now.pos.now c.args.triple.now.outer c.requires.spot c.inner_rules.result.now c.outer_rules.result.now c.inner_rules.ensures.rules c.outer_rules.ensures.rules c.index-inner_rules-triple.result c.index-outer_rules-triple.result c.index-inner_rules-triple.is c.index-outer_rules-triple.is
+low c = low_renamed c.args.sys.now c.args.triple.now.inner c.args.triple.now.pos.now c.args.triple.now.outer c.requires.spot c.inner_rules.result.now c.outer_rules.result.now
+    c.inner_rules.ensures.rules c.outer_rules.ensures.rules c.index-inner_rules-triple.result c.index-outer_rules-triple.result
+    c.index-inner_rules-triple.is c.index-outer_rules-triple.is
 
 high : (c : After-index-outer_rules-triple) → rule_view c.index-outer_rules-triple.result ≡ rule_under odd c.requires.spot.outer
-high c = high_renamed c.args.sys.now c.args.triple.now.inner c.args.triple.now.pos.now c.args.triple.now.outer c.requires.spot c.inner_rules.result.now c.outer_rules.result.now c.inner_rules.ensures.rules c.outer_rules.ensures.rules c.index-inner_rules-triple.result c.index-outer_rules-triple.result c.index-inner_rules-triple.is c.index-outer_rules-triple.is
+high c = high_renamed c.args.sys.now c.args.triple.now.inner c.args.triple.now.pos.now c.args.triple.now.outer c.requires.spot c.inner_rules.result.now c.outer_rules.result.now
+    c.inner_rules.ensures.rules c.outer_rules.ensures.rules c.index-inner_rules-triple.result c.index-outer_rules-triple.result
+    c.index-inner_rules-triple.is c.index-outer_rules-triple.is
 
 pub pair-requires-clause-inner : goal.pair-requires-clause-inner
 pair-requires-clause-inner c =
@@ -27,7 +31,9 @@ pair-requires-clause-outer c =
 
 pub pair-requires-clause-there : goal.pair-requires-clause-there
 pair-requires-clause-there c =
-    has_position c.args.sys.now c.args.triple.now.inner c.args.triple.now.pos.now c.args.triple.now.outer c.requires.spot c.inner_rules.result.now c.outer_rules.result.now c.inner_rules.ensures.rules c.outer_rules.ensures.rules c.index-inner_rules-triple.result c.index-outer_rules-triple.result c.index-inner_rules-triple.is c.index-outer_rules-triple.is
+    has_position c.args.sys.now c.args.triple.now.inner c.args.triple.now.pos.now c.args.triple.now.outer c.requires.spot c.inner_rules.result.now c.outer_rules.result.now
+    c.inner_rules.ensures.rules c.outer_rules.ensures.rules c.index-inner_rules-triple.result c.index-outer_rules-triple.result
+    c.index-inner_rules-triple.is c.index-outer_rules-triple.is
 
 pub pair-requires-clause-few : goal.pair-requires-clause-few
 pair-requires-clause-few c =
@@ -47,6 +53,7 @@ pub returns-in-Err-TooLarge : goal.returns-in-Err-TooLarge
 returns-in-Err-TooLarge c =
     let at = (goal.at.returns-in-Err-TooLarge c).After-index-outer_rules-triple in
     let q =
-    subst (λ z. PairAnswers (values_of c.args.m.now) c.args.triple.now.inner c.args.triple.now.pos.now c.args.triple.now.outer (rule_view c.index-inner_rules-triple.result) (rule_view c.index-outer_rules-triple.result) (Err z)) c.in-Err-TooLarge.field-0-is
+    subst (λ z. PairAnswers (values_of c.args.m.now) c.args.triple.now.inner c.args.triple.now.pos.now c.args.triple.now.outer (rule_view c.index-inner_rules-triple.result)
+    (rule_view c.index-outer_rules-triple.result) (Err z)) c.in-Err-TooLarge.field-0-is
     c.in-Err-TooLarge.ensures in
     refused_there _ _ _ _ c.too_large.result (pair_too_large c.args.sys.now _ _ _ c.args.m.now c.requires _ _ (low at) (high at) q) c.too_large.ensures

@@ -9,14 +9,20 @@ use Rattle.critical_pairs.proofs.spots.unifier_at.Goals.{In-Some}
 
 -- the renamed terms of the triple
 low : (c : In-Some) → view c.index-inner_rules-triple.result.left ≡ apply even c.requires.inner.left
-low c = ap (λ z. z.left) (low_renamed c.args.sys.now c.args.triple.now.inner c.args.triple.now.pos.now c.args.triple.now.outer c.requires c.inner_rules.result.now c.outer_rules.result.now c.inner_rules.ensures.rules c.outer_rules.ensures.rules c.index-inner_rules-triple.result c.index-outer_rules-triple.result c.index-inner_rules-triple.is c.index-outer_rules-triple.is)
+low c = ap (λ z. z.left) (low_renamed c.args.sys.now c.args.triple.now.inner c.args.triple.now.pos.now c.args.triple.now.outer c.requires c.inner_rules.result.now
+    c.outer_rules.result.now c.inner_rules.ensures.rules c.outer_rules.ensures.rules c.index-inner_rules-triple.result c.index-outer_rules-triple.result
+    c.index-inner_rules-triple.is c.index-outer_rules-triple.is)
 
 part : (c : In-Some) → view c.in-Some.part.now ≡ apply odd c.requires.part
-part c = part_renamed c.args.sys.now c.args.triple.now.inner c.args.triple.now.pos.now c.args.triple.now.outer c.requires c.inner_rules.result.now c.outer_rules.result.now c.inner_rules.ensures.rules c.outer_rules.ensures.rules c.index-inner_rules-triple.result c.index-outer_rules-triple.result c.index-inner_rules-triple.is c.index-outer_rules-triple.is (view c.in-Some.part.now) c.in-Some.ensures
+part c = part_renamed c.args.sys.now c.args.triple.now.inner c.args.triple.now.pos.now c.args.triple.now.outer c.requires c.inner_rules.result.now c.outer_rules.result.now
+    c.inner_rules.ensures.rules c.outer_rules.ensures.rules c.index-inner_rules-triple.result c.index-outer_rules-triple.result c.index-inner_rules-triple.is
+    c.index-outer_rules-triple.is (view c.in-Some.part.now) c.in-Some.ensures
 
 pub unreachable-requires : goal.unreachable-requires
 unreachable-requires c =
-    has_part c.args.sys.now c.args.triple.now.inner c.args.triple.now.pos.now c.args.triple.now.outer c.requires c.inner_rules.result.now c.outer_rules.result.now c.inner_rules.ensures.rules c.outer_rules.ensures.rules c.index-inner_rules-triple.result c.index-outer_rules-triple.result c.index-inner_rules-triple.is c.index-outer_rules-triple.is c.in_default.ensures
+    has_part c.args.sys.now c.args.triple.now.inner c.args.triple.now.pos.now c.args.triple.now.outer c.requires c.inner_rules.result.now c.outer_rules.result.now
+    c.inner_rules.ensures.rules c.outer_rules.ensures.rules c.index-inner_rules-triple.result c.index-outer_rules-triple.result c.index-inner_rules-triple.is
+    c.index-outer_rules-triple.is c.in_default.ensures
 
 pub returns-in-Clash : goal.returns-in-Clash
 returns-in-Clash c =

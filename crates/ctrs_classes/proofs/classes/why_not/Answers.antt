@@ -24,9 +24,11 @@ returns-in-Some c = (
 
 pub loop-i-preserved : goal.loop-i-preserved
 loop-i-preserved c =
-    rules_next c.args.sys.now c.rules-rule-items.result.now c.rules-rule-items.ensures.rules (λ r. IsInClass c.args.sys.now (class_view c.args.class) r) c.loop-i.i c.rule-item.result c.loop-i-test.true
+    rules_next c.args.sys.now c.rules-rule-items.result.now c.rules-rule-items.ensures.rules (λ r. IsInClass c.args.sys.now (class_view c.args.class) r) c.loop-i.i
+    c.rule-item.result c.loop-i-test.true
     c.rule-item.is c.in_default.ensures c.loop-i.invariant
 
 pub returns : goal.returns
 returns c =
-    rules_all c.args.sys.now c.rules-rule-items.result.now c.rules-rule-items.ensures.rules (λ r. IsInClass c.args.sys.now (class_view c.args.class) r) c.loop-i.i c.loop-i-test.false c.loop-i.invariant
+    rules_all c.args.sys.now c.rules-rule-items.result.now c.rules-rule-items.ensures.rules (λ r. IsInClass c.args.sys.now (class_view c.args.class) r) c.loop-i.i
+    c.loop-i-test.false c.loop-i.invariant

@@ -50,7 +50,8 @@ after_step-returns-then-len t c =
     let r = rule_view c.in-Some.rule.now in
     let m : IsMatch r.left term c.in-Rule.pos.items c.in_ok-found-in-Rule.found = subst (λ q. IsMatch r.left term q c.in_ok-found-in-Rule.found) c.deref.ensures.value c.in_ok-found-in-Rule.ensures in
     judged_here (λ u. StepsTo sys hyps term s (view u.term) × IsCounted u) (StepFails sys hyps term s) wrong_count c.here-then-len.result c.here-then-len.ensures
-    (miscounted sys hyps term s c.in-Rule.rule c.in-Rule.pos.items ds is r c.in-Some.ensures.rule c.in_ok-found-in-Rule.found m (λ e. c.if-len.true (c.len.ensures ∙ sym (counted_derivations c.in-Rule.conds) ∙ e ∙ counted_conditions c.in-Some.rule.now.conds ∙ sym c.len-in-Rule.ensures)))
+    (miscounted sys hyps term s c.in-Rule.rule c.in-Rule.pos.items ds is r c.in-Some.ensures.rule c.in_ok-found-in-Rule.found m
+    (λ e. c.if-len.true (c.len.ensures ∙ sym (counted_derivations c.in-Rule.conds) ∙ e ∙ counted_conditions c.in-Some.rule.now.conds ∙ sym c.len-in-Rule.ensures)))
 
 pub after_step-returns-in_err-values-in-Rule : goal.after_step-returns-in_err-values-in-Rule
 after_step-returns-in_err-values-in-Rule t c =
@@ -67,7 +68,8 @@ after_step-returns-in_err-values-in-Rule t c =
     (FailFrom sys hyps 1 start (map condition_view c.deref-in-Rule-2.result.now) (derivations_of (map derivation_view c.deref-in-Rule.result.now)))
     (λ u. StepsTo sys hyps term s (view u.term) × IsCounted u) (StepFails sys hyps term s)
     c.from_residual-in_err-values-in-Rule.result c.in_err-values-in-Rule.field-0.0 c.from_residual-in_err-values-in-Rule.ensures.0 c.from_residual-in_err-values-in-Rule.ensures.1
-    (λ path reason h. unmet sys hyps term s c.in-Rule.rule c.in-Rule.pos.items ds is r c.in-Some.ensures.rule c.in_ok-found-in-Rule.found m (counted_derivations c.in-Rule.conds ∙ sym c.len.ensures ∙ c.if-len.false ∙ c.len-in-Rule.ensures ∙ sym (counted_conditions c.in-Some.rule.now.conds)) path reason
+    (λ path reason h. unmet sys hyps term s c.in-Rule.rule c.in-Rule.pos.items ds is r c.in-Some.ensures.rule c.in_ok-found-in-Rule.found m
+    (counted_derivations c.in-Rule.conds ∙ sym c.len.ensures ∙ c.if-len.false ∙ c.len-in-Rule.ensures ∙ sym (counted_conditions c.in-Some.rule.now.conds)) path reason
     (subst₂ (λ cs xs. FailFrom sys hyps 1 start (map condition_view cs) (derivations_of (map derivation_view xs)) path reason) c.deref-in-Rule-2.ensures.value c.deref-in-Rule.ensures.value h))
     c.in_err-values-in-Rule.ensures
 
@@ -84,25 +86,30 @@ after_step-returns-in_ok-values-in-Rule t c =
     let m : IsMatch r.left term c.in-Rule.pos.items found = subst (λ q. IsMatch r.left term q found) c.deref.ensures.value c.in_ok-found-in-Rule.ensures in
     let values = c.in_ok-values-in-Rule.values in
     let met : AreMet sys hyps found.values r.conditions ds values =
-    subst₂ (λ cs xs. AreMet sys hyps found.values (map condition_view cs) (derivations_of (map derivation_view xs)) values) c.deref-in-Rule-2.ensures.value c.deref-in-Rule.ensures.value c.in_ok-values-in-Rule.ensures in
+    subst₂ (λ cs xs. AreMet sys hyps found.values (map condition_view cs) (derivations_of (map derivation_view xs)) values) c.deref-in-Rule-2.ensures.value
+    c.deref-in-Rule.ensures.value c.in_ok-values-in-Rule.ensures in
     let rest = view found.rest.term in
-    judged_map (λ u. IsContracted r.right values rest c.deref-in-Rule-3.result.now (view u.term) × IsCounted u) (λ path reason. (path ≡ []) × HasNoContractum r.right values rest c.deref-in-Rule-3.result.now reason)
+    judged_map (λ u. IsContracted r.right values rest c.deref-in-Rule-3.result.now (view u.term) × IsCounted u)
+    (λ path reason. (path ≡ []) × HasNoContractum r.right values rest c.deref-in-Rule-3.result.now reason)
     (λ u. StepsTo sys hyps term s (view u.term) × IsCounted u) (StepFails sys hyps term s)
     c.contracted.result
     (λ u h. (
       stepped sys hyps term s c.in-Rule.rule c.in-Rule.pos.items ds is r c.in-Some.ensures.rule found m values met (view u.term)
-          (contracted_back term rest m.part c.in-Rule.pos.items m.stands m.rest r.right values (view u.term) (subst (λ q. IsContracted r.right values rest q (view u.term)) c.deref-in-Rule-3.ensures.value h.0)) h.1.fits,
+          (contracted_back term rest m.part c.in-Rule.pos.items m.stands m.rest r.right values (view u.term)
+          (subst (λ q. IsContracted r.right values rest q (view u.term)) c.deref-in-Rule-3.ensures.value h.0)) h.1.fits,
       h.1,
     ))
     (λ path reason h. uncontracted sys hyps term s c.in-Rule.rule c.in-Rule.pos.items ds is r c.in-Some.ensures.rule found m values met path reason
-    (let g = subst (λ q. (path ≡ []) × HasNoContractum r.right values rest q reason) c.deref-in-Rule-3.ensures.value h in (g.0, uncontracted_back term rest m.part c.in-Rule.pos.items m.stands m.rest r.right values reason g.1)))
+    (let g = subst (λ q. (path ≡ []) × HasNoContractum r.right values rest q reason) c.deref-in-Rule-3.ensures.value h in
+    (g.0, uncontracted_back term rest m.part c.in-Rule.pos.items m.stands m.rest r.right values reason g.1)))
     c.contracted.ensures
 
 pub after_step-contracted-requires-clause-there : goal.after_step-contracted-requires-clause-there
 after_step-contracted-requires-clause-there t c =
     let found = c.in_ok-found-in-Rule.found in
     let m = c.in_ok-found-in-Rule.ensures in
-    subst (λ q. HasSizeAt (view found.rest.term) q 1) (c.deref.ensures.value ∙ sym c.deref-in-Rule-3.ensures.value) (open_size (view c.args.t.term) (view found.rest.term) m.part c.deref.result.now m.stands m.rest)
+    subst (λ q. HasSizeAt (view found.rest.term) q 1) (c.deref.ensures.value ∙ sym c.deref-in-Rule-3.ensures.value)
+    (open_size (view c.args.t.term) (view found.rest.term) m.part c.deref.result.now m.stands m.rest)
 
 pub run-loop-step-init : goal.run-loop-step-init
 run-loop-step-init t c =
@@ -134,7 +141,8 @@ run-returns-in-Err t c =
     judged_below (λ u. StepsTo sys hyps here (step_view x) (view u.term) × IsCounted u) (StepFails sys hyps here (step_view x))
     (λ u. Derives sys hyps start whole (view u.term) × IsCounted u) (FailsFrom sys hyps 1 start whole)
     (c.loop-step.number + 1) c.in-Err.e c.below.result c.below.ensures
-    (failing_step c.deref-step-items.result.now c.loop-step.step-index x c.loop-step-test.true c.step-item.is sys hyps here start whole c.loop-step.invariant.running c.loop-step.number c.loop-step.invariant.number)
+    (failing_step c.deref-step-items.result.now c.loop-step.step-index x c.loop-step-test.true c.step-item.is sys hyps here start whole c.loop-step.invariant.running
+    c.loop-step.number c.loop-step.invariant.number)
     c.in-Err.ensures
 
 pub run-loop-step-preserved : goal.run-loop-step-preserved

@@ -8,7 +8,8 @@ use Rattle.derivation.proofs.judge.+judge.Given as goal
 
 abbrev pub invariant-run-loop-step : goal.invariant-run-loop-step
 invariant-run-loop-step l = record {
-  running : Running l.sys (map condition_view l.hyps) (l.step-index + 1) (view l.t.term) (derivation_of (map step_view (drop l.step-index l.step-items))) (view l.fn.start.term) (derivation_view l.fn.d);
+  running : Running l.sys (map condition_view l.hyps) (l.step-index + 1) (view l.t.term) (derivation_of (map step_view (drop l.step-index l.step-items)))
+      (view l.fn.start.term) (derivation_view l.fn.d);
   counted : IsCounted l.t;
   number : l.number ≡ l.step-index;
   few : length l.step-items < 2 ^ 32;

@@ -22,8 +22,11 @@ exchange-was-requires t c =
     let is = sym c.replace-2.ensures.value ∙ c.in-Fun.is in
     let split = c.in-Some.ensures.cases.0 in
     let least = low c.args.t.now c.in-Fun.f c.in-Fun.args c.args.p.now c.in-Some.rest.now c.in-Some.k.now is split c.requires.there in
-    let next : c.in-Some.k.now - 1 + 1 ≡ c.in-Some.k.now = omega (arith, least) in
-    (search rules, inside c.args.t.now c.in-Fun.f c.in-Fun.args c.args.p.now c.in-Some.rest.now c.in-Some.k.now is split c.requires.there (c.in-Some.k.now - 1) c.index_mut.result.now next c.index_mut.ensures.value)
+    let next : c.in-Some.k.now - 1 + 1 ≡ c.in-Some.k.now = omega (arith, least) in (
+      search rules,
+      inside c.args.t.now c.in-Fun.f c.in-Fun.args c.args.p.now c.in-Some.rest.now c.in-Some.k.now is split c.requires.there
+          (c.in-Some.k.now - 1) c.index_mut.result.now next c.index_mut.ensures.value,
+    )
 
 pub returns-in-Fun-clause-was : goal.returns-in-Fun-clause-was
 returns-in-Fun-clause-was t c =
@@ -31,7 +34,8 @@ returns-in-Fun-clause-was t c =
     let split = c.in-Some.ensures.cases.0 in
     let least = low c.args.t.now c.in-Fun.f c.in-Fun.args c.args.p.now c.in-Some.rest.now c.in-Some.k.now is split c.requires.there in
     let next : c.in-Some.k.now - 1 + 1 ≡ c.in-Some.k.now = omega (arith, least) in
-    stood c.args.t.now c.in-Fun.f c.in-Fun.args c.args.p.now c.in-Some.rest.now c.in-Some.k.now is split c.requires.there (c.in-Some.k.now - 1) c.index_mut.result.now next c.index_mut.ensures.value (view c.exchange-was.result) c.exchange-was.ensures.was
+    stood c.args.t.now c.in-Fun.f c.in-Fun.args c.args.p.now c.in-Some.rest.now c.in-Some.k.now is split c.requires.there (c.in-Some.k.now - 1) c.index_mut.result.now next
+    c.index_mut.ensures.value (view c.exchange-was.result) c.exchange-was.ensures.was
 
 pub returns-in-Fun-clause-put : goal.returns-in-Fun-clause-put
 returns-in-Fun-clause-put t c =
@@ -39,4 +43,5 @@ returns-in-Fun-clause-put t c =
     let split = c.in-Some.ensures.cases.0 in
     let least = low c.args.t.now c.in-Fun.f c.in-Fun.args c.args.p.now c.in-Some.rest.now c.in-Some.k.now is split c.requires.there in
     let next : c.in-Some.k.now - 1 + 1 ≡ c.in-Some.k.now = omega (arith, least) in
-    whole c.args.t.now c.in-Fun.f c.in-Fun.args c.args.p.now c.in-Some.rest.now c.in-Some.k.now is split c.requires.there _ (c.in-Some.k.now - 1) c.index_mut.result.now c.exchange-was.new.t (view c.args.part) next c.index_mut.ensures.value refl c.exchange-was.ensures.put
+    whole c.args.t.now c.in-Fun.f c.in-Fun.args c.args.p.now c.in-Some.rest.now c.in-Some.k.now is split c.requires.there _ (c.in-Some.k.now - 1) c.index_mut.result.now
+    c.exchange-was.new.t (view c.args.part) next c.index_mut.ensures.value refl c.exchange-was.ensures.put

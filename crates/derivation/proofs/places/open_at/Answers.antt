@@ -32,6 +32,7 @@ returns-clause-some c =
       rest = put;
       counted = record {
         nodes = omega (arith, same, was, c.size-was.ensures, c.requires.nodes);
-        fits = replaced_fits t p part (var 0) rest stands put c.requires.fits (omega (arith, c.requires.fits.nodes, size_some part)) (omega (arith, smaller.0, c.requires.fits.levels, depth_some part));
+        fits = replaced_fits t p part (var 0) rest stands put c.requires.fits (omega (arith, c.requires.fits.nodes, size_some part))
+            (omega (arith, smaller.0, c.requires.fits.levels, depth_some part));
       };
     }

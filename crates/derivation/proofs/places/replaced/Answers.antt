@@ -59,6 +59,7 @@ returns-clause-some c =
       put,
       record {
         nodes = omega (arith, grown, was, all, less, nodes, room);
-        fits = replaced_fits (view c.args.t.term) c.args.p.now h.0 (view c.args.part) (view c.exchange-gone.new.t) h.1 put fits (omega (arith, was, all, less, nodes, room)) (omega (arith, deep, levels, shallow));
+        fits = replaced_fits (view c.args.t.term) c.args.p.now h.0 (view c.args.part) (view c.exchange-gone.new.t) h.1 put fits (omega (arith, was, all, less, nodes, room))
+            (omega (arith, deep, levels, shallow));
       },
     )

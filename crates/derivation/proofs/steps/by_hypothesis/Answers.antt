@@ -19,7 +19,8 @@ returns-in_default-nodes_where c =
     let hyps = map condition_view c.args.hyps.now in
     let t = view c.args.t.term in
     let p = c.args.p.now in
-    judged_empty (λ u. HypothesisStep hyps t c.args.number p (view u.term) × IsCounted u) (HypothesisFails hyps t c.args.number p) no_redex c.here-in_default-nodes_where.result c.here-in_default-nodes_where.ensures
+    judged_empty (λ u. HypothesisStep hyps t c.args.number p (view u.term) × IsCounted u) (HypothesisFails hyps t c.args.number p) no_redex c.here-in_default-nodes_where.result
+    c.here-in_default-nodes_where.ensures
     (hypothesis_elsewhere hyps t c.args.number p (condition_view c.in-Some.h.now) c.in-Some.ensures c.in_default-nodes_where.ensures.none)
 
 pub returns-in-None : goal.returns-in-None
@@ -28,4 +29,5 @@ returns-in-None c =
     let t = view c.args.t.term in
     let p = c.args.p.now in
     judged_empty (λ u. HypothesisStep hyps t c.args.number p (view u.term) × IsCounted u) (HypothesisFails hyps t c.args.number p) too_large c.here-in-None.result c.here-in-None.ensures
-    (hypothesis_large hyps t c.args.number p (condition_view c.in-Some.h.now) (view c.in_ok-part.part) c.in-Some.ensures c.in-Some-nodes_where.ensures.some.0 c.in_ok-part.ensures c.in-None.ensures.none)
+    (hypothesis_large hyps t c.args.number p (condition_view c.in-Some.h.now) (view c.in_ok-part.part) c.in-Some.ensures c.in-Some-nodes_where.ensures.some.0
+    c.in_ok-part.ensures c.in-None.ensures.none)

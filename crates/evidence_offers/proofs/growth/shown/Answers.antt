@@ -6,4 +6,5 @@ use Rattle.evidence_offers.proofs.growth.shown.Goals as goal
 
 pub returns-in-Err-Reason : goal.returns-in-Err-Reason
 returns-in-Err-Reason c =
-    not_shown c.args.sys.now (map condition_view c.args.conds.now) c.args.cond (automaton_view c.args.automaton) c.in-Err-Reason.field-0 c.in-Err-Reason.field-0-0 c.in-Err-Reason.field-0-is c.in-Err-Reason.ensures
+    not_shown c.args.sys.now (map condition_view c.args.conds.now) c.args.cond (automaton_view c.args.automaton) c.in-Err-Reason.field-0 c.in-Err-Reason.field-0-0
+    c.in-Err-Reason.field-0-is c.in-Err-Reason.ensures

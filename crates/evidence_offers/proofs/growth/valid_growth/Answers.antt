@@ -17,7 +17,8 @@ returns-in_default c = subst (λ z. MayGive c.args.sys.now z None) c.in_default.
 pub returns-in-Some-2 : goal.returns-in-Some-2
 returns-in-Some-2 c =
     let h = rw c.in-Some-2.is at c.in_ok-automaton.ensures in
-    gives_shown c.args.sys.now (map condition_view c.args.conds.now) c.args.cond (condition_view c.in-Some.asked.now) (sym c.in-Some.ensures) (automaton_view c.in-Some-2.automaton) h.0 c.shown.result c.shown.ensures
+    gives_shown c.args.sys.now (map condition_view c.args.conds.now) c.args.cond (condition_view c.in-Some.asked.now) (sym c.in-Some.ensures) (automaton_view c.in-Some-2.automaton)
+    h.0 c.shown.result c.shown.ensures
 
 pub returns-in-None : goal.returns-in-None
 returns-in-None c =
@@ -25,4 +26,5 @@ returns-in-None c =
 
 pub returns-in-Var : goal.returns-in-Var
 returns-in-Var c =
-    gives_none_for c.args.sys.now (map condition_view c.args.conds.now) c.args.cond (condition_view c.in-Some.asked.now) (sym c.in-Some.ensures) c.in-Var.field-0 (ap view c.in-Var.is ∙ view-Var c.in-Var.field-0)
+    gives_none_for c.args.sys.now (map condition_view c.args.conds.now) c.args.cond (condition_view c.in-Some.asked.now) (sym c.in-Some.ensures) c.in-Var.field-0
+    (ap view c.in-Var.is ∙ view-Var c.in-Var.field-0)

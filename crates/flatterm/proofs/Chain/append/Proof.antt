@@ -1,7 +1,11 @@
 -- `append` joins the new cells to the last two.
 use mathlib.Core.Bool.{true, false}
 use mathlib.Core.List.{append_assoc}
-use Rattle.flatterm.proofs.Steps.{fact, raw, heard, ◌≡◌, List, [], ◌∷◌, ◌++◌, refl, sym, ap, subst, ◌∙◌, arith, proved, after, ftrue, flft, vunit, vptr, tables, ‵, ◌⊛◌, at_ret, ◌$◌, ◌∵◌, !, qed, done, move, keep, drop, use1, use2, split, join, fsplit, fsplit3, fjoin, feq_i, rewrite, suffices, frame, enter, of_opd, unit_lit, load, stop, fld, assigns, assigns_last, first, blocks, exec, returns, alloc_all, pass_all, free_all, look_at, get, through, sets, is, env, whole, sub, look_in, store_in, Ptr, null_ptr, ptr_val, MutRef, mut_vals, mut_Tells, named, plain, nothing, Stays, walk_of, says, stay_ref, Goes-ref, ends_at}
+use Rattle.flatterm.proofs.Steps.{fact, raw, heard, ◌≡◌, List, [], ◌∷◌, ◌++◌, refl, sym, ap, subst, ◌∙◌, arith, proved, after, ftrue, flft, vunit, vptr, tables, ‵, ◌⊛◌, at_ret}
+use Rattle.flatterm.proofs.Steps.{◌$◌, ◌∵◌, !, qed, done, move, keep, drop, use1, use2, split, join, fsplit, fsplit3, fjoin, feq_i, rewrite, suffices, frame, enter, of_opd}
+use Rattle.flatterm.proofs.Steps.{unit_lit, load, stop, fld, assigns, assigns_last, first, blocks, exec, returns, alloc_all, pass_all, free_all, look_at, get, through, sets, is}
+use Rattle.flatterm.proofs.Steps.{env, whole, sub, look_in, store_in, Ptr, null_ptr, ptr_val, MutRef, mut_vals, mut_Tells, named, plain, nothing, Stays, walk_of, says, stay_ref}
+use Rattle.flatterm.proofs.Steps.{Goes-ref, ends_at}
 use types.Kit.{split3, fjoin3}
 use types.Run.{false_lit}
 use types.ByLocal.{get_in}
@@ -53,10 +57,24 @@ append_spec 𝓤 𝓛 𝓜 𝓡 wired =
     let ended : d.tail ≡ L.0 = sym d.ending ∙ old in
     let after' : Items = C ∷ ((inner ++ g.items) ++ L ∷ []) in
     let joined : after' ≡ xs ++ B ∷ F ∷ (within ++ D ∷ L ∷ []) =
-    ap (λ m. C ∷ m) (append_assoc inner g.items (L ∷ [])) ∙ (λ i. fr.whole i ++ (o.whole i ++ L ∷ [])) ∙ append_assoc xs (B ∷ []) (F ∷ ((within ++ D ∷ []) ++ L ∷ [])) ∙ ap (λ m. xs ++ B ∷ F ∷ m) (append_assoc within (D ∷ []) (L ∷ [])) in
-    let kept : (p : Ptr) → IsAt d.items 0 p → IsAt after' 0 p = λ p h. subst (λ cs. IsAt cs 0 p) (sym joined) (first_kept xs B (L ∷ []) (F ∷ (within ++ D ∷ L ∷ [])) p (subst (λ cs. IsAt cs 0 p) items h)) in
+    ap (λ m. C ∷ m) (append_assoc inner g.items (L ∷ [])) ∙ (λ i. fr.whole i ++ (o.whole i ++ L ∷ [])) ∙ append_assoc xs (B ∷ []) (F ∷ ((within ++ D ∷ []) ++ L ∷ []))
+    ∙ ap (λ m. xs ++ B ∷ F ∷ m) (append_assoc within (D ∷ []) (L ∷ [])) in
+    let kept : (p : Ptr) → IsAt d.items 0 p → IsAt after' 0 p = λ p h. subst (λ cs. IsAt cs 0 p) (sym joined)
+    (first_kept xs B (L ∷ []) (F ∷ (within ++ D ∷ L ∷ [])) p (subst (λ cs. IsAt cs 0 p) items h)) in
     let ending : last_from null_ptr after' ≡ d.tail = ap (last_from null_ptr) joined ∙ last_app null_ptr xs B (F ∷ (within ++ D ∷ L ∷ [])) ∙ last_app F.0 within D (L ∷ []) ∙ sym ended in
-    let new : Chain = record { head = d.head; tail = d.tail; at = d.at; alloc = a; items = after'; place = 0; before = d.before; after = d.after; here = kept d.at (subst (λ j. IsAt d.items j d.at) asked.0 d.here); first = kept d.head d.first; ending = ending } in
+    let new : Chain = record {
+      head = d.head;
+      tail = d.tail;
+      at = d.at;
+      alloc = a;
+      items = after';
+      place = 0;
+      before = d.before;
+      after = d.after;
+      here = kept d.at (subst (λ j. IsAt d.items j d.at) asked.0 d.here);
+      first = kept d.head d.first;
+      ending = ending;
+    } in
     split ! $ split ! $ move ! (2 ∷ []) $ split3 ! $ keep ! (0 ∷ 3 ∷ 1 ∷ []) $
     enter ! _ _ _ _ _ $ alloc_all ! (λ l. pass_all ! refl ((tt, tt), (((C-laws.the_row_laws.lawful 𝓛).typed g (words g) are.1.0).0, tt)) $
     fsplit3 ! $ move ! (1 ∷ 2 ∷ 3 ∷ []) $ chain_opens ! tt d rb ro (λ fits.

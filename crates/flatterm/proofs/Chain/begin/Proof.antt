@@ -3,7 +3,9 @@ use Rattle.flatterm.proofs.Steps.{List, feq_i}
 use mir.Val.{Val}
 use Rattle.std.proofs.RcSteps.{Ptr-Good}
 use Prim.Native.Nat.{◌+◌}
-use Rattle.flatterm.proofs.Steps.{[], ◌∷◌, refl, proved, ftrue, flft, tables, ‵, ◌⊛◌, ◌$◌, ◌∵◌, !, qed, done, move, keep, drop, split, join, fsplit, fjoin, suffices, frame, enter, of_opd, load, look, stop, fld, returns, alloc_all, pass_all, free_all, look_at, through, sets, ptr_val, ShrRef, shr_vals, shr_Tells, named, plain, nothing, Stays, walk_of, says, stay_dropped, Goes-dropped, ends_at}
+use Rattle.flatterm.proofs.Steps.{[], ◌∷◌, refl, proved, ftrue, flft, tables, ‵, ◌⊛◌, ◌$◌, ◌∵◌, !, qed, done, move, keep, drop, split, join, fsplit, fjoin, suffices, frame, enter}
+use Rattle.flatterm.proofs.Steps.{of_opd, load, look, stop, fld, returns, alloc_all, pass_all, free_all, look_at, through, sets, ptr_val, ShrRef, shr_vals, shr_Tells, named, plain}
+use Rattle.flatterm.proofs.Steps.{nothing, Stays, walk_of, says, stay_dropped, Goes-dropped, ends_at}
 use denote.Builtin.{RefOf}
 use denote.Exit.{yes}
 use Rattle.flatterm.proofs.Memory.{Ch, word_taken, word_given, chain_Head}

@@ -2,7 +2,11 @@
 use mathlib.Core.Bool.{true, false}
 use mathlib.Core.List.{append_assoc}
 use lib.ListN.{length}
-use Rattle.flatterm.proofs.Steps.{fact, raw, heard, ◌≡◌, List, [], ◌∷◌, ◌++◌, refl, sym, ap, subst, ◌∙◌, arith, proved, after, full_share, ftrue, flft, vunit, vptr, tables, ‵, ◌⊛◌, at_ret, ◌$◌, ◌∵◌, !, qed, done, move, keep, use1, use2, split, join, fsplit, fsplit3, fjoin, feq_i, rewrite, suffices, frame, enter, of_opd, unit_lit, load, stop, fld, assigns, assigns_last, first, blocks, exec, returns, alloc_all, pass_all, free_all, look_at, get, through, sets, is, env, whole, sub, look_in, store_in, Ptr, null_ptr, ptr_val, MutRef, mut_vals, mut_Tells, named, plain, nothing, Stays, walk_of, says, stay_ref, Goes-ref, ends_at}
+use Rattle.flatterm.proofs.Steps.{fact, raw, heard, ◌≡◌, List, [], ◌∷◌, ◌++◌, refl, sym, ap, subst, ◌∙◌, arith, proved, after, full_share, ftrue, flft, vunit, vptr, tables, ‵, ◌⊛◌}
+use Rattle.flatterm.proofs.Steps.{at_ret, ◌$◌, ◌∵◌, !, qed, done, move, keep, use1, use2, split, join, fsplit, fsplit3, fjoin, feq_i, rewrite, suffices, frame, enter, of_opd}
+use Rattle.flatterm.proofs.Steps.{unit_lit, load, stop, fld, assigns, assigns_last, first, blocks, exec, returns, alloc_all, pass_all, free_all, look_at, get, through, sets, is}
+use Rattle.flatterm.proofs.Steps.{env, whole, sub, look_in, store_in, Ptr, null_ptr, ptr_val, MutRef, mut_vals, mut_Tells, named, plain, nothing, Stays, walk_of, says, stay_ref}
+use Rattle.flatterm.proofs.Steps.{Goes-ref, ends_at}
 use denote.Memory.{cell_at}
 use types.Kit.{split3, fjoin3}
 use types.Run.{true_lit, false_lit}
@@ -63,7 +67,19 @@ exchange_spec 𝓤 𝓛 𝓜 𝓡 wired =
     ∙ sym (last_app C.0 inner L (V ∷ ys)) ∙ sym (last_app null_ptr xs B (C ∷ rest)) ∙ sym (ap (last_from null_ptr) items) ∙ d.ending in
     let new : Chain = record { head = d.head; tail = d.tail; at = F.0; alloc = a; items = after'; place = d.place; before = d.before; after = d.after; here = here; first = first'; ending = ending } in
     let begun : IsAt w.middle 0 C.0 = subst (λ cs. IsAt cs 0 C.0) (sym u.middle) (is_at [] C (inner ++ L ∷ [])) in
-    let cut : Chain = record { head = C.0; tail = L.0; at = C.0; alloc = a; items = w.middle; place = 0; before = B.0; after = V.0; here = begun; first = begun; ending = ap (last_from null_ptr) u.middle ∙ last_app C.0 inner L [] } in
+    let cut : Chain = record {
+      head = C.0;
+      tail = L.0;
+      at = C.0;
+      alloc = a;
+      items = w.middle;
+      place = 0;
+      before = B.0;
+      after = V.0;
+      here = begun;
+      first = begun;
+      ending = ap (last_from null_ptr) u.middle ∙ last_app C.0 inner L [];
+    } in
     split ! $ split3 ! $ move ! (3 ∷ []) $ split3 ! $ keep ! (0 ∷ 3 ∷ 1 ∷ 4 ∷ []) $
     enter ! _ _ _ _ _ $ alloc_all ! (λ l. pass_all ! refl ((tt, tt), ((tt, tt), tt)) $
     fsplit3 ! $ move ! (1 ∷ 2 ∷ 3 ∷ []) $ chain_opens ! tt d rb ro (λ fits.
@@ -101,7 +117,8 @@ exchange_spec 𝓤 𝓛 𝓜 𝓡 wired =
     sets ! (of_opd ! (unit_lit !)) refl (tt, tt) $
     rewrite ! 0 (λ p. ‵ (held (node (follow ys z) p V.1) vb vo)) (sym ed) refl $ rewrite ! 8 (λ p. ‵ (held (node (p, false) P B.1) bb bo)) (sym ef) refl $
     rewrite ! 11 (λ p. ‵ (held (node (p, false) (last_from F.0 within) D.1) mb mo)) (sym ev) refl $ rewrite ! 13 (λ p. ‵ (held (node (follow within (D.0, false)) p F.1) fb fo)) (sym eb) refl $
-    rewrite ! 17 (λ (p : Ptr × Ptr). ‵ (cell_at full_share Ch.mir (vstruct (vcons (ptr_val p.0) (vcons (ptr_val p.1) (vcons (ptr_val p.0) (vcons (heap.lowered a) vnil)))) ∷ []) sb so)) (λ i. (sym ec i, sym el i)) refl $
+    rewrite ! 17 (λ (p : Ptr × Ptr). ‵ (cell_at full_share Ch.mir (vstruct (vcons (ptr_val p.0) (vcons (ptr_val p.1) (vcons (ptr_val p.0) (vcons (heap.lowered a) vnil)))) ∷ []) sb
+    so)) (λ i. (sym ec i, sym el i)) refl $
     rewrite ! 22 (λ p. ‵ (cell_at full_share Ch.mir (words_at d p) rb ro)) (sym ef) refl $
     lone_closes ! a V.0 (node (follow ys z) D.0 V.1) vb vo ev (refit (follow ys z) L.0 (follow ys z) D.0 V.1 goodV) $ fjoin ! $ move ! (1 ∷ 2 ∷ []) $
     lone_closes ! a L.0 (node (V.0, true) (last_from C.0 inner) L.1) lb lo el (refit (V.0, false) (last_from C.0 inner) (V.0, true) (last_from C.0 inner) L.1 goodL) $ move ! (2 ∷ 3 ∷ []) $

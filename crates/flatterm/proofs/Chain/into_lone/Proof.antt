@@ -1,7 +1,9 @@
 -- `into_lone` takes the only cell.
 use mathlib.Core.Bool.{true}
 use lib.ListN.{length}
-use Rattle.flatterm.proofs.Steps.{arith, fact, raw, heard, ◌≡◌, List, [], ◌∷◌, refl, sym, ap, subst, ◌∙◌, proved, ftrue, tables, ‵, ◌⊛◌, ◌$◌, ◌∵◌, !, qed, done, move, keep, drop, split, join, fsplit, rewrite, suffices, enter, of_opd, stop, fld, no_more, and_then, is, agg, Is, returns, alloc_all, pass_all, free_all, look_at, get, sets, whole, sub, Ptr, block_ptr, ptr_val, plain, nothing, Stays, walk_of, says, ends_at}
+use Rattle.flatterm.proofs.Steps.{arith, fact, raw, heard, ◌≡◌, List, [], ◌∷◌, refl, sym, ap, subst, ◌∙◌, proved, ftrue, tables, ‵, ◌⊛◌, ◌$◌, ◌∵◌, !, qed, done, move, keep, drop}
+use Rattle.flatterm.proofs.Steps.{split, join, fsplit, rewrite, suffices, enter, of_opd, stop, fld, no_more, and_then, is, agg, Is, returns, alloc_all, pass_all, free_all, look_at}
+use Rattle.flatterm.proofs.Steps.{get, sets, whole, sub, Ptr, block_ptr, ptr_val, plain, nothing, Stays, walk_of, says, ends_at}
 use mir.Val.{Val}
 use Rattle.flatterm.specs.declared.Body.{Body}
 use Rattle.flatterm.specs.declared.Node.{Node}

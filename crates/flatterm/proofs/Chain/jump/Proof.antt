@@ -2,7 +2,10 @@
 use mathlib.Core.Bool.{true, false}
 use Prim.Native.Nat.{◌+◌}
 use lib.ListN.{length}
-use Rattle.flatterm.proofs.Steps.{fact, raw, heard, [], ◌∷◌, ◌++◌, refl, sym, ◌∙◌, proved, after, full_share, id⊢, ftrue, flft, vunit, tables, ‵, ◌⊛◌, at_ret, ◌$◌, ◌∵◌, !, qed, done, move, keep, use1, use2, split, join, fsplit, fsplit3, fjoin, feq_i, rewrite, suffices, frame, group, enter, of_opd, unit_lit, load, stop, fld, hop, assigns_last, first, blocks, exec, returns, alloc_all, pass_all, free_all, look_at, get, through, sets, env, whole, sub, look_in, store_in, Ptr, lies_at, in_a_block, MutRef, mut_vals, mut_Tells, named, plain, nothing, Stays, walk_of, says, stay_ref, Goes-ref, ends_at}
+use Rattle.flatterm.proofs.Steps.{fact, raw, heard, [], ◌∷◌, ◌++◌, refl, sym, ◌∙◌, proved, after, full_share, id⊢, ftrue, flft, vunit, tables, ‵, ◌⊛◌, at_ret, ◌$◌, ◌∵◌, !, qed}
+use Rattle.flatterm.proofs.Steps.{done, move, keep, use1, use2, split, join, fsplit, fsplit3, fjoin, feq_i, rewrite, suffices, frame, group, enter, of_opd, unit_lit, load, stop}
+use Rattle.flatterm.proofs.Steps.{fld, hop, assigns_last, first, blocks, exec, returns, alloc_all, pass_all, free_all, look_at, get, through, sets, env, whole, sub, look_in}
+use Rattle.flatterm.proofs.Steps.{store_in, Ptr, lies_at, in_a_block, MutRef, mut_vals, mut_Tells, named, plain, nothing, Stays, walk_of, says, stay_ref, Goes-ref, ends_at}
 use denote.Memory.{cell_at}
 use Rattle.std.proofs.RcSteps.{Ptr-Good}
 use Rattle.flatterm.specs.declared.Body.{Body}
@@ -39,14 +42,28 @@ jump_spec 𝓤 𝓛 𝓜 𝓡 wired =
     enter ! _ _ _ _ _ $ alloc_all ! (λ l. pass_all ! refl ((tt, tt), tt) $
     fsplit3 ! $ move ! (1 ∷ 2 ∷ 3 ∷ []) $ chain_opens ! tt d rb ro (λ fits.
     rewrite ! 0 (λ cs. ‵ (chain d.alloc d.before cs z)) u.whole refl $
-    use1 𝓛 (‵ (chain d.alloc d.before w.front (cell.0, false)) ⊛ ‵ (chain d.alloc (last_from d.before w.front) (cell ∷ ys) z)) (chain_cut 𝓛 d.alloc d.before w.front (cell ∷ ys) z) $ split ! $ move ! (1 ∷ []) $ fsplit ! $ fsplit ! $
+    use1 𝓛 (‵ (chain d.alloc d.before w.front (cell.0, false)) ⊛ ‵ (chain d.alloc (last_from d.before w.front) (cell ∷ ys) z))
+    (chain_cut 𝓛 d.alloc d.before w.front (cell ∷ ys) z) $ split ! $ move ! (1 ∷ []) $ fsplit ! $ fsplit ! $
     in_a_block ! cell.0 (λ p. lies_at N full_share p n) (id⊢ 𝓤 _) (λ b o e. node_out ! n b o (λ good.
-    let new : Chain = record { head = d.head; tail = d.tail; at = u.q; alloc = d.alloc; items = d.items; place = d.place + length u.inner + 1; before = d.before; after = d.after; here = there.0; first = d.first; ending = d.ending } in
+    let new : Chain = record {
+      head = d.head;
+      tail = d.tail;
+      at = u.q;
+      alloc = d.alloc;
+      items = d.items;
+      place = d.place + length u.inner + 1;
+      before = d.before;
+      after = d.after;
+      here = there.0;
+      first = d.first;
+      ending = d.ending;
+    } in
     let Word = λ (p : Ptr). ‵ (cell_at full_share Ch.mir (words_at d p) rb ro) in
     -- [the cell; its token; those after it; those before it; the struct's cell; the open borrow, in three; the rest of self]
     rewrite ! 4 Word (sym u.at ∙ e) refl $
     first ! $ blocks ! $
-    sets ! (of_opd ! (load ! (through ! refl (fld ! refl (hop ! (look_in ! 4 (sub ! 2 refl (whole !))) (fld ! refl (fld ! refl (stop !)))))) (look_in ! 0 (sub ! 0 refl (sub ! 3 refl (whole !)))))) refl (Ptr-Good u.q) $
+    sets ! (of_opd ! (load ! (through ! refl (fld ! refl (hop ! (look_in ! 4 (sub ! 2 refl (whole !))) (fld ! refl (fld ! refl (stop !))))))
+    (look_in ! 0 (sub ! 0 refl (sub ! 3 refl (whole !)))))) refl (Ptr-Good u.q) $
     assigns_last ! (of_opd ! (get ! refl)) (through ! refl (fld ! refl (stop !))) (store_in ! 4 (sub ! 2 refl (whole !)) (Ptr-Good u.q)) $
     exec ! 𝓣.C 𝓣.Λ (env code.Mir.locals l) (after 1 (code.function).body) (at_ret _ (W.post y)) $
     sets ! (of_opd ! (unit_lit !)) refl (tt, tt) $

@@ -8,7 +8,10 @@ use denote.RawPtr.{RawPtr, rawptr_Tells_one}
 use types.Kit.{split3}
 use Rattle.flatterm.specs.contracts.index.Index.{the_row as Ct}
 use lib.ListN.{length}
-use Rattle.flatterm.proofs.Steps.{[], ◌∷◌, refl, sym, ap, subst, ◌∙◌, proved, after, ftrue, flft, fst∗, never, tables, ‵, ◌⊛◌, at_ret, ◌$◌, ◌∵◌, !, qed, done, move, keep, drop, use1, split, join, fsplit, fjoin, rewrite, suffices, frame, enter, of_opd, load, look_raw, stop, first, blocks, exec, returns, alloc_all, pass_all, free_all, look_at, get, through, sets, sets_last, env, Is, ptr_val, in_a_block, ShrRef, shr_vals, shr_Tells, shared_of, lent_at, hide, named, plain, nothing, owned, Stays, walk_of, says, stay_dropped, Goes-dropped, ends_at}
+use Rattle.flatterm.proofs.Steps.{[], ◌∷◌, refl, sym, ap, subst, ◌∙◌, proved, after, ftrue, flft, fst∗, never, tables, ‵, ◌⊛◌, at_ret, ◌$◌, ◌∵◌, !, qed, done, move, keep, drop}
+use Rattle.flatterm.proofs.Steps.{use1, split, join, fsplit, fjoin, rewrite, suffices, frame, enter, of_opd, load, look_raw, stop, first, blocks, exec, returns, alloc_all}
+use Rattle.flatterm.proofs.Steps.{pass_all, free_all, look_at, get, through, sets, sets_last, env, Is, ptr_val, in_a_block, ShrRef, shr_vals, shr_Tells, shared_of, lent_at, hide}
+use Rattle.flatterm.proofs.Steps.{named, plain, nothing, owned, Stays, walk_of, says, stay_dropped, Goes-dropped, ends_at}
 use denote.Builtin.{RefOf}
 use denote.Exit.{yes}
 use types.Logic.{sem}
@@ -34,19 +37,23 @@ stayed = (stay_dropped (RefOf (0 ∷ []) tt (plain (λ _. Ch)) (λ _. tt)) yes, 
 pub look_spec : {M : Type 1} → statement M
 look_spec 𝓤 𝓛 𝓜 𝓡 wired =
     let c = f.clauses 𝓛 𝓜.mem 𝓡.returns in let W = walk_of 𝓛 f.ended stayed c in let 𝓣 = tables 𝓤 𝓛.H 𝓜 𝓡 𝓡.env in
-    proved 𝓛 f.ended stayed c 𝓜 𝓡
-    (Goes-dropped 𝓛 2 (RefOf (0 ∷ []) tt (plain (λ _. Ch)) (λ _. tt)) yes (λ κs x w. refl), (Goes-dropped 𝓛 2 (plain (λ _. RawPtr)) yes (λ κs x w. refl), (Goes-dropped 𝓛 2 (RefOf (1 ∷ []) tt (plain (λ _. Ct)) (λ _. tt)) yes (λ κs x w. refl), tt)))
+    proved 𝓛 f.ended stayed c 𝓜 𝓡 (
+      Goes-dropped 𝓛 2 (RefOf (0 ∷ []) tt (plain (λ _. Ch)) (λ _. tt)) yes (λ κs x w. refl),
+      (Goes-dropped 𝓛 2 (plain (λ _. RawPtr)) yes (λ κs x w. refl), (Goes-dropped 𝓛 2 (RefOf (1 ∷ []) tt (plain (λ _. Ct)) (λ _. tt)) yes (λ κs x w. refl), tt)),
+    )
     f.Key.name code.function (code.unfolded 𝓤 𝓛.H 𝓜 𝓡 wired)
     (λ κs. (shr_vals, (ptr_vals, (shr_vals, tt)))) (λ κs. (shr_Tells (named 0) κs.0 Ch, (rawptr_Tells_one, (shr_Tells (named 1) κs.1.0 Ct, tt)))) (λ κs qs bounds a _ are.
     let κ = κs.0 in let q = qs.0 in let μ = κs.1.0 in let share = qs.1.0 in let r = a.0 in let rb = r.ref_ptr.0 in let ro = r.ref_ptr.1 in let d = r.now in
     let at : Ptr = a.1.0 in let i : ℕ = a.1.1.0.now.number in
     let y : W.Ghost = ((κs, qs, bounds, a, (shr_vals r, (ptr_vals at, (shr_vals a.1.1.0, tt)))), tt) in
-    qed 𝓛 (((‵ (flft κ q) ⊛ ‵ (flft μ share) ⊛ ‵ ftrue) ⊛ ‵ ((ShrRef (named 0) κ Ch).own_val r (shr_vals r)) ⊛ ‵ (RawPtr.own_val at (ptr_vals at)) ⊛ ‵ ((ShrRef (named 1) μ Ct).own_val a.1.1.0 (shr_vals a.1.1.0)) ⊛ ‵ ftrue) ∷ raw (fact 𝓤 (IsAt d.items i at)) ∷ []) ∵
+    qed 𝓛 (((‵ (flft κ q) ⊛ ‵ (flft μ share) ⊛ ‵ ftrue) ⊛ ‵ ((ShrRef (named 0) κ Ch).own_val r (shr_vals r)) ⊛ ‵ (RawPtr.own_val at (ptr_vals at)) ⊛ ‵
+    ((ShrRef (named 1) μ Ct).own_val a.1.1.0 (shr_vals a.1.1.0)) ⊛ ‵ ftrue) ∷ raw (fact 𝓤 (IsAt d.items i at)) ∷ []) ∵
     move ! (1 ∷ []) $ heard ! _ (λ told_at.
     let k = cut_at d.items i at told_at in
     let z : Next = (d.after, true) in
     let n : Node = node (follow k.ys z) (last_from d.before k.xs) k.cell.1 in
-    let told : IsNodeAt d.before d.items z i n = subst (λ j. IsNodeAt d.before d.items z j n) k.long (subst (λ cs. IsNodeAt d.before cs z (length k.xs) n) (sym k.whole) (node_is d.before k.xs k.cell k.ys z)) in
+    let told : IsNodeAt d.before d.items z i n = subst (λ j. IsNodeAt d.before d.items z j n) k.long
+    (subst (λ cs. IsNodeAt d.before cs z (length k.xs) n) (sym k.whole) (node_is d.before k.xs k.cell k.ys z)) in
     split ! $ split3 ! $ move ! (3 ∷ []) $ split3 ! $ keep ! (0 ∷ 3 ∷ 4 ∷ []) $
     enter ! _ _ _ _ _ $ alloc_all ! (λ l. pass_all ! refl ((tt, tt), (Ptr-Good at, ((tt, tt), tt))) $
     fsplit ! $ drop ! $ chain_Seen ! d rb ro $ drop ! $

@@ -2,7 +2,11 @@
 use mathlib.Core.Bool.{true, false}
 use Prim.Native.Nat.{◌<◌}
 use lib.ListN.{length}
-use Rattle.flatterm.proofs.Steps.{arith, fact, raw, heard, ◌≡◌, List, [], ◌∷◌, refl, sym, ap, subst, ◌∙◌, proved, after, full_share, ftrue, fat, flft, tables, ‵, ◌⊛◌, at_ret, ◌$◌, ◌∵◌, !, qed, done, move, keep, use1, split, join, fsplit, fsplit3, fjoin, feq_i, rewrite, suffices, frame, enter, of_opd, load, stop, fld, assigns, assigns_last, no_more, and_then, is, agg, vptr, null_ptr, first, blocks, exec, returns, alloc_all, pass_all, free_all, look_at, get, through, sets, env, whole, sub, look_in, store_in, Ptr, block_ptr, ptr_val, MutRef, mut_vals, mut_Tells, named, plain, nothing, Stays, walk_of, says, stay_ref, Goes-ref, ends_at}
+use Rattle.flatterm.proofs.Steps.{arith, fact, raw, heard, ◌≡◌, List, [], ◌∷◌, refl, sym, ap, subst, ◌∙◌, proved, after, full_share, ftrue, fat, flft, tables, ‵, ◌⊛◌, at_ret, ◌$◌}
+use Rattle.flatterm.proofs.Steps.{◌∵◌, !, qed, done, move, keep, use1, split, join, fsplit, fsplit3, fjoin, feq_i, rewrite, suffices, frame, enter, of_opd, load, stop, fld}
+use Rattle.flatterm.proofs.Steps.{assigns, assigns_last, no_more, and_then, is, agg, vptr, null_ptr, first, blocks, exec, returns, alloc_all, pass_all, free_all, look_at, get}
+use Rattle.flatterm.proofs.Steps.{through, sets, env, whole, sub, look_in, store_in, Ptr, block_ptr, ptr_val, MutRef, mut_vals, mut_Tells, named, plain, nothing, Stays, walk_of}
+use Rattle.flatterm.proofs.Steps.{says, stay_ref, Goes-ref, ends_at}
 use denote.Memory.{cell_at}
 use mir.Val.{Val}
 use Rattle.std.proofs.RcSteps.{Ptr-Good}
@@ -46,7 +50,19 @@ pop_spec 𝓤 𝓛 𝓜 𝓡 wired =
     let n : Node = node (E.0, false) d.before C.1 in
     let headed : d.head ≡ C.0 = sym (same_at [] C (E ∷ ys) d.head (subst (λ cs. IsAt cs 0 d.head) items d.first)) in
     let begun : IsAt (E ∷ ys) 0 E.0 = is_at [] E ys in
-    let new : Chain = record { head = E.0; tail = d.tail; at = E.0; alloc = a; items = E ∷ ys; place = 0; before = C.0; after = d.after; here = begun; first = begun; ending = sym (ap (last_from null_ptr) items) ∙ d.ending } in
+    let new : Chain = record {
+      head = E.0;
+      tail = d.tail;
+      at = E.0;
+      alloc = a;
+      items = E ∷ ys;
+      place = 0;
+      before = C.0;
+      after = d.after;
+      here = begun;
+      first = begun;
+      ending = sym (ap (last_from null_ptr) items) ∙ d.ending;
+    } in
     split ! $ split ! $ move ! (2 ∷ []) $ split ! $ keep ! (0 ∷ 2 ∷ []) $
     enter ! _ _ _ _ _ $ alloc_all ! (λ l. pass_all ! refl ((tt, tt), tt) $
     fsplit3 ! $ move ! (1 ∷ 2 ∷ 3 ∷ []) $ chain_opens ! tt d rb ro (λ fits.

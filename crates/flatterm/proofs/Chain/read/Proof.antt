@@ -2,7 +2,10 @@
 use mathlib.Core.Bool.{true}
 use Prim.Native.Nat.{◌+◌}
 use lib.ListN.{length}
-use Rattle.flatterm.proofs.Steps.{[], ◌∷◌, refl, sym, ap, subst, ◌∙◌, proved, after, ftrue, flft, fst∗, never, tables, ‵, ◌⊛◌, at_ret, ◌$◌, ◌∵◌, !, qed, done, move, keep, drop, use1, split, join, fsplit, fjoin, rewrite, suffices, frame, enter, of_opd, load, look, look_raw, stop, fld, first, blocks, exec, returns, alloc_all, pass_all, free_all, look_at, get, through, sets, sets_last, env, Is, ptr_val, in_a_block, ShrRef, shr_vals, shr_Tells, shared_of, lent_at, hide, named, plain, nothing, owned, Stays, walk_of, says, stay_dropped, Goes-dropped, ends_at}
+use Rattle.flatterm.proofs.Steps.{[], ◌∷◌, refl, sym, ap, subst, ◌∙◌, proved, after, ftrue, flft, fst∗, never, tables, ‵, ◌⊛◌, at_ret, ◌$◌, ◌∵◌, !, qed, done, move, keep, drop}
+use Rattle.flatterm.proofs.Steps.{use1, split, join, fsplit, fjoin, rewrite, suffices, frame, enter, of_opd, load, look, look_raw, stop, fld, first, blocks, exec, returns}
+use Rattle.flatterm.proofs.Steps.{alloc_all, pass_all, free_all, look_at, get, through, sets, sets_last, env, Is, ptr_val, in_a_block, ShrRef, shr_vals, shr_Tells, shared_of}
+use Rattle.flatterm.proofs.Steps.{lent_at, hide, named, plain, nothing, owned, Stays, walk_of, says, stay_dropped, Goes-dropped, ends_at}
 use denote.Builtin.{RefOf}
 use denote.Exit.{yes}
 use types.Logic.{sem}
@@ -33,7 +36,8 @@ read_spec 𝓤 𝓛 𝓜 𝓡 wired =
     let k = cut_at d.items d.place d.at d.here in
     let z : Next = (d.after, true) in
     let n : Node = node (follow k.ys z) (last_from d.before k.xs) k.cell.1 in
-    let told : IsNodeAt d.before d.items z d.place n = subst (λ i. IsNodeAt d.before d.items z i n) k.long (subst (λ cs. IsNodeAt d.before cs z (length k.xs) n) (sym k.whole) (node_is d.before k.xs k.cell k.ys z)) in
+    let told : IsNodeAt d.before d.items z d.place n = subst (λ i. IsNodeAt d.before d.items z i n) k.long
+    (subst (λ cs. IsNodeAt d.before cs z (length k.xs) n) (sym k.whole) (node_is d.before k.xs k.cell k.ys z)) in
     qed 𝓛 (((‵ (flft κ q) ⊛ ‵ ftrue) ⊛ ‵ ((ShrRef (named 0) κ Ch).own_val r (shr_vals r)) ⊛ ‵ ftrue) ∷ ‵ ftrue ∷ []) ∵
     split ! $ split ! $ move ! (2 ∷ []) $ split ! $ keep ! (0 ∷ 2 ∷ []) $
     enter ! _ _ _ _ _ $ alloc_all ! (λ l. pass_all ! refl ((tt, tt), tt) $

@@ -1,5 +1,7 @@
 -- `rewind` copies a pointer.
-use Rattle.flatterm.proofs.Steps.{[], ◌∷◌, refl, proved, ftrue, flft, vunit, tables, ‵, ◌⊛◌, ◌$◌, ◌∵◌, !, qed, done, move, keep, split, join, fsplit3, feq_i, suffices, frame, group, enter, of_opd, unit_lit, load, stop, fld, assigns, returns, alloc_all, pass_all, free_all, look_at, get, through, sets, whole, sub, look_in, store_in, MutRef, mut_vals, mut_Tells, named, plain, nothing, Stays, walk_of, says, stay_ref, Goes-ref, ends_at}
+use Rattle.flatterm.proofs.Steps.{[], ◌∷◌, refl, proved, ftrue, flft, vunit, tables, ‵, ◌⊛◌, ◌$◌, ◌∵◌, !, qed, done, move, keep, split, join, fsplit3, feq_i, suffices, frame}
+use Rattle.flatterm.proofs.Steps.{group, enter, of_opd, unit_lit, load, stop, fld, assigns, returns, alloc_all, pass_all, free_all, look_at, get, through, sets, whole, sub}
+use Rattle.flatterm.proofs.Steps.{look_in, store_in, MutRef, mut_vals, mut_Tells, named, plain, nothing, Stays, walk_of, says, stay_ref, Goes-ref, ends_at}
 use Rattle.std.proofs.RcSteps.{Ptr-Good}
 use Rattle.flatterm.specs.declared.Chain.{Chain}
 use Rattle.flatterm.proofs.Memory.{Ch, chain_opens, chain_closes}
@@ -18,7 +20,19 @@ rewind_spec 𝓤 𝓛 𝓜 𝓡 wired =
     (λ κs. (mut_vals, tt)) (λ κs. (mut_Tells (named 0) κs.0 Ch, tt)) (λ κs qs bounds a _ are.
     let κ = κs.0 in let q = qs.0 in let r = a.0 in let rb = r.ref_ptr.0 in let ro = r.ref_ptr.1 in let d = r.now in
     let y : W.Ghost = ((κs, qs, bounds, a, (mut_vals r, tt)), tt) in
-    let new : Chain = record { head = d.head; tail = d.tail; at = d.head; alloc = d.alloc; items = d.items; place = 0; before = d.before; after = d.after; here = d.first; first = d.first; ending = d.ending } in
+    let new : Chain = record {
+      head = d.head;
+      tail = d.tail;
+      at = d.head;
+      alloc = d.alloc;
+      items = d.items;
+      place = 0;
+      before = d.before;
+      after = d.after;
+      here = d.first;
+      first = d.first;
+      ending = d.ending;
+    } in
     qed 𝓛 (((‵ (flft κ q) ⊛ ‵ ftrue) ⊛ ‵ ((MutRef (named 0) κ Ch).own_val r (mut_vals r)) ⊛ ‵ ftrue) ∷ ‵ ftrue ∷ []) ∵
     split ! $ split ! $ move ! (2 ∷ []) $ split ! $ keep ! (0 ∷ 2 ∷ []) $
     enter ! _ _ _ _ _ $ alloc_all ! (λ l. pass_all ! refl ((tt, tt), tt) $

@@ -1,6 +1,9 @@
 -- `start` links two cells.
 use mathlib.Core.Bool.{true, false}
-use Rattle.flatterm.proofs.Steps.{arith, [], ◌∷◌, refl, sym, ap, proved, after, id⊢, ftrue, tables, ‵, ◌⊛◌, at_ret, ◌$◌, ◌∵◌, !, qed, done, move, keep, drop, use1, split, join, fsplit, fjoin, rewrite, suffices, enter, of_opd, stop, fld, assigns, assigns_last, no_more, and_then, is, agg, vptr, first, blocks, exec, returns, alloc_all, pass_all, free_all, look_at, get, through, sets, env, whole, sub, store_in, Ptr, ptr_val, plain, nothing, Stays, walk_of, says, ends_at}
+use Rattle.flatterm.proofs.Steps.{arith, [], ◌∷◌, refl, sym, ap, proved, after, id⊢, ftrue, tables, ‵, ◌⊛◌, at_ret, ◌$◌, ◌∵◌, !, qed, done, move, keep, drop, use1, split, join}
+use Rattle.flatterm.proofs.Steps.{fsplit, fjoin, rewrite, suffices, enter, of_opd, stop, fld, assigns, assigns_last, no_more, and_then, is, agg, vptr, first, blocks, exec, returns}
+use Rattle.flatterm.proofs.Steps.{alloc_all, pass_all, free_all, look_at, get, through, sets, env, whole, sub, store_in, Ptr, ptr_val, plain, nothing, Stays, walk_of, says}
+use Rattle.flatterm.proofs.Steps.{ends_at}
 use mir.Val.{Val}
 use Rattle.flatterm.specs.declared.Body.{Body}
 use Rattle.flatterm.specs.declared.Chain.{Chain}
@@ -35,7 +38,19 @@ start_spec 𝓤 𝓛 𝓜 𝓡 wired =
     let body : Body = record { end = q.at; cell = p.value.body.cell } in
     let before : Ptr = p.value.prev in let z : Next = (q.value.next, true) in
     let items = (p.at, body) ∷ (q.at, q.value.body) ∷ [] in
-    let new : Chain = record { head = p.at; tail = q.at; at = p.at; alloc = a; items = items; place = 0; before = before; after = q.value.next; here = (omega arith, refl); first = (omega arith, refl); ending = refl } in
+    let new : Chain = record {
+      head = p.at;
+      tail = q.at;
+      at = p.at;
+      alloc = a;
+      items = items;
+      place = 0;
+      before = before;
+      after = q.value.next;
+      here = (omega arith, refl);
+      first = (omega arith, refl);
+      ending = refl;
+    } in
     let fits : HeapFits a = lone_heap p (lone_words p) are.0 in
     let fine = ((heap.the_row_laws.lawful 𝓛).typed a (hv ∷ []) fits).0 in
     qed 𝓛 ((‵ ftrue ⊛ ‵ (Lo.own_val p (lone_words p)) ⊛ ‵ (Lo.own_val q (lone_words q)) ⊛ ‵ ftrue) ∷ ‵ ftrue ∷ []) ∵
@@ -56,7 +71,8 @@ start_spec 𝓤 𝓛 𝓜 𝓡 wired =
     rewrite ! 0 (λ r. ‵ (held (node z r q.value.body) qb qo)) (sym ep) refl $ rewrite ! 2 (λ r. ‵ (held (node (r, false) before (record { end = r; cell = p.value.body.cell })) pb po)) (sym eq) refl $
     lone_closes ! a q.at (node z p.at q.value.body) qb qo eq (node_fits z p.at q.value.body (body_fits q.value goodq)) $ move ! (1 ∷ 2 ∷ []) $
     lone_closes ! a p.at (node (q.at, false) before body) pb po ep (node_fits (q.at, false) before body (body_with q.at p.value.body (body_fits p.value goodp))) $
-    nothing ! $ move ! (2 ∷ 0 ∷ []) $ fjoin ! $ move ! (1 ∷ 0 ∷ []) $ fjoin ! $ use1 𝓛 (‵ (Owned new)) (id⊢ 𝓤 _) $ chain_made ! new fits $ rewrite ! 0 (λ (r : Ptr × Ptr). ‵ (Ch.own_val new (vstruct (vcons (ptr_val r.0) (vcons (ptr_val r.1) (vcons (ptr_val r.0) (vcons hv vnil)))) ∷ []))) (λ i. (ep i, eq i)) refl $
+    nothing ! $ move ! (2 ∷ 0 ∷ []) $ fjoin ! $ move ! (1 ∷ 0 ∷ []) $ fjoin ! $ use1 𝓛 (‵ (Owned new)) (id⊢ 𝓤 _) $ chain_made ! new fits $ rewrite ! 0
+    (λ (r : Ptr × Ptr). ‵ (Ch.own_val new (vstruct (vcons (ptr_val r.0) (vcons (ptr_val r.1) (vcons (ptr_val r.0) (vcons hv vnil)))) ∷ []))) (λ i. (ep i, eq i)) refl $
     returns ! (look_at ! 0 refl) $ free_all ! refl $ keep ! (0 ∷ []) $
     suffices ! _ (ends_at 𝓛 f.ended stayed c y (vstruct (vcons (vptr pb po) (vcons (vptr qb qo) (vcons (vptr pb po) (vcons hv vnil))))) new (tt, (tt, tt)) (tt, (tt, tt))) $ says ! (refl, refl) $
     nothing ! $ nothing ! $ join ! $ nothing ! $ join ! $ nothing ! $ done !))))

@@ -11,7 +11,8 @@ invariant-places l = record {
   counted : length l.entry.coeffs.items ≡ l.count;
   old : length l.fn.entry.coeffs.items ≡ l.count;
   head : l.entry.head ≡ l.fn.entry.head;
-  reset : (arity : ℕ) → AreFrom l.fn.entry.coeffs.items (ranges (head_view l.fn.entry.head) arity) → IsReset (ranges (head_view l.fn.entry.head) arity) l.fn.entry.coeffs.items l.entry.coeffs.items l.place;
+  reset : (arity : ℕ) → AreFrom l.fn.entry.coeffs.items (ranges (head_view l.fn.entry.head) arity)
+      → IsReset (ranges (head_view l.fn.entry.head) arity) l.fn.entry.coeffs.items l.entry.coeffs.items l.place;
 }
 
 abbrev pub decreases-places : goal.decreases-places

@@ -16,7 +16,8 @@ does_fall-requires c =
     let long = length-map c.args.prefix.now linear_entry_view in
     let needs = c.rule_needs.ensures in
     let within = c.if-rule_needs-prefix.true in
-    rule_ready h.system c.args.unraveled.now.system (map linear_entry_view c.args.prefix.now) c.rules-rule-items.result.now h.unraveled.system h.well h.prefix c.rules-rule-items.ensures.rules c.rules-rule-items.ensures.counted c.rules-rule-items.ensures.sound
+    rule_ready h.system c.args.unraveled.now.system (map linear_entry_view c.args.prefix.now) c.rules-rule-items.result.now h.unraveled.system h.well h.prefix
+    c.rules-rule-items.ensures.rules c.rules-rule-items.ensures.counted c.rules-rule-items.ensures.sound
     c.rules.rule-index c.rule-item.result c.rules-test.true c.rule-item.is (omega (arith, needs, within, long))
 
 pub returns-then-not-branch : goal.returns-then-not-branch
@@ -26,7 +27,8 @@ returns-then-not-branch c =
     let long = length-map c.args.prefix.now linear_entry_view in
     let needs = c.rule_needs.ensures in
     let within = c.if-rule_needs-prefix.true in
-    let there = subst (λ rules. slice_get rules c.rules.rule-index ≡ Some (rule_view c.rule-item.result)) (c.rules-rule-items.ensures.rules ∙ ap (λ z. z.rules) u.system) (slice_get-map_read rule_view c.rules-rule-items.result.now c.rules.rule-index c.rule-item.result c.rules-test.true c.rule-item.is) in
+    let there = subst (λ rules. slice_get rules c.rules.rule-index ≡ Some (rule_view c.rule-item.result)) (c.rules-rule-items.ensures.rules ∙ ap (λ z. z.rules) u.system)
+    (slice_get-map_read rule_view c.rules-rule-items.result.now c.rules.rule-index c.rule-item.result c.rules-test.true c.rule-item.is) in
     dead_at sys es c.rules.rule-index (rule_view c.rule-item.result) there (omega (arith, needs, within, long)) (λ f. false≢true (sym c.if-not-branch.true ∙ c.in_ok-does_fall.ensures.1 f))
 
 pub rules-preserved : goal.rules-preserved
@@ -47,4 +49,5 @@ returns c =
     let es = map linear_entry_view c.args.prefix.now in
     not_dead sys es
     (λ j r at needs.
-    all_hold (DoesFallWithin es) c.rules-rule-items.result.now c.rules.rule-index c.rules.invariant c.rules-test.false j r (subst (λ rules. slice_get rules j ≡ Some r) (sym (c.rules-rule-items.ensures.rules ∙ ap (λ z. z.rules) u.system)) at) needs)
+    all_hold (DoesFallWithin es) c.rules-rule-items.result.now c.rules.rule-index c.rules.invariant c.rules-test.false j r
+    (subst (λ rules. slice_get rules j ≡ Some r) (sym (c.rules-rule-items.ensures.rules ∙ ap (λ z. z.rules) u.system)) at) needs)

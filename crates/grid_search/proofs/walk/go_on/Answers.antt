@@ -4,7 +4,8 @@ use Rattle.grid_search.proofs.walk.go_on.Goals as goal
 
 pub returns-then-advance : goal.returns-then-advance
 returns-then-advance c =
-    λ sys n h. goes_across c.args.prefix.now.items c.back.prefix.items c.back.invariant c.pop.new.self.items c.in-Some.entry c.advance.new.entry c.in-Some.ensures.items sys n h c.push.new.self.items c.in_ok-push.ensures.items c.if-advance.ensures.next
+    λ sys n h. goes_across c.args.prefix.now.items c.back.prefix.items c.back.invariant c.pop.new.self.items c.in-Some.entry c.advance.new.entry c.in-Some.ensures.items sys n h
+    c.push.new.self.items c.in_ok-push.ensures.items c.if-advance.ensures.next
 
 pub back-preserved : goal.back-preserved
 back-preserved c =

@@ -19,5 +19,6 @@ returns-in-Unknown c = (
 
 pub returns-in-Unknown-2 : goal.returns-in-Unknown-2
 returns-in-Unknown-2 c =
-    good_seen c.args.judge.now c.args.prefix.now c.heads.result.now c.heads.ensures.heads c.requires.0 c.requires.1 c.heads.ensures.sound c.heads.ensures.fits c.in_ok-judge_last.field-0 c.in-Unknown.is c.in_ok-judge_last.ensures
+    good_seen c.args.judge.now c.args.prefix.now c.heads.result.now c.heads.ensures.heads c.requires.0 c.requires.1 c.heads.ensures.sound c.heads.ensures.fits
+    c.in_ok-judge_last.field-0 c.in-Unknown.is c.in_ok-judge_last.ensures
     c.if-not-whole.false c.args.budget.now c.paid.new.budget c.paid.result c.paid.ensures

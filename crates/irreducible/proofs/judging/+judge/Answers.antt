@@ -10,8 +10,10 @@ pub judge-requires : goal.judge-requires
 judge-requires t c =
     let items = c.deref-arg-items.ensures.value in
     let here : c.loop-arg.arg-index < length c.in-Fun.args.items = subst (λ z. c.loop-arg.arg-index < length z) items c.loop-arg-test.true in
-    let at : c.arg-item.result ≡ get_or c.in-Fun.args.items c.loop-arg.arg-index c.arg-item.result = subst (λ z. c.arg-item.result ≡ get_or z c.loop-arg.arg-index c.arg-item.result) items c.arg-item.is in (
-      subst (λ z. size (view c.arg-item.result) < z) c.decreases (size_inside c.args.part.now c.in-Fun.f c.in-Fun.args c.deref-arg-items.result.now c.loop-arg.arg-index c.arg-item.result c.in-Fun.is items c.loop-arg-test.true c.arg-item.is),
+    let at : c.arg-item.result ≡ get_or c.in-Fun.args.items c.loop-arg.arg-index c.arg-item.result = subst
+    (λ z. c.arg-item.result ≡ get_or z c.loop-arg.arg-index c.arg-item.result) items c.arg-item.is in (
+      subst (λ z. size (view c.arg-item.result) < z) c.decreases (size_inside c.args.part.now c.in-Fun.f c.in-Fun.args c.deref-arg-items.result.now c.loop-arg.arg-index
+          c.arg-item.result c.in-Fun.is items c.loop-arg-test.true c.arg-item.is),
       argument_fits c.args.part.now c.in-Fun.f c.in-Fun.args c.loop-arg.arg-index c.arg-item.result c.in-Fun.is here at c.requires,
     )
 
@@ -28,7 +30,8 @@ pub returns-in_default-2 : goal.returns-in_default-2
 returns-in_default-2 t c =
     let items = c.deref-arg-items.ensures.value in
     judge_part_other c.args.sys.now c.args.part.now c.in-Fun.f c.in-Fun.args c.loop-arg.arg-index c.arg-item.result c.in_ok-other-in-Fun-2.other c.in-Fun.is
-    (subst (λ z. c.loop-arg.arg-index < length z) items c.loop-arg-test.true) (subst (λ z. c.arg-item.result ≡ get_or z c.loop-arg.arg-index c.arg-item.result) items c.arg-item.is) c.in_default-2.not-Yes
+    (subst (λ z. c.loop-arg.arg-index < length z) items c.loop-arg-test.true)
+    (subst (λ z. c.arg-item.result ≡ get_or z c.loop-arg.arg-index c.arg-item.result) items c.arg-item.is) c.in_default-2.not-Yes
     (λ s e. subst (λ z. RootAnswers c.args.sys.now s (Ok z)) c.in-Yes.is (c.in_ok-other-in-Fun.ensures s e))
     (subst (λ z. Judged c.args.sys.now z c.loop-arg.arg-index) items c.loop-arg.invariant) c.in_ok-other-in-Fun-2.ensures
 

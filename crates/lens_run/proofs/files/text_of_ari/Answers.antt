@@ -17,4 +17,5 @@ returns-in-Err g c =
 pub returns : goal.returns
 returns g c =
     ari_refused _ _ c.args.file.now c.in-Ok.bytes.items c.in-Ok.ensures.all (reply_said c.refused.result) (option_map place_and_words c.ari_refusal.result)
-    (subst (λ b. IsSaidRefused status.FileRefused c.args.file.now b (option_map place_and_words c.ari_refusal.result) (reply_said c.refused.result)) c.deref-in-Err-ari_to_cops.ensures.value c.refused.ensures)
+    (subst (λ b. IsSaidRefused status.FileRefused c.args.file.now b (option_map place_and_words c.ari_refusal.result) (reply_said c.refused.result))
+    c.deref-in-Err-ari_to_cops.ensures.value c.refused.ensures)

@@ -17,7 +17,8 @@ returns-in-Err-certificate_of g c =
       inr (
           cert_since _ _ cert _ (fails_since _ _ _ (c.in-Ok.ensures.never_falls cert))
           (subst
-          (λ told. NoCertSaid (told_or_any (told cert)) c.in-Ok.found.1 (Rose (g.S.Shelf.faults c.system_of.new.shelf cert) (g.S.Shelf.faults c.certificate_of.new.shelf cert)) cert (reply_said c.in-Err-certificate_of.reply))
+          (λ told. NoCertSaid (told_or_any (told cert)) c.in-Ok.found.1 (Rose (g.S.Shelf.faults c.system_of.new.shelf cert) (g.S.Shelf.faults c.certificate_of.new.shelf cert)) cert
+          (reply_said c.in-Err-certificate_of.reply))
           c.in-Ok.ensures.contents c.in-Err-certificate_of.ensures.none)
           ),
     )

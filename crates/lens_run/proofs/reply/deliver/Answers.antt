@@ -13,6 +13,8 @@ returns-in-Usage g c =
 
 pub returns-in-NoMemory : goal.returns-in-NoMemory
 returns-in-NoMemory g c =
-    subst (λ r. IsTold (reply_said r) c.written-in-NoMemory.result (sink_run g.K.Sink c.args.out.now c.args.out.now) (sink_run g.E.Sink c.args.err.now c.written-in-NoMemory.new.sink)) (sym c.in-NoMemory.is)
+    subst (λ r. IsTold (reply_said r) c.written-in-NoMemory.result (sink_run g.K.Sink c.args.out.now c.args.out.now)
+    (sink_run g.E.Sink c.args.err.now c.written-in-NoMemory.new.sink)) (sym c.in-NoMemory.is)
     (told_on_err _ _ no_memory_said.err _ _ refl
-    (subst (λ t. IsTaken t status.NoMemory status.WriteFault c.written-in-NoMemory.result (sink_run g.E.Sink c.args.err.now c.written-in-NoMemory.new.sink)) c.no_memory_text.ensures c.written-in-NoMemory.ensures))
+    (subst (λ t. IsTaken t status.NoMemory status.WriteFault c.written-in-NoMemory.result (sink_run g.E.Sink c.args.err.now c.written-in-NoMemory.new.sink))
+    c.no_memory_text.ensures c.written-in-NoMemory.ensures))

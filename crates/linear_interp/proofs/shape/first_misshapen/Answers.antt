@@ -13,7 +13,8 @@ returns-in-Some c =
     let h = is_wrong_at heads c.args.arities.now entries in
     let r = c.find_position.ensures.runs in
     let long = c.max.ensures ∙ sym (ap₂ max (length-map c.args.heads.now head_view) (length-map c.args.entries.now linear_entry_view)) in
-    positions.first_misshapen heads c.args.arities.now entries c.max.result long c.find_position.result (positions.searched c.max.result h c.find_position.result r.0 r.1 (r.2 h (search rules))) (c.in-Some.k, c.in-Some.field-0-1) c.in-Some.is
+    positions.first_misshapen heads c.args.arities.now entries c.max.result long c.find_position.result
+    (positions.searched c.max.result h c.find_position.result r.0 r.1 (r.2 h (search rules))) (c.in-Some.k, c.in-Some.field-0-1) c.in-Some.is
 
 pub returns-in-None : goal.returns-in-None
 returns-in-None c =
@@ -22,4 +23,5 @@ returns-in-None c =
     let h = is_wrong_at heads c.args.arities.now entries in
     let r = c.find_position.ensures.runs in
     let long = c.max.ensures ∙ sym (ap₂ max (length-map c.args.heads.now head_view) (length-map c.args.entries.now linear_entry_view)) in
-    positions.none_misshapen heads c.args.arities.now entries c.max.result long c.find_position.result (positions.searched c.max.result h c.find_position.result r.0 r.1 (r.2 h (search rules))) c.in-None.is
+    positions.none_misshapen heads c.args.arities.now entries c.max.result long c.find_position.result
+    (positions.searched c.max.result h c.find_position.result r.0 r.1 (r.2 h (search rules))) c.in-None.is

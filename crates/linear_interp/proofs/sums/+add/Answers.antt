@@ -11,21 +11,25 @@ use Rattle.linear_interp.proofs.sums.+add.Goals as goal
 
 pub add-add_symbol-requires : goal.add-add_symbol-requires
 add-add_symbol-requires t c =
-    let k = call c.args.entries.now (length c.args.sums.now) c.in-Fun.f c.args.t.now c.in-Fun.args c.index-entries-f.result c.deref.result.now c.deref-in-Fun.result.now c.in-Fun.is c.requires.term c.index-entries-f.is c.deref.ensures.value c.deref-in-Fun.ensures.value in
+    let k = call c.args.entries.now (length c.args.sums.now) c.in-Fun.f c.args.t.now c.in-Fun.args c.index-entries-f.result c.deref.result.now c.deref-in-Fun.result.now c.in-Fun.is
+    c.requires.term c.index-entries-f.is c.deref.ensures.value c.deref-in-Fun.ensures.value in
     let smaller = k.falls in
     let falls = c.decreases in
     (omega (arith, smaller, falls), (c.requires.factor, (k.counted, (k.small, (k.args_ready, (c.requires.sums, c.requires.some))))))
 
 pub add-returns-in-Fun : goal.add-returns-in-Fun
 add-returns-in-Fun t c =
-    let k = call c.args.entries.now (length c.args.sums.now) c.in-Fun.f c.args.t.now c.in-Fun.args c.index-entries-f.result c.deref.result.now c.deref-in-Fun.result.now c.in-Fun.is c.requires.term c.index-entries-f.is c.deref.ensures.value c.deref-in-Fun.ensures.value in
-    subst (λ z. AddAnswers (map linear_entry_view c.args.entries.now) c.args.factor z c.args.sums.now c.add_symbol.new.sums c.add_symbol.result) (sym k.shown) (c.add_symbol.ensures c.in-Fun.f k.numbers_are)
+    let k = call c.args.entries.now (length c.args.sums.now) c.in-Fun.f c.args.t.now c.in-Fun.args c.index-entries-f.result c.deref.result.now c.deref-in-Fun.result.now c.in-Fun.is
+    c.requires.term c.index-entries-f.is c.deref.ensures.value c.deref-in-Fun.ensures.value in
+    subst (λ z. AddAnswers (map linear_entry_view c.args.entries.now) c.args.factor z c.args.sums.now c.add_symbol.new.sums c.add_symbol.result) (sym k.shown)
+    (c.add_symbol.ensures c.in-Fun.f k.numbers_are)
 
 pub add_symbol-loop-k-init : goal.add_symbol-loop-k-init
 add_symbol-loop-k-init t c =
     let es = map linear_entry_view c.args.entries.now in
     record {
-      added = λ f same. begin es c.args.factor f c.from.result (views c.args.args.now) c.args.sums.now c.raise.new.sums c.requires.sums c.requires.some (c.from.ensures ∙ sym (number-index es f 0 c.args.numbers.now same)) c.raise.ensures.sums
+      added = λ f same. begin es c.args.factor f c.from.result (views c.args.args.now) c.args.sums.now c.raise.new.sums c.requires.sums c.requires.some
+          (c.from.ensures ∙ sym (number-index es f 0 c.args.numbers.now same)) c.raise.ensures.sums
           c.if-not-raise.ensures.above;
       as_many = c.raise.auto.sums;
       small = raised_small c.args.sums.now c.raise.new.sums 0 _ c.requires.sums c.requires.some c.raise.ensures.sums c.if-not-raise.ensures.above;
@@ -43,7 +47,8 @@ add_symbol-add-requires t c =
       (
         omega (arith, capped),
         (
-          subst (λ n. IsReady es n (view c.index-args-k.result)) (sym many) (ready_at es (length c.args.sums.now) c.args.args.now c.loop-k.k c.index-args-k.result c.requires.args c.loop-k-test.true c.index-args-k.is),
+          subst (λ n. IsReady es n (view c.index-args-k.result)) (sym many) (ready_at es (length c.args.sums.now) c.args.args.now c.loop-k.k c.index-args-k.result c.requires.args
+              c.loop-k-test.true c.index-args-k.is),
           (c.loop-k.invariant.small, omega (arith, many, some)),
         ),
       ),

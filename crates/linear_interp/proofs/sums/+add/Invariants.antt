@@ -15,7 +15,8 @@ decreases-add_symbol l = 2 * size_all (views l.args.now) + 1
 
 abbrev pub invariant-add_symbol-loop-k : goal.invariant-add_symbol-loop-k
 invariant-add_symbol-loop-k l = record {
-  added : (f : ℕ) → numbers_of (map linear_entry_view l.entries) f ≡ l.numbers → SoFar (map linear_entry_view l.entries) l.factor f (l.k + 1) (views (drop l.k l.args)) (app f (views l.args)) l.fn.sums l.sums;
+  added : (f : ℕ) → numbers_of (map linear_entry_view l.entries) f ≡ l.numbers
+      → SoFar (map linear_entry_view l.entries) l.factor f (l.k + 1) (views (drop l.k l.args)) (app f (views l.args)) l.fn.sums l.sums;
   as_many : length l.sums ≡ length l.fn.sums;
   small : AreSmall l.sums;
 }

@@ -26,20 +26,23 @@ returns-in-Err-TooLarge c =
 pub reason_with-reason-requires : goal.reason_with-reason-requires
 reason_with-reason-requires c =
     let made = ap (map rule_view) c.deref.ensures.value ∙ c.in-Ok.ensures.0 in
-    let room = walk_room c.args.first c.args.rules.now c.args.shape c.args.places.now c.loop-i.i c.loop-i.symbol c.loop-i.before c.loop-i.reason c.index-rules-i.result c.deref.result.now c.loop-i.invariant c.loop-i-test.true c.index-rules-i.is made in
+    let room = walk_room c.args.first c.args.rules.now c.args.shape c.args.places.now c.loop-i.i c.loop-i.symbol c.loop-i.before c.loop-i.reason c.index-rules-i.result
+    c.deref.result.now c.loop-i.invariant c.loop-i-test.true c.index-rules-i.is made in
     let few = c.requires.few in
     omega (arith, room, few)
 
 pub overflow_cast-before : goal.overflow_cast-before
 overflow_cast-before c =
-    let room = walk_room c.args.first c.args.rules.now c.args.shape c.args.places.now c.loop-i.i c.loop-i.symbol c.loop-i.before c.loop-i.reason c.index-rules-i.result c.in-Ok.unraveled.items c.loop-i.invariant c.loop-i-test.true c.index-rules-i.is c.in-Ok.ensures.0 in
+    let room = walk_room c.args.first c.args.rules.now c.args.shape c.args.places.now c.loop-i.i c.loop-i.symbol c.loop-i.before c.loop-i.reason c.index-rules-i.result
+    c.in-Ok.unraveled.items c.loop-i.invariant c.loop-i-test.true c.index-rules-i.is c.in-Ok.ensures.0 in
     let count = c.len.ensures ∙ c.in-Ok.unraveled.ok.0 in
     let few = c.requires.few in
     omega (arith, room, count, few)
 
 pub overflow_add-before : goal.overflow_add-before
 overflow_add-before c =
-    let room = walk_room c.args.first c.args.rules.now c.args.shape c.args.places.now c.loop-i.i c.loop-i.symbol c.loop-i.before c.loop-i.reason c.index-rules-i.result c.in-Ok.unraveled.items c.loop-i.invariant c.loop-i-test.true c.index-rules-i.is c.in-Ok.ensures.0 in
+    let room = walk_room c.args.first c.args.rules.now c.args.shape c.args.places.now c.loop-i.i c.loop-i.symbol c.loop-i.before c.loop-i.reason c.index-rules-i.result
+    c.in-Ok.unraveled.items c.loop-i.invariant c.loop-i-test.true c.index-rules-i.is c.in-Ok.ensures.0 in
     let count = c.len.ensures ∙ c.in-Ok.unraveled.ok.0 in
     let few = c.requires.few in
     omega (arith, room, count, few)
@@ -61,12 +64,14 @@ overflow_add-symbol c =
 pub loop-i-preserved : goal.loop-i-preserved
 loop-i-preserved c =
     let made = ap (map rule_view) c.deref.ensures.value ∙ c.in-Ok.ensures.0 in
-    let next = walk_next c.args.first c.args.rules.now c.args.shape c.args.places.now c.loop-i.i c.loop-i.symbol c.loop-i.before c.loop-i.reason c.index-rules-i.result c.deref.result.now c.loop-i.invariant c.loop-i-test.true c.index-rules-i.is made
+    let next = walk_next c.args.first c.args.rules.now c.args.shape c.args.places.now c.loop-i.i c.loop-i.symbol c.loop-i.before c.loop-i.reason c.index-rules-i.result
+    c.deref.result.now c.loop-i.invariant c.loop-i-test.true c.index-rules-i.is made
     c.reason_with-reason.result c.in-Ok.ensures.1 c.reason_with-reason.ensures in
     let conditions : length c.index-rules-i.result.conds.items ≡ c.len-in-loop-i.result = omega (arith, (c.len-in-loop-i.ensures ∙ c.index-rules-i.result.conds.ok.0)) in
     let rules : length c.deref.result.now ≡ c.len.result = omega (arith, (c.len.ensures ∙ c.in-Ok.unraveled.ok.0), ap length c.deref.ensures.value) in
     subst (λ n. Walk c.args.first c.args.rules.now c.args.shape c.args.places.now (c.loop-i.i + 1) (c.loop-i.symbol + n) (c.loop-i.before + c.len.result) c.reason_with-reason.result) conditions
-    (subst (λ n. Walk c.args.first c.args.rules.now c.args.shape c.args.places.now (c.loop-i.i + 1) (c.loop-i.symbol + length c.index-rules-i.result.conds.items) (c.loop-i.before + n) c.reason_with-reason.result) rules next)
+    (subst (λ n. Walk c.args.first c.args.rules.now c.args.shape c.args.places.now (c.loop-i.i + 1) (c.loop-i.symbol + length c.index-rules-i.result.conds.items)
+    (c.loop-i.before + n) c.reason_with-reason.result) rules next)
 
 pub returns : goal.returns
 returns c = walk_finish c.args.first c.args.rules.now c.args.shape c.args.places.now c.loop-i.i c.loop-i.symbol c.loop-i.before c.loop-i.reason c.loop-i.invariant c.loop-i-test.false

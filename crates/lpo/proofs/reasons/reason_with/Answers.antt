@@ -9,7 +9,8 @@ returns-in-Some-first_unordered c =
     λ shape front many h.
     let places = c.args.places.now in
     let so_far = subst (ReasonAnswers shape places front) c.in_default.is h in
-    reason_found shape places front (map rule_view c.args.rules.now) c.in-Some-first_unordered.i (c.args.before + c.in-Some-first_unordered.i + 1) (omega (arith, many)) so_far c.in-Some-first_unordered.ensures
+    reason_found shape places front (map rule_view c.args.rules.now) c.in-Some-first_unordered.i (c.args.before + c.in-Some-first_unordered.i + 1) (omega (arith, many)) so_far
+    c.in-Some-first_unordered.ensures
 
 pub returns-in-None : goal.returns-in-None
 returns-in-None c =

@@ -12,7 +12,8 @@ halves-preserved-then-is_head_before c =
     record {
       within = c.halves.invariant.within;
       between = λ f is.
-          let more = behind_middle (map head_view c.args.heads.now) c.requires (head_view c.args.head) _ middle (map_get head_view c.args.heads.now middle _ inside) (c.if-is_head_before.ensures.0 refl) f is in
+          let more = behind_middle (map head_view c.args.heads.now) c.requires (head_view c.args.head) _ middle (map_get head_view c.args.heads.now middle _ inside)
+          (c.if-is_head_before.ensures.0 refl) f is in
           (omega (arith, more), (c.halves.invariant.between f is).1);
     }
 

@@ -24,8 +24,10 @@ take_all-loop-i-preserved t c =
     let m = rw c.if-not-branch.false at c.in_ok-take_parts.ensures in
     record {
       progress =
-          subst (λ rest. Progress c.args.values.now c.take_parts.new.values (views c.args.patterns.now) (views c.args.subjects.items) (views (drop (i + 1) c.args.patterns.now)) (views rest)) (sym (drop-set-lt (i + 1) left i c.replace-subject.new.dest (omega arith)))
-          (advance c.args.values.now c.loop-i.values c.take_parts.new.values _ _ _ _ (view c.index-patterns-i.result) (view c.replace-subject.result) (rw (first, second) at c.loop-i.invariant.progress) m);
+          subst (λ rest. Progress c.args.values.now c.take_parts.new.values (views c.args.patterns.now) (views c.args.subjects.items) (views (drop (i + 1) c.args.patterns.now))
+          (views rest)) (sym (drop-set-lt (i + 1) left i c.replace-subject.new.dest (omega arith)))
+          (advance c.args.values.now c.loop-i.values c.take_parts.new.values _ _ _ _ (view c.index-patterns-i.result) (view c.replace-subject.result)
+          (rw (first, second) at c.loop-i.invariant.progress) m);
       paired = length-set left i c.replace-subject.new.dest ∙ paired;
     }
 

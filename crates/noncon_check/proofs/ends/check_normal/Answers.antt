@@ -38,20 +38,24 @@ returns-in_err-next c =
 
 pub returns-in_err-next-2 : goal.returns-in_err-next-2
 returns-in_err-next-2 c =
-    subst (ApartAnswers c.args.sys.now (view c.args.first.now) (view c.args.second.now) (by_normal_forms (map redex_view c.args.entries.now))) (sym (handed_on _ _ c.from_residual-in_err-next-2.ensures.1))
-    (second_fails_so c.args.sys.now (view c.args.first.now) (view c.args.second.now) (map redex_view c.args.entries.now) (λ e. false≢true (c.if-equal.ensures.1 e)) c.in_ok-next.next c.in_ok-next.ensures c.in_err-next-2.field-0.0 c.in_err-next-2.ensures)
+    subst (ApartAnswers c.args.sys.now (view c.args.first.now) (view c.args.second.now) (by_normal_forms (map redex_view c.args.entries.now)))
+    (sym (handed_on _ _ c.from_residual-in_err-next-2.ensures.1))
+    (second_fails_so c.args.sys.now (view c.args.first.now) (view c.args.second.now) (map redex_view c.args.entries.now) (λ e. false≢true (c.if-equal.ensures.1 e))
+    c.in_ok-next.next c.in_ok-next.ensures c.in_err-next-2.field-0.0 c.in_err-next-2.ensures)
 
 pub returns-then-next-entries : goal.returns-then-next-entries
 returns-then-next-entries c =
     let one : c.in_ok-next-2.next + 1 ≡ suc c.in_ok-next-2.next = omega arith in
     let less = c.if-next-entries.true in
     let long = length-map c.args.entries.now redex_view in
-    extra c.args.sys.now (view c.args.first.now) (view c.args.second.now) (map redex_view c.args.entries.now) (λ e. false≢true (c.if-equal.ensures.1 e)) c.in_ok-next.next c.in_ok-next.ensures c.in_ok-next-2.next c.in_ok-next-2.ensures
+    extra c.args.sys.now (view c.args.first.now) (view c.args.second.now) (map redex_view c.args.entries.now) (λ e. false≢true (c.if-equal.ensures.1 e)) c.in_ok-next.next
+    c.in_ok-next.ensures c.in_ok-next-2.next c.in_ok-next-2.ensures
     (c.in_ok-next-2.next + 1) one (omega (arith, less, long))
 
 pub returns : goal.returns
 returns c =
     let high = c.if-next-entries.false in
     let long = length-map c.args.entries.now redex_view in
-    shown c.args.sys.now (view c.args.first.now) (view c.args.second.now) (map redex_view c.args.entries.now) (λ e. false≢true (c.if-equal.ensures.1 e)) c.in_ok-next.next c.in_ok-next.ensures c.in_ok-next-2.next c.in_ok-next-2.ensures
+    shown c.args.sys.now (view c.args.first.now) (view c.args.second.now) (map redex_view c.args.entries.now) (λ e. false≢true (c.if-equal.ensures.1 e)) c.in_ok-next.next
+    c.in_ok-next.ensures c.in_ok-next-2.next c.in_ok-next-2.ensures
     (omega (arith, high, long))

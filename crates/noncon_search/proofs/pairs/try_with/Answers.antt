@@ -14,8 +14,10 @@ returns-in_err-end c =
     let later = c.args.later.now in
     let j = c.later.second-index in
     let y = c.second-item.result in
-    fails c.args.names.now c.args.sys.now (pairs_with t x (ends_view later)) c.args.budget.now c.later.budget c.try_pair.new.budget (pairs_with t x (ends_view (drop j later))) (try_ends t x (end_view y) ∷ [])
-    (pairs_with t x (ends_view (drop (j + 1) later))) c.later.invariant.walking (with_splits t x later j y c.later-test.true c.second-item.is) c.from_residual.result c.from_residual.ensures.0 c.in_err-end.ensures
+    fails c.args.names.now c.args.sys.now (pairs_with t x (ends_view later)) c.args.budget.now c.later.budget c.try_pair.new.budget (pairs_with t x (ends_view (drop j later)))
+    (try_ends t x (end_view y) ∷ [])
+    (pairs_with t x (ends_view (drop (j + 1) later))) c.later.invariant.walking (with_splits t x later j y c.later-test.true c.second-item.is) c.from_residual.result
+    c.from_residual.ensures.0 c.in_err-end.ensures
 
 pub returns-in_default : goal.returns-in_default
 returns-in_default c =
@@ -24,8 +26,10 @@ returns-in_default c =
     let later = c.args.later.now in
     let j = c.later.second-index in
     let y = c.second-item.result in
-    ends c.args.names.now c.args.sys.now (pairs_with t x (ends_view later)) c.args.budget.now c.later.budget c.try_pair.new.budget (pairs_with t x (ends_view (drop j later))) (try_ends t x (end_view y) ∷ [])
-    (pairs_with t x (ends_view (drop (j + 1) later))) c.later.invariant.walking (with_splits t x later j y c.later-test.true c.second-item.is) c.in_ok-end.end c.in_default.not-Nothing c.in_ok-end.ensures
+    ends c.args.names.now c.args.sys.now (pairs_with t x (ends_view later)) c.args.budget.now c.later.budget c.try_pair.new.budget (pairs_with t x (ends_view (drop j later)))
+    (try_ends t x (end_view y) ∷ [])
+    (pairs_with t x (ends_view (drop (j + 1) later))) c.later.invariant.walking (with_splits t x later j y c.later-test.true c.second-item.is) c.in_ok-end.end
+    c.in_default.not-Nothing c.in_ok-end.ensures
 
 pub later-preserved : goal.later-preserved
 later-preserved c =
@@ -35,7 +39,8 @@ later-preserved c =
     let j = c.later.second-index in
     let y = c.second-item.result in
     record {
-      walking = goes_on c.args.names.now c.args.sys.now (pairs_with t x (ends_view later)) c.args.budget.now c.later.budget c.try_pair.new.budget (pairs_with t x (ends_view (drop j later))) (try_ends t x (end_view y) ∷ [])
+      walking = goes_on c.args.names.now c.args.sys.now (pairs_with t x (ends_view later)) c.args.budget.now c.later.budget c.try_pair.new.budget
+          (pairs_with t x (ends_view (drop j later))) (try_ends t x (end_view y) ∷ [])
           (pairs_with t x (ends_view (drop (j + 1) later))) c.later.invariant.walking (with_splits t x later j y c.later-test.true c.second-item.is)
           (subst (λ z. WalkAnswers c.args.names.now c.args.sys.now (try_ends t x (end_view y) ∷ []) c.later.budget c.try_pair.new.budget (Ok z)) c.in-Nothing.is c.in_ok-end.ensures);
       ends = skip_next c.args.sys.now t c.args.first.now y (drop (j + 1) later) (later_left c.args.sys.now t c.args.first.now later j y c.later-test.true c.second-item.is c.later.invariant.ends);

@@ -15,7 +15,8 @@ new-walk-requires c = numbered_size _ _ _ c.in_ok-numbered.ensures.names c.requi
 
 pub parts-init : goal.parts-init
 parts-init c =
-    begins c.args.sys.now (view c.args.term.now) c.len-own.result c.args.which (view c.in_ok-numbered.numbered) c.numbered.new.self c.len-own.ensures.len c.in_ok-numbered.ensures.distinct c.in_ok-numbered.ensures.names
+    begins c.args.sys.now (view c.args.term.now) c.len-own.result c.args.which (view c.in_ok-numbered.numbered) c.numbered.new.self c.len-own.ensures.len
+    c.in_ok-numbered.ensures.distinct c.in_ok-numbered.ensures.names
     c.in_ok-numbered.ensures.below c.new-walk.result.rest (ap (λ (z : Walk). z.rest) c.new-walk.ensures) (map redex_view c.new-entries.result.items) (ap (map redex_view) c.new-entries.ensures.items)
 
 pub add_part-requires : goal.add_part-requires
@@ -24,7 +25,8 @@ add_part-requires c = record { own = few_names _ _ _ c.len-own.result c.new-numb
 pub returns-then-not-branch : goal.returns-then-not-branch
 returns-then-not-branch c =
     breaks_off c.args.sys.now (view c.args.term.now) c.len-own.result c.args.which c.parts.walk.rest (map redex_view c.parts.entries.items) c.parts.invariant c.next.new.self.rest
-    (part c.position.result.now (view c.in-Some.part.now)) (here _ _ _ _ _ _ c.in_ok-part.ensures c.in-Some.is c.position.ensures) (map redex_view c.add_part.new.entries.items) c.rules-rules.ensures.sound
+    (part c.position.result.now (view c.in-Some.part.now)) (here _ _ _ _ _ _ c.in_ok-part.ensures c.in-Some.is c.position.ensures)
+    (map redex_view c.add_part.new.entries.items) c.rules-rules.ensures.sound
     (rw c.if-not-branch.true at c.in_ok-add_part.ensures)
 
 pub parts-preserved : goal.parts-preserved

@@ -13,8 +13,10 @@ returns-in_err-end c =
     let all = c.args.overlaps.now in
     let i = c.overlaps.overlap-index in
     let x = c.overlap-item.result in
-    fails c.args.names.now sys (peak_items sys (map (λ o. view o.source) all)) c.args.budget.now c.overlaps.budget c.try_start.new.budget (peak_items sys (map (λ o. view o.source) (drop i all))) (peak_items_of sys (view x.source))
-    (peak_items sys (map (λ o. view o.source) (drop (i + 1) all))) c.overlaps.invariant.walking (starts_split sys (λ o. view o.source) all i x c.overlaps-test.true c.overlap-item.is) c.from_residual.result c.from_residual.ensures.0 c.in_err-end.ensures
+    fails c.args.names.now sys (peak_items sys (map (λ o. view o.source) all)) c.args.budget.now c.overlaps.budget c.try_start.new.budget
+    (peak_items sys (map (λ o. view o.source) (drop i all))) (peak_items_of sys (view x.source))
+    (peak_items sys (map (λ o. view o.source) (drop (i + 1) all))) c.overlaps.invariant.walking
+    (starts_split sys (λ o. view o.source) all i x c.overlaps-test.true c.overlap-item.is) c.from_residual.result c.from_residual.ensures.0 c.in_err-end.ensures
 
 pub returns-in_default : goal.returns-in_default
 returns-in_default c =
@@ -22,8 +24,10 @@ returns-in_default c =
     let all = c.args.overlaps.now in
     let i = c.overlaps.overlap-index in
     let x = c.overlap-item.result in
-    ends c.args.names.now sys (peak_items sys (map (λ o. view o.source) all)) c.args.budget.now c.overlaps.budget c.try_start.new.budget (peak_items sys (map (λ o. view o.source) (drop i all))) (peak_items_of sys (view x.source))
-    (peak_items sys (map (λ o. view o.source) (drop (i + 1) all))) c.overlaps.invariant.walking (starts_split sys (λ o. view o.source) all i x c.overlaps-test.true c.overlap-item.is) c.in_ok-end.end c.in_default.not-Nothing c.in_ok-end.ensures
+    ends c.args.names.now sys (peak_items sys (map (λ o. view o.source) all)) c.args.budget.now c.overlaps.budget c.try_start.new.budget
+    (peak_items sys (map (λ o. view o.source) (drop i all))) (peak_items_of sys (view x.source))
+    (peak_items sys (map (λ o. view o.source) (drop (i + 1) all))) c.overlaps.invariant.walking
+    (starts_split sys (λ o. view o.source) all i x c.overlaps-test.true c.overlap-item.is) c.in_ok-end.end c.in_default.not-Nothing c.in_ok-end.ensures
 
 pub overlaps-preserved : goal.overlaps-preserved
 overlaps-preserved c =
@@ -32,7 +36,8 @@ overlaps-preserved c =
     let i = c.overlaps.overlap-index in
     let x = c.overlap-item.result in
     record {
-      walking = goes_on c.args.names.now sys (peak_items sys (map (λ o. view o.source) all)) c.args.budget.now c.overlaps.budget c.try_start.new.budget (peak_items sys (map (λ o. view o.source) (drop i all))) (peak_items_of sys (view x.source))
+      walking = goes_on c.args.names.now sys (peak_items sys (map (λ o. view o.source) all)) c.args.budget.now c.overlaps.budget c.try_start.new.budget
+          (peak_items sys (map (λ o. view o.source) (drop i all))) (peak_items_of sys (view x.source))
           (peak_items sys (map (λ o. view o.source) (drop (i + 1) all))) c.overlaps.invariant.walking (starts_split sys (λ o. view o.source) all i x c.overlaps-test.true c.overlap-item.is)
           (subst (λ z. WalkAnswers c.args.names.now sys (peak_items_of sys (view x.source)) c.overlaps.budget c.try_start.new.budget (Ok z)) c.in-Nothing.is c.in_ok-end.ensures);
       fit = (first_of_rest (λ y. Fits (view y.source)) all i x c.overlaps-test.true c.overlap-item.is c.overlaps.invariant.fit).1;

@@ -15,7 +15,8 @@ returns-in-Ok c =
     let t = view c.args.start.now in
     last_part names sys (peak_items_of sys t) c.args.budget.now c.reach_in.new.budget c.try_listed.new.budget (pair_items t (listing sys [] t))
     (listing_made names sys t c.args.budget.now c.reach_in.new.budget c.in-Ok.ensures.listed.1) c.try_listed.result
-    (subst (λ l. WalkAnswers names sys (pair_items t l) c.reach_in.new.budget c.try_listed.new.budget c.try_listed.result) (ap table_view c.deref.ensures.value ∙ c.in-Ok.ensures.listed.0) c.try_listed.ensures)
+    (subst (λ l. WalkAnswers names sys (pair_items t l) c.reach_in.new.budget c.try_listed.new.budget c.try_listed.result)
+    (ap table_view c.deref.ensures.value ∙ c.in-Ok.ensures.listed.0) c.try_listed.ensures)
 
 pub returns-in-Err-Spent : goal.returns-in-Err-Spent
 returns-in-Err-Spent c =

@@ -8,4 +8,5 @@ use Rattle.noncon_search.proofs.trying.by_caps.Goals as goal
 
 pub returns-in-Err-Reason : goal.returns-in-Err-Reason
 returns-in-Err-Reason c =
-    refused_gives c.args.sys.now (map condition_view c.args.conds.now) try_caps by_caps (evidence_reason_view c.in-Err-Reason.field-0-0) refl (rw c.in-Err-Reason.field-0-is at c.in-Err-Reason.ensures.judged) c.requires.fit
+    refused_gives c.args.sys.now (map condition_view c.args.conds.now) try_caps by_caps (evidence_reason_view c.in-Err-Reason.field-0-0) refl
+    (rw c.in-Err-Reason.field-0-is at c.in-Err-Reason.ensures.judged) c.requires.fit

@@ -10,4 +10,5 @@ returns-in-Some c =
 
 pub returns-in-None : goal.returns-in-None
 returns-in-None c =
-    rest_gives c.args.sys.now (map condition_view c.args.conds.now) try_caps (growths (length c.args.conds.now)) (rw c.in-None.is at c.in_ok-evidence.ensures) c.try_growths.result c.try_growths.ensures
+    rest_gives c.args.sys.now (map condition_view c.args.conds.now) try_caps (growths (length c.args.conds.now)) (rw c.in-None.is at c.in_ok-evidence.ensures)
+    c.try_growths.result c.try_growths.ensures

@@ -12,7 +12,8 @@ growths-preserved c =
 
 pub returns-in-Some : goal.returns-in-Some
 returns-in-Some c =
-    growth_gives c.args.sys.now (map condition_view c.args.conds.now) c.growths.before (length c.args.conds.now) c.growths-test.true c.growths.invariant c.in-Some.evidence (rw c.in-Some.is at c.in_ok-evidence.ensures)
+    growth_gives c.args.sys.now (map condition_view c.args.conds.now) c.growths.before (length c.args.conds.now) c.growths-test.true c.growths.invariant c.in-Some.evidence
+    (rw c.in-Some.is at c.in_ok-evidence.ensures)
 
 pub returns : goal.returns
 returns c = none_behind c.args.sys.now (map condition_view c.args.conds.now) c.growths.before (length c.args.conds.now) c.growths-test.false c.growths.invariant

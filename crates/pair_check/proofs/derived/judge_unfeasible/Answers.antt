@@ -18,8 +18,10 @@ first_end-requires-clause-start c =
 pub returns-in_err-one : goal.returns-in_err-one
 returns-in_err-one c =
     let at = subst (λ cs. hypothesis_at (map condition_view cs) c.args.number ≡ Some (condition_view c.in-Some.cond.now)) c.deref.ensures.value (sym c.in-Some.ensures) in
-    subst (RefutesAnswers (IsUnfeasibleJudged c.args.sys.now (overlap_view c.args.overlap.now) c.args.number (derivation_view c.args.first.now) (derivation_view c.args.second.now))) (sym (handed_on _ _ c.from_residual.ensures.1))
-    (first_fails c.args.sys.now (overlap_view c.args.overlap.now) c.args.number (condition_view c.in-Some.cond.now) at (derivation_view c.args.first.now) (derivation_view c.args.second.now) c.in_err-one.field-0.0 c.in_err-one.ensures)
+    subst (RefutesAnswers (IsUnfeasibleJudged c.args.sys.now (overlap_view c.args.overlap.now) c.args.number (derivation_view c.args.first.now)
+    (derivation_view c.args.second.now))) (sym (handed_on _ _ c.from_residual.ensures.1))
+    (first_fails c.args.sys.now (overlap_view c.args.overlap.now) c.args.number (condition_view c.in-Some.cond.now) at (derivation_view c.args.first.now)
+    (derivation_view c.args.second.now) c.in_err-one.field-0.0 c.in_err-one.ensures)
 
 pub second_end-requires-clause-start : goal.second_end-requires-clause-start
 second_end-requires-clause-start c =
@@ -29,12 +31,15 @@ second_end-requires-clause-start c =
 pub returns-in_err-other : goal.returns-in_err-other
 returns-in_err-other c =
     let at = subst (λ cs. hypothesis_at (map condition_view cs) c.args.number ≡ Some (condition_view c.in-Some.cond.now)) c.deref.ensures.value (sym c.in-Some.ensures) in
-    subst (RefutesAnswers (IsUnfeasibleJudged c.args.sys.now (overlap_view c.args.overlap.now) c.args.number (derivation_view c.args.first.now) (derivation_view c.args.second.now))) (sym (handed_on _ _ c.from_residual-in_err-other.ensures.1))
-    (second_fails c.args.sys.now (overlap_view c.args.overlap.now) c.args.number (condition_view c.in-Some.cond.now) at (derivation_view c.args.first.now) (derivation_view c.args.second.now) (view c.in_ok-one.one) c.in_ok-one.ensures.derived
+    subst (RefutesAnswers (IsUnfeasibleJudged c.args.sys.now (overlap_view c.args.overlap.now) c.args.number (derivation_view c.args.first.now)
+    (derivation_view c.args.second.now))) (sym (handed_on _ _ c.from_residual-in_err-other.ensures.1))
+    (second_fails c.args.sys.now (overlap_view c.args.overlap.now) c.args.number (condition_view c.in-Some.cond.now) at (derivation_view c.args.first.now)
+    (derivation_view c.args.second.now) (view c.in_ok-one.one) c.in_ok-one.ensures.derived
     c.in_err-other.field-0.0 c.in_err-other.ensures)
 
 pub returns : goal.returns
 returns c =
     let at = subst (λ cs. hypothesis_at (map condition_view cs) c.args.number ≡ Some (condition_view c.in-Some.cond.now)) c.deref.ensures.value (sym c.in-Some.ensures) in
-    unfeasible_judged c.args.sys.now (overlap_view c.args.overlap.now) c.args.number (derivation_view c.args.first.now) (derivation_view c.args.second.now) (view c.in_ok-one.one) (view c.in_ok-other.other)
+    unfeasible_judged c.args.sys.now (overlap_view c.args.overlap.now) c.args.number (derivation_view c.args.first.now) (derivation_view c.args.second.now)
+    (view c.in_ok-one.one) (view c.in_ok-other.other)
     (record { condition = condition_view c.in-Some.cond.now; is_condition = at; first = c.in_ok-one.ensures.derived; second = c.in_ok-other.ensures.derived }) c.judge_ends.result c.judge_ends.ensures

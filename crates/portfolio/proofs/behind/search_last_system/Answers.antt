@@ -15,5 +15,6 @@ overlaps_behind-requires-clause-steps c =
 
 pub returns-clause-searched : goal.returns-clause-searched
 returns-clause-searched c =
-    subst (λ s. Searches behind_ending (MayEndLast (three_with_steps pruned_measures c.args.names.now (map simp_view c.args.steps.items) s)) c.args.budget.now c.search_three_behind.new.budget c.search_three_behind.result)
+    subst (λ s. Searches behind_ending (MayEndLast (three_with_steps pruned_measures c.args.names.now (map simp_view c.args.steps.items) s)) c.args.budget.now
+    c.search_three_behind.new.budget c.search_three_behind.result)
     (c.in_ok-prepared.ensures ∙ c.in_ok-indexed.ensures) c.search_three_behind.ensures.searched

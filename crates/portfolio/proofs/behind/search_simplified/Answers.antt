@@ -17,7 +17,8 @@ returns-then-is_empty-clause-searched c =
 
 pub returns-in_ok-end-in-Ok-Steps-clause-searched : goal.returns-in_ok-end-in-Ok-Steps-clause-searched
 returns-in_ok-end-in-Ok-Steps-clause-searched c =
-    some_steps c.args.names.now c.args.sys.now c.args.budget.now c.find_steps.new.budget c.search_last_system.new.budget c.in-Ok-Steps.steps c.in-Ok-Steps.last c.is_empty.result c.is_empty.ensures c.if-is_empty.false
+    some_steps c.args.names.now c.args.sys.now c.args.budget.now c.find_steps.new.budget c.search_last_system.new.budget c.in-Ok-Steps.steps c.in-Ok-Steps.last c.is_empty.result
+    c.is_empty.ensures c.if-is_empty.false
     (subst (λ a. FindAnswers c.args.sys.now c.args.budget.now c.find_steps.new.budget (Ok a)) c.in-Ok-Steps.field-0-is c.in-Ok-Steps.ensures)
     c.in_ok-end-in-Ok-Steps.end c.in_ok-end-in-Ok-Steps.ensures.searched c.outcome_of.result c.outcome_of.ensures
 

@@ -8,11 +8,13 @@ loop-step-init c = λ last all. none_followed c.args.sys.now last c.in_ok-origin
 
 pub follow-requires-clause-above : goal.follow-requires-clause-above
 follow-requires-clause-above c =
-    (step_there c.args.sys.now c.requires.0 c.loop-step.origins.items c.args.steps.now c.loop-step.step-index c.step-item.result c.loop-step-test.true c.step-item.is (c.loop-step.invariant c.requires.0 c.requires.1)).0
+    (step_there c.args.sys.now c.requires.0 c.loop-step.origins.items c.args.steps.now c.loop-step.step-index c.step-item.result c.loop-step-test.true c.step-item.is
+    (c.loop-step.invariant c.requires.0 c.requires.1)).0
 
 pub follow-requires-clause-there : goal.follow-requires-clause-there
 follow-requires-clause-there c =
-    (step_there c.args.sys.now c.requires.0 c.loop-step.origins.items c.args.steps.now c.loop-step.step-index c.step-item.result c.loop-step-test.true c.step-item.is (c.loop-step.invariant c.requires.0 c.requires.1)).1
+    (step_there c.args.sys.now c.requires.0 c.loop-step.origins.items c.args.steps.now c.loop-step.step-index c.step-item.result c.loop-step-test.true c.step-item.is
+    (c.loop-step.invariant c.requires.0 c.requires.1)).1
 
 pub loop-step-preserved : goal.loop-step-preserved
 loop-step-preserved c = λ last all.

@@ -11,7 +11,8 @@ returns-in_err-f-clause-in_place c =
 
 pub index_mut-requires : goal.index_mut-requires
 index_mut-requires c =
-    let inside = taken_inside c.args.heads.now c.args.walk.now.prefix.items c.pop.new.self.items c.in_ok-head.head c.in_ok-head.ensures.items c.args.walk.now.places.items c.requires.in_place c.in_ok-f.f (distinct_heads (map head_view c.args.heads.now) c.requires.sorted) c.in_ok-f.ensures in
+    let inside = taken_inside c.args.heads.now c.args.walk.now.prefix.items c.pop.new.self.items c.in_ok-head.head c.in_ok-head.ensures.items c.args.walk.now.places.items
+    c.requires.in_place c.in_ok-f.f (distinct_heads (map head_view c.args.heads.now) c.requires.sorted) c.in_ok-f.ensures in
     let ok = c.args.walk.now.places.ok.0 in omega (arith, inside, ok)
 
 pub returns-clause-in_place : goal.returns-clause-in_place

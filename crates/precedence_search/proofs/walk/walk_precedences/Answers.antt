@@ -56,7 +56,8 @@ returns-then-not-branch-clause-answer c =
     let alive = alive_before c.args.sys.now c.args.budget.now c.visits.budget (map head_view c.visits.walk.prefix.items) c.visits.invariant.paid in
     let seen = c.in-Barren.ensures c.args.sys.now sound alive in
     none_good c.args.sys.now c.args.budget.now c.visits.budget c.visit.new.budget (map head_view c.visits.walk.prefix.items) c.visits.invariant.paid seen.1 seen.0
-    (goes c.args.sys.now (map head_view c.visits.walk.prefix.items) (map head_view c.go_on.new.walk.prefix.items) c.in_ok-go_on-in-Barren.field-0 false c.if-not-branch.true (λ n done. c.in_ok-go_on-in-Barren.ensures.goes c.args.sys.now n heads_are done))
+    (goes c.args.sys.now (map head_view c.visits.walk.prefix.items) (map head_view c.go_on.new.walk.prefix.items) c.in_ok-go_on-in-Barren.field-0 false c.if-not-branch.true
+    (λ n done. c.in_ok-go_on-in-Barren.ensures.goes c.args.sys.now n heads_are done))
 
 pub returns-then-not-branch-clause-kept : goal.returns-then-not-branch-clause-kept
 returns-then-not-branch-clause-kept c =
@@ -81,7 +82,8 @@ visits-preserved c =
       paid =
           paid_on c.args.sys.now c.args.budget.now c.visits.budget c.visit.new.budget (map head_view c.visits.walk.prefix.items) c.visits.invariant.paid seen.1 seen.0
           (map head_view c.go_on.new.walk.prefix.items)
-          (goes c.args.sys.now (map head_view c.visits.walk.prefix.items) (map head_view c.go_on.new.walk.prefix.items) c.in_ok-go_on-in-Barren.field-0 true c.if-not-branch.false (λ n done. c.in_ok-go_on-in-Barren.ensures.goes c.args.sys.now n heads_are done));
+          (goes c.args.sys.now (map head_view c.visits.walk.prefix.items) (map head_view c.go_on.new.walk.prefix.items) c.in_ok-go_on-in-Barren.field-0 true c.if-not-branch.false
+          (λ n done. c.in_ok-go_on-in-Barren.ensures.goes c.args.sys.now n heads_are done));
     }
 
 pub returns-in-Good-clause-answer : goal.returns-in-Good-clause-answer

@@ -36,4 +36,5 @@ returns-clause-judged g c =
 pub loop-entry-preserved : goal.loop-entry-preserved
 loop-entry-preserved g c =
     loop_goes_on g.M.Measure.judged c.loop-entry.run c.args.sys.now c.args.measure.now c.args.pairs.now c.loop-entry.entry-index c.entry-item.result c.loop-entry.invariant.system
-    c.loop-entry.invariant.measure c.loop-entry.invariant.tally c.loop-entry-test.true c.entry-item.is c.take.new.self c.in_ok-take.ensures.system c.in_ok-take.ensures.measure c.in_ok-take.ensures.tally
+    c.loop-entry.invariant.measure c.loop-entry.invariant.tally c.loop-entry-test.true c.entry-item.is c.take.new.self c.in_ok-take.ensures.system
+    c.in_ok-take.ensures.measure c.in_ok-take.ensures.tally

@@ -8,7 +8,8 @@ use Rattle.quasi_check.proofs.Walks.{side_found}
 use Rattle.quasi_check.proofs.quasi.check_rules.Goals as goal
 
 pub returns-in-Some : goal.returns-in-Some
-returns-in-Some c = class_is_left (blame_view c.in-Some.blame) (subst (λ s. IsBlameOf s deterministic (blame_view c.in-Some.blame)) c.system.ensures (record { names = c.in-Some.ensures.0; blamed = c.in-Some.ensures.1 }))
+returns-in-Some c = class_is_left (blame_view c.in-Some.blame) (subst (λ s. IsBlameOf s deterministic (blame_view c.in-Some.blame)) c.system.ensures
+    (record { names = c.in-Some.ensures.0; blamed = c.in-Some.ensures.1 }))
 
 pub returns-in-Some-2 : goal.returns-in-Some-2
 returns-in-Some-2 c =

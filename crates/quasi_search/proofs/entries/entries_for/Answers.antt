@@ -17,33 +17,41 @@ try_overlap-requires c = record {
 
 pub returns-in_err-add_entry-in-Ok-Found-clause-kept : goal.returns-in_err-add_entry-in-Ok-Found-clause-kept
 returns-in_err-add_entry-in-Ok-Found-clause-kept c =
-    kept_more (IsQuasiEntry c.args.sys.now) c.args.overlaps.now c.rows.overlap-index c.overlap-item.result c.rows-test.true c.overlap-item.is c.args.budget.now c.rows.budget c.try_overlap.new.budget c.rows.entries.items c.rows.invariant.far c.in-Ok-Found.ensures.kept
+    kept_more (IsQuasiEntry c.args.sys.now) c.args.overlaps.now c.rows.overlap-index c.overlap-item.result c.rows-test.true c.overlap-item.is c.args.budget.now c.rows.budget
+    c.try_overlap.new.budget c.rows.entries.items c.rows.invariant.far c.in-Ok-Found.ensures.kept
 
 pub returns-in-Ok-Nothing-clause-answer : goal.returns-in-Ok-Nothing-clause-answer
 returns-in-Ok-Nothing-clause-answer c =
     let o = overlap_view c.overlap-item.result in
-    let w = told quasi_item_cost (GivesQuasi c.args.sys.now o) (quasi_items c.args.sys.now o) c.rows.budget c.try_overlap.new.budget c.in-Ok-Nothing.field-0 Nothing c.in-Ok-Nothing.field-0-is c.in-Ok-Nothing.ensures.answer in
-    row_ends (IsQuasiEntry c.args.sys.now) c.args.overlaps.now c.rows.overlap-index c.overlap-item.result c.rows-test.true c.overlap-item.is c.args.budget.now c.rows.budget c.try_overlap.new.budget c.rows.entries.items c.rows.invariant.far
+    let w = told quasi_item_cost (GivesQuasi c.args.sys.now o) (quasi_items c.args.sys.now o) c.rows.budget c.try_overlap.new.budget c.in-Ok-Nothing.field-0 Nothing
+    c.in-Ok-Nothing.field-0-is c.in-Ok-Nothing.ensures.answer in
+    row_ends (IsQuasiEntry c.args.sys.now) c.args.overlaps.now c.rows.overlap-index c.overlap-item.result c.rows-test.true c.overlap-item.is c.args.budget.now c.rows.budget
+    c.try_overlap.new.budget c.rows.entries.items c.rows.invariant.far
     (items_cost c.args.sys.now) w.0 (no_quasi_entry c.args.sys.now o w.1)
 
 pub returns-in-Ok-Nothing-clause-kept : goal.returns-in-Ok-Nothing-clause-kept
 returns-in-Ok-Nothing-clause-kept c =
-    kept_more (IsQuasiEntry c.args.sys.now) c.args.overlaps.now c.rows.overlap-index c.overlap-item.result c.rows-test.true c.overlap-item.is c.args.budget.now c.rows.budget c.try_overlap.new.budget c.rows.entries.items c.rows.invariant.far c.in-Ok-Nothing.ensures.kept
+    kept_more (IsQuasiEntry c.args.sys.now) c.args.overlaps.now c.rows.overlap-index c.overlap-item.result c.rows-test.true c.overlap-item.is c.args.budget.now c.rows.budget
+    c.try_overlap.new.budget c.rows.entries.items c.rows.invariant.far c.in-Ok-Nothing.ensures.kept
 
 pub returns-in-Ok-Spent-clause-answer : goal.returns-in-Ok-Spent-clause-answer
 returns-in-Ok-Spent-clause-answer c =
     let o = overlap_view c.overlap-item.result in
-    row_stops (IsQuasiEntry c.args.sys.now) c.args.overlaps.now c.rows.overlap-index c.overlap-item.result c.rows-test.true c.overlap-item.is c.args.budget.now c.rows.budget c.try_overlap.new.budget c.rows.entries.items c.rows.invariant.far
+    row_stops (IsQuasiEntry c.args.sys.now) c.args.overlaps.now c.rows.overlap-index c.overlap-item.result c.rows-test.true c.overlap-item.is c.args.budget.now c.rows.budget
+    c.try_overlap.new.budget c.rows.entries.items c.rows.invariant.far
     (StopsAtQuasi c.args.sys.now)
-    (told quasi_item_cost (GivesQuasi c.args.sys.now o) (quasi_items c.args.sys.now o) c.rows.budget c.try_overlap.new.budget c.in-Ok-Spent.field-0 Spent c.in-Ok-Spent.field-0-is c.in-Ok-Spent.ensures.answer)
+    (told quasi_item_cost (GivesQuasi c.args.sys.now o) (quasi_items c.args.sys.now o) c.rows.budget c.try_overlap.new.budget c.in-Ok-Spent.field-0 Spent
+    c.in-Ok-Spent.field-0-is c.in-Ok-Spent.ensures.answer)
 
 pub returns-in-Ok-Spent-clause-kept : goal.returns-in-Ok-Spent-clause-kept
 returns-in-Ok-Spent-clause-kept c =
-    kept_more (IsQuasiEntry c.args.sys.now) c.args.overlaps.now c.rows.overlap-index c.overlap-item.result c.rows-test.true c.overlap-item.is c.args.budget.now c.rows.budget c.try_overlap.new.budget c.rows.entries.items c.rows.invariant.far c.in-Ok-Spent.ensures.kept
+    kept_more (IsQuasiEntry c.args.sys.now) c.args.overlaps.now c.rows.overlap-index c.overlap-item.result c.rows-test.true c.overlap-item.is c.args.budget.now c.rows.budget
+    c.try_overlap.new.budget c.rows.entries.items c.rows.invariant.far c.in-Ok-Spent.ensures.kept
 
 pub returns-in-Err-clause-kept : goal.returns-in-Err-clause-kept
 returns-in-Err-clause-kept c =
-    kept_more (IsQuasiEntry c.args.sys.now) c.args.overlaps.now c.rows.overlap-index c.overlap-item.result c.rows-test.true c.overlap-item.is c.args.budget.now c.rows.budget c.try_overlap.new.budget c.rows.entries.items c.rows.invariant.far c.in-Err.ensures.kept
+    kept_more (IsQuasiEntry c.args.sys.now) c.args.overlaps.now c.rows.overlap-index c.overlap-item.result c.rows-test.true c.overlap-item.is c.args.budget.now c.rows.budget
+    c.try_overlap.new.budget c.rows.entries.items c.rows.invariant.far c.in-Err.ensures.kept
 
 pub rows-preserved : goal.rows-preserved
 rows-preserved c =
@@ -51,10 +59,12 @@ rows-preserved c =
     let o = overlap_view c.overlap-item.result in
     let e = pair_evidence_view c.in-Ok-Found.evidence in
     let w =
-    told quasi_item_cost (GivesQuasi c.args.sys.now o) (quasi_items c.args.sys.now o) c.rows.budget c.try_overlap.new.budget c.in-Ok-Found.field-0 (Found c.in-Ok-Found.evidence) c.in-Ok-Found.field-0-is c.in-Ok-Found.ensures.answer in
+    told quasi_item_cost (GivesQuasi c.args.sys.now o) (quasi_items c.args.sys.now o) c.rows.budget c.try_overlap.new.budget c.in-Ok-Found.field-0 (Found c.in-Ok-Found.evidence)
+    c.in-Ok-Found.field-0-is c.in-Ok-Found.ensures.answer in
     record {
       within = omega (arith, below);
-      far = entry_more (IsQuasiEntry c.args.sys.now) c.args.overlaps.now c.rows.overlap-index c.overlap-item.result c.rows-test.true c.overlap-item.is c.args.budget.now c.rows.budget c.try_overlap.new.budget c.rows.entries.items c.rows.invariant.far
+      far = entry_more (IsQuasiEntry c.args.sys.now) c.args.overlaps.now c.rows.overlap-index c.overlap-item.result c.rows-test.true c.overlap-item.is c.args.budget.now
+          c.rows.budget c.try_overlap.new.budget c.rows.entries.items c.rows.invariant.far
           (entry_for o e) (w.0, w.1, (e, w.2, refl)) c.add_entry.new.entries.items c.in_ok-add_entry-in-Ok-Found.ensures;
       knows = c.in-Ok-Found.ensures.knows;
     }

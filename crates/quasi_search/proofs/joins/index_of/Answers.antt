@@ -12,7 +12,8 @@ list-preserved c =
     let next = map-drop_read entry_view all i c.listed-item.result c.list-test.true c.listed-item.is in
     let fit = subst DoAllFit next c.list.invariant.fit in
     record {
-      indexing = indexing_goes_on c.list.index c.in_ok-key.key _ c.in_ok-key.ensures fit.0.nodes (table_view all) (table_view (drop i all)) (table_view (drop (i + 1) all)) c.requires.once c.list.invariant.indexing next
+      indexing = indexing_goes_on c.list.index c.in_ok-key.key _ c.in_ok-key.ensures fit.0.nodes (table_view all) (table_view (drop i all)) (table_view (drop (i + 1) all))
+          c.requires.once c.list.invariant.indexing next
           c.insert.new.self.entries c.in_ok-insert.ensures.entries;
       fit = fit.1;
     }

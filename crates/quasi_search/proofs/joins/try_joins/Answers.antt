@@ -117,9 +117,12 @@ returns-in-Some-3-clause-answer c =
     let o = overlap_view c.args.overlap.now in
     listing_made sys o o.pair.left c.args.budget.now c.listed_under.new.budget
     (make_listing (listing_cost sys o.pair.conditions o.pair.right) ∷ joins (listing sys o.pair.conditions o.pair.left) (listing sys o.pair.conditions o.pair.right)) c.in-Some.left
-    (subst (λ z. ListedAnswers sys o o.pair.left c.args.budget.now c.listed_under.new.budget (Ok z)) c.in-Some.is c.in_ok-left.ensures) c.listed_under-2.new.budget (Ok (Found c.in_ok-joined-in-Some-3.field-0))
-    (listing_made sys o o.pair.right c.listed_under.new.budget c.listed_under-2.new.budget (joins (listing sys o.pair.conditions o.pair.left) (listing sys o.pair.conditions o.pair.right)) c.in-Some-2.right
-    (subst (λ z. ListedAnswers sys o o.pair.right c.listed_under.new.budget c.listed_under-2.new.budget (Ok z)) c.in-Some-2.is c.in_ok-right.ensures) c.listed_under-2.new.budget (Ok (Found c.in_ok-joined-in-Some-3.field-0))
+    (subst (λ z. ListedAnswers sys o o.pair.left c.args.budget.now c.listed_under.new.budget (Ok z)) c.in-Some.is c.in_ok-left.ensures) c.listed_under-2.new.budget
+    (Ok (Found c.in_ok-joined-in-Some-3.field-0))
+    (listing_made sys o o.pair.right c.listed_under.new.budget c.listed_under-2.new.budget
+    (joins (listing sys o.pair.conditions o.pair.left) (listing sys o.pair.conditions o.pair.right)) c.in-Some-2.right
+    (subst (λ z. ListedAnswers sys o o.pair.right c.listed_under.new.budget c.listed_under-2.new.budget (Ok z)) c.in-Some-2.is c.in_ok-right.ensures) c.listed_under-2.new.budget
+    (Ok (Found c.in_ok-joined-in-Some-3.field-0))
     (shared_given sys o (table_view c.deref.result.now) (table_view c.deref-2.result.now)
     (ap table_view c.deref.ensures.value ∙ (subst (λ z. ListedAnswers sys o o.pair.left c.args.budget.now c.listed_under.new.budget (Ok z)) c.in-Some.is c.in_ok-left.ensures).0)
     (ap table_view c.deref-2.ensures.value ∙ (subst (λ z. ListedAnswers sys o o.pair.right c.listed_under.new.budget c.listed_under-2.new.budget (Ok z)) c.in-Some-2.is c.in_ok-right.ensures).0)
@@ -132,7 +135,8 @@ returns-clause-answer c =
     listing_made sys o o.pair.left c.args.budget.now c.listed_under.new.budget
     (make_listing (listing_cost sys o.pair.conditions o.pair.right) ∷ joins (listing sys o.pair.conditions o.pair.left) (listing sys o.pair.conditions o.pair.right)) c.in-Some.left
     (subst (λ z. ListedAnswers sys o o.pair.left c.args.budget.now c.listed_under.new.budget (Ok z)) c.in-Some.is c.in_ok-left.ensures) c.listed_under-2.new.budget (Ok Nothing)
-    (listing_made sys o o.pair.right c.listed_under.new.budget c.listed_under-2.new.budget (joins (listing sys o.pair.conditions o.pair.left) (listing sys o.pair.conditions o.pair.right)) c.in-Some-2.right
+    (listing_made sys o o.pair.right c.listed_under.new.budget c.listed_under-2.new.budget
+    (joins (listing sys o.pair.conditions o.pair.left) (listing sys o.pair.conditions o.pair.right)) c.in-Some-2.right
     (subst (λ z. ListedAnswers sys o o.pair.right c.listed_under.new.budget c.listed_under-2.new.budget (Ok z)) c.in-Some-2.is c.in_ok-right.ensures) c.listed_under-2.new.budget (Ok Nothing)
     (none_given sys o (table_view c.deref.result.now) (table_view c.deref-2.result.now)
     (ap table_view c.deref.ensures.value ∙ (subst (λ z. ListedAnswers sys o o.pair.left c.args.budget.now c.listed_under.new.budget (Ok z)) c.in-Some.is c.in_ok-left.ensures).0)

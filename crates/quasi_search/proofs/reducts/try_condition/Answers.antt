@@ -25,7 +25,8 @@ returns-in_default-clause-answer c =
     let sys = c.args.sys.now in
     let o = overlap_view c.args.overlap.now in
     let t = view c.args.cond.now.left in
-    listing_stops sys o t c.args.budget.now c.listed_under.new.budget c.in_ok-list.field-0 c.in_default.not-Some c.in_ok-list.ensures (map (two_reducts c.args.number) (pairs_of (listing sys o.pair.conditions t)))
+    listing_stops sys o t c.args.budget.now c.listed_under.new.budget c.in_ok-list.field-0 c.in_default.not-Some c.in_ok-list.ensures
+    (map (two_reducts c.args.number) (pairs_of (listing sys o.pair.conditions t)))
 
 pub returns-clause-answer : goal.returns-clause-answer
 returns-clause-answer c =
@@ -35,7 +36,8 @@ returns-clause-answer c =
     let made = subst (λ z. ListedAnswers sys o t c.args.budget.now c.listed_under.new.budget (Ok z)) c.in-Some.is c.in_ok-list.ensures in
     let all : reducts_view c.deref-2.result.now ≡ listing sys o.pair.conditions t =
     ap reducts_view c.deref-2.ensures.value ∙ c.in_ok-reducts.ensures.listed ∙ ap table_view c.deref.ensures.value ∙ made.0 in
-    listing_made sys o t c.args.budget.now c.listed_under.new.budget (map (two_reducts c.args.number) (pairs_of (listing sys o.pair.conditions t))) c.in-Some.list made c.try_pairs.new.budget c.try_pairs.result
+    listing_made sys o t c.args.budget.now c.listed_under.new.budget (map (two_reducts c.args.number) (pairs_of (listing sys o.pair.conditions t))) c.in-Some.list made
+    c.try_pairs.new.budget c.try_pairs.result
     (subst (λ l. WalkAnswers quasi_item_cost (GivesQuasi sys o) (map (two_reducts c.args.number) (pairs_of l)) c.listed_under.new.budget c.try_pairs.new.budget c.try_pairs.result) all
     (c.try_pairs.ensures.answer sys o
     (each_listed sys o c.args.number (condition_view c.args.cond.now) c.requires.cond c.deref-2.result.now (subst (EachOf (IsJudged sys)) (sym c.deref-2.ensures.value) c.in_ok-reducts.ensures.judged)
@@ -47,5 +49,6 @@ returns-clause-kept c =
     let o = overlap_view c.args.overlap.now in
     let t = view c.args.cond.now.left in
     kept_on c.args.budget.now c.listed_under.new.budget c.try_pairs.new.budget
-    (made_kept sys o t c.args.budget.now c.listed_under.new.budget c.in-Some.list (subst (λ z. ListedAnswers sys o t c.args.budget.now c.listed_under.new.budget (Ok z)) c.in-Some.is c.in_ok-list.ensures))
+    (made_kept sys o t c.args.budget.now c.listed_under.new.budget c.in-Some.list
+    (subst (λ z. ListedAnswers sys o t c.args.budget.now c.listed_under.new.budget (Ok z)) c.in-Some.is c.in_ok-list.ensures))
     c.try_pairs.ensures.kept

@@ -14,21 +14,26 @@ returns-then-not-take-clause-answer c sys o each =
 
 pub returns-then-not-first-clause-answer : goal.returns-then-not-first-clause-answer
 returns-then-not-first-clause-answer c sys o each =
-    item_bare quasi_item_cost (GivesQuasi sys o) (two_reducts c.args.cond (reduct_view c.args.first.now, reduct_view c.args.second.now)) c.args.budget.now c.take.new.self (c.if-not-take.ensures.taken refl)
+    item_bare quasi_item_cost (GivesQuasi sys o) (two_reducts c.args.cond (reduct_view c.args.first.now, reduct_view c.args.second.now)) c.args.budget.now c.take.new.self
+    (c.if-not-take.ensures.taken refl)
     (bare_pair sys o c.args.cond c.args.first.now c.args.second.now each.0 each.1.0 (λ p q run. false≢true (sym c.if-not-first.true ∙ p)))
 
 pub returns-then-not-second-clause-answer : goal.returns-then-not-second-clause-answer
 returns-then-not-second-clause-answer c sys o each =
-    item_bare quasi_item_cost (GivesQuasi sys o) (two_reducts c.args.cond (reduct_view c.args.first.now, reduct_view c.args.second.now)) c.args.budget.now c.take.new.self (c.if-not-take.ensures.taken refl)
+    item_bare quasi_item_cost (GivesQuasi sys o) (two_reducts c.args.cond (reduct_view c.args.first.now, reduct_view c.args.second.now)) c.args.budget.now c.take.new.self
+    (c.if-not-take.ensures.taken refl)
     (bare_pair sys o c.args.cond c.args.first.now c.args.second.now each.0 each.1.0 (λ p q run. false≢true (sym c.if-not-second.true ∙ q)))
 
 pub returns-then-not-branch-clause-answer : goal.returns-then-not-branch-clause-answer
 returns-then-not-branch-clause-answer c sys o each =
-    item_bare quasi_item_cost (GivesQuasi sys o) (two_reducts c.args.cond (reduct_view c.args.first.now, reduct_view c.args.second.now)) c.args.budget.now c.take.new.self (c.if-not-take.ensures.taken refl)
+    item_bare quasi_item_cost (GivesQuasi sys o) (two_reducts c.args.cond (reduct_view c.args.first.now, reduct_view c.args.second.now)) c.args.budget.now c.take.new.self
+    (c.if-not-take.ensures.taken refl)
     (bare_pair sys o c.args.cond c.args.first.now c.args.second.now each.0 each.1.0 (λ p q run. false≢true (sym c.if-not-branch.true ∙ c.in_ok-do_clash.ensures.1 run)))
 
 pub returns-clause-answer : goal.returns-clause-answer
 returns-clause-answer c sys o each =
-    item_gives quasi_item_cost (GivesQuasi sys o) (two_reducts c.args.cond (reduct_view c.args.first.now, reduct_view c.args.second.now)) c.args.budget.now c.take.new.self (c.if-not-take.ensures.taken refl)
+    item_gives quasi_item_cost (GivesQuasi sys o) (two_reducts c.args.cond (reduct_view c.args.first.now, reduct_view c.args.second.now)) c.args.budget.now c.take.new.self
+    (c.if-not-take.ensures.taken refl)
     c.in_ok-unfeasible.field-0
-    (pair_gives sys o c.args.cond c.args.first.now c.args.second.now each.0 each.1.0 c.if-not-first.false c.if-not-second.false (c.in_ok-do_clash.ensures.0 c.if-not-branch.false) c.in_ok-unfeasible.field-0 c.in_ok-unfeasible.ensures)
+    (pair_gives sys o c.args.cond c.args.first.now c.args.second.now each.0 each.1.0 c.if-not-first.false c.if-not-second.false (c.in_ok-do_clash.ensures.0 c.if-not-branch.false)
+    c.in_ok-unfeasible.field-0 c.in_ok-unfeasible.ensures)

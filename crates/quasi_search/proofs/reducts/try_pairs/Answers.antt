@@ -22,8 +22,11 @@ returns-in_default c =
           ends quasi_item_cost (GivesQuasi sys o) (items_of k all) c.args.budget.now c.firsts.budget c.try_with.new.budget (items_of k (drop i all)) (items_with k (reduct_view x) (drop (i + 1) all))
           (items_of k (drop (i + 1) all)) (c.firsts.invariant.walking sys o each) (next_first k all i x c.firsts-test.true c.index-reducts-i.is) c.in_ok-end.end c.in_default.not-Nothing
           (subst (λ l. WalkAnswers quasi_item_cost (GivesQuasi sys o) (items_with k (reduct_view x) l) c.firsts.budget c.try_with.new.budget (Ok c.in_ok-end.end)) (slice_is all (i + 1))
-          (c.in_ok-end.ensures.answer sys o
-          (each_at (IsReductOf sys o k) all i x c.firsts-test.true c.index-reducts-i.is each, subst (EachOf (IsReductOf sys o k)) (sym (slice_is all (i + 1))) (each_behind (IsReductOf sys o k) all (i + 1) each))));
+          (c.in_ok-end.ensures.answer sys o (
+            each_at (IsReductOf sys o k) all i x c.firsts-test.true c.index-reducts-i.is each,
+            subst (EachOf (IsReductOf sys o k)) (sym (slice_is all (i + 1)))
+                (each_behind (IsReductOf sys o k) all (i + 1) each),
+          )));
       kept = kept_on c.args.budget.now c.firsts.budget c.try_with.new.budget c.firsts.invariant.kept c.in_ok-end.ensures.kept;
     }
 
@@ -35,12 +38,16 @@ firsts-preserved c =
     let x = c.index-reducts-i.result in
     record {
       walking = λ sys o each.
-          goes_on quasi_item_cost (GivesQuasi sys o) (items_of k all) c.args.budget.now c.firsts.budget c.try_with.new.budget (items_of k (drop i all)) (items_with k (reduct_view x) (drop (i + 1) all))
+          goes_on quasi_item_cost (GivesQuasi sys o) (items_of k all) c.args.budget.now c.firsts.budget c.try_with.new.budget (items_of k (drop i all))
+          (items_with k (reduct_view x) (drop (i + 1) all))
           (items_of k (drop (i + 1) all)) (c.firsts.invariant.walking sys o each) (next_first k all i x c.firsts-test.true c.index-reducts-i.is)
           (subst (λ z. WalkAnswers quasi_item_cost (GivesQuasi sys o) (items_with k (reduct_view x) (drop (i + 1) all)) c.firsts.budget c.try_with.new.budget (Ok z)) c.in-Nothing.is
           (subst (λ l. WalkAnswers quasi_item_cost (GivesQuasi sys o) (items_with k (reduct_view x) l) c.firsts.budget c.try_with.new.budget (Ok c.in_ok-end.end)) (slice_is all (i + 1))
-          (c.in_ok-end.ensures.answer sys o
-          (each_at (IsReductOf sys o k) all i x c.firsts-test.true c.index-reducts-i.is each, subst (EachOf (IsReductOf sys o k)) (sym (slice_is all (i + 1))) (each_behind (IsReductOf sys o k) all (i + 1) each)))));
+          (c.in_ok-end.ensures.answer sys o (
+            each_at (IsReductOf sys o k) all i x c.firsts-test.true c.index-reducts-i.is each,
+            subst (EachOf (IsReductOf sys o k)) (sym (slice_is all (i + 1)))
+                (each_behind (IsReductOf sys o k) all (i + 1) each),
+          ))));
       kept = kept_on c.args.budget.now c.firsts.budget c.try_with.new.budget c.firsts.invariant.kept c.in_ok-end.ensures.kept;
     }
 
@@ -50,4 +57,5 @@ returns-clause-answer c sys o each =
     let all = c.args.reducts.now in
     let i = c.firsts.i in
     let over = c.firsts-test.false in
-    finishes quasi_item_cost (GivesQuasi sys o) (items_of k all) c.args.budget.now c.firsts.budget (items_of k (drop i all)) (c.firsts.invariant.walking sys o each) (none_of k all i (omega (arith, over)))
+    finishes quasi_item_cost (GivesQuasi sys o) (items_of k all) c.args.budget.now c.firsts.budget (items_of k (drop i all)) (c.firsts.invariant.walking sys o each)
+    (none_of k all i (omega (arith, over)))

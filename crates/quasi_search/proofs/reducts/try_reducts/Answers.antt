@@ -54,7 +54,8 @@ conds-preserved c =
       walking = goes_on quasi_item_cost (GivesQuasi sys (overlap_view v)) (reduct_items sys hyps 1 hyps) c.args.budget.now c.conds.budget c.try_condition.new.budget (items_behind sys v i)
           (condition_items sys (overlap_view v) (i + 1) (view x.left)) (items_behind sys v (i + 1)) c.conds.invariant.walking
           (next_condition sys v i x (subst (λ z. i < length z) c.deref-cond-items.ensures.value c.conds-test.true) (subst (λ z. x ≡ get_or z i x) c.deref-cond-items.ensures.value c.cond-item.is))
-          (subst (λ z. WalkAnswers quasi_item_cost (GivesQuasi sys (overlap_view v)) (condition_items sys (overlap_view v) (i + 1) (view x.left)) c.conds.budget c.try_condition.new.budget (Ok z)) c.in-Nothing.is
+          (subst (λ z. WalkAnswers quasi_item_cost (GivesQuasi sys (overlap_view v)) (condition_items sys (overlap_view v) (i + 1) (view x.left)) c.conds.budget
+          c.try_condition.new.budget (Ok z)) c.in-Nothing.is
           c.in_ok-end.ensures.answer);
       kept = kept_on c.args.budget.now c.conds.budget c.try_condition.new.budget c.conds.invariant.kept c.in_ok-end.ensures.kept;
     }

@@ -48,4 +48,5 @@ returns-clause-answer c sys o each =
     let all = c.args.later.now in
     let j = c.later.second-index in
     let over = c.later-test.false in
-    finishes quasi_item_cost (GivesQuasi sys o) (items_with k x all) c.args.budget.now c.later.budget (items_with k x (drop j all)) (c.later.invariant.walking sys o each) (none_with k x all j (omega (arith, over)))
+    finishes quasi_item_cost (GivesQuasi sys o) (items_with k x all) c.args.budget.now c.later.budget (items_with k x (drop j all)) (c.later.invariant.walking sys o each)
+    (none_with k x all j (omega (arith, over)))

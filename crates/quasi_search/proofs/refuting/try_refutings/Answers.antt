@@ -10,8 +10,10 @@ use Rattle.quasi_search.proofs.refuting.try_refutings.Goals as goal
 pub returns-in-Nothing-clause-answer : goal.returns-in-Nothing-clause-answer
 returns-in-Nothing-clause-answer c =
     let o = overlap_view c.args.overlap.now in
-    goes_behind quasi_item_cost (GivesQuasi c.args.sys.now o) (try_refuting try_caps ∷ []) (map try_refuting (growths (length o.pair.conditions))) c.args.budget.now c.try_way.new.budget c.try_growths.new.budget
-    c.try_growths.result (subst (λ z. WalkAnswers quasi_item_cost (GivesQuasi c.args.sys.now o) (try_refuting try_caps ∷ []) c.args.budget.now c.try_way.new.budget (Ok z)) c.in-Nothing.is c.in_ok-end.ensures.answer)
+    goes_behind quasi_item_cost (GivesQuasi c.args.sys.now o) (try_refuting try_caps ∷ []) (map try_refuting (growths (length o.pair.conditions))) c.args.budget.now
+    c.try_way.new.budget c.try_growths.new.budget
+    c.try_growths.result (subst (λ z. WalkAnswers quasi_item_cost (GivesQuasi c.args.sys.now o) (try_refuting try_caps ∷ []) c.args.budget.now c.try_way.new.budget (Ok z))
+    c.in-Nothing.is c.in_ok-end.ensures.answer)
     c.try_growths.ensures.answer
 
 pub returns-in-Nothing-clause-kept : goal.returns-in-Nothing-clause-kept

@@ -26,15 +26,18 @@ returns-in-Nothing-2-clause-answer c =
     let o = overlap_view c.args.overlap.now in
     goes_behind quasi_item_cost (GivesQuasi sys o) (refuting_items (length o.pair.conditions)) (join_items sys o ++ reduct_items sys o.pair.conditions 1 o.pair.conditions) c.args.budget.now
     c.try_refutings.new.budget c.try_reducts.new.budget c.try_reducts.result
-    (subst (λ z. WalkAnswers quasi_item_cost (GivesQuasi sys o) (refuting_items (length o.pair.conditions)) c.args.budget.now c.try_refutings.new.budget (Ok z)) c.in-Nothing.is c.in_ok-end.ensures.answer)
-    (goes_behind quasi_item_cost (GivesQuasi sys o) (join_items sys o) (reduct_items sys o.pair.conditions 1 o.pair.conditions) c.try_refutings.new.budget c.try_joins.new.budget c.try_reducts.new.budget
+    (subst (λ z. WalkAnswers quasi_item_cost (GivesQuasi sys o) (refuting_items (length o.pair.conditions)) c.args.budget.now c.try_refutings.new.budget (Ok z))
+    c.in-Nothing.is c.in_ok-end.ensures.answer)
+    (goes_behind quasi_item_cost (GivesQuasi sys o) (join_items sys o) (reduct_items sys o.pair.conditions 1 o.pair.conditions) c.try_refutings.new.budget
+    c.try_joins.new.budget c.try_reducts.new.budget
     c.try_reducts.result
     (subst (λ z. WalkAnswers quasi_item_cost (GivesQuasi sys o) (join_items sys o) c.try_refutings.new.budget c.try_joins.new.budget (Ok z)) c.in-Nothing-2.is c.in_ok-end-2.ensures.answer)
     c.try_reducts.ensures.answer)
 
 pub returns-in-Nothing-2-clause-kept : goal.returns-in-Nothing-2-clause-kept
 returns-in-Nothing-2-clause-kept c =
-    kept_on c.args.budget.now c.try_joins.new.budget c.try_reducts.new.budget (kept_on c.args.budget.now c.try_refutings.new.budget c.try_joins.new.budget c.in_ok-end.ensures.kept c.in_ok-end-2.ensures.kept)
+    kept_on c.args.budget.now c.try_joins.new.budget c.try_reducts.new.budget
+    (kept_on c.args.budget.now c.try_refutings.new.budget c.try_joins.new.budget c.in_ok-end.ensures.kept c.in_ok-end-2.ensures.kept)
     c.try_reducts.ensures.kept
 
 pub returns-in_default-2 : goal.returns-in_default-2
@@ -44,7 +47,8 @@ returns-in_default-2 c =
     record {
       answer = goes_behind quasi_item_cost (GivesQuasi sys o) (refuting_items (length o.pair.conditions)) (join_items sys o ++ reduct_items sys o.pair.conditions 1 o.pair.conditions) c.args.budget.now
           c.try_refutings.new.budget c.try_joins.new.budget (Ok c.in_ok-end-2.end)
-          (subst (λ z. WalkAnswers quasi_item_cost (GivesQuasi sys o) (refuting_items (length o.pair.conditions)) c.args.budget.now c.try_refutings.new.budget (Ok z)) c.in-Nothing.is c.in_ok-end.ensures.answer)
+          (subst (λ z. WalkAnswers quasi_item_cost (GivesQuasi sys o) (refuting_items (length o.pair.conditions)) c.args.budget.now c.try_refutings.new.budget (Ok z))
+          c.in-Nothing.is c.in_ok-end.ensures.answer)
           (ends_early quasi_item_cost (GivesQuasi sys o) (join_items sys o) (reduct_items sys o.pair.conditions 1 o.pair.conditions) c.try_refutings.new.budget c.try_joins.new.budget c.in_ok-end-2.end
           c.in_default-2.not-Nothing c.in_ok-end-2.ensures.answer);
       kept = kept_on c.args.budget.now c.try_refutings.new.budget c.try_joins.new.budget c.in_ok-end.ensures.kept c.in_ok-end-2.ensures.kept;

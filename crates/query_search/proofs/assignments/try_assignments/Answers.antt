@@ -22,23 +22,28 @@ assignments-init c =
       as_many = many;
       last = c.in_ok-turns.ensures.last ∙ c.len-2.ensures ∙ c.in_ok-constants.constants.ok.0;
       walking = begins sys cs (value_items sys cs) c.args.budget.now (map try_values (choices.chosen_from ts empty c.in_ok-open.open.items c.in_ok-turns.turns.numbers.items))
-          (first_assigned sys cs ts c.in_ok-open.open.items c.in_ok-turns.turns.numbers.items (c.in_ok-constants.ensures ∙ ap constants c.system.ensures) c.in_ok-open.ensures c.in_ok-turns.ensures.zeros many);
+          (first_assigned sys cs ts c.in_ok-open.open.items c.in_ok-turns.turns.numbers.items (c.in_ok-constants.ensures ∙ ap constants c.system.ensures) c.in_ok-open.ensures
+          c.in_ok-turns.ensures.zeros many);
     }
 
 pub returns-in_err-end : goal.returns-in_err-end
 returns-in_err-end c =
     let sys = c.args.sys.now in
     let cs = map condition_view c.args.conds.now in
-    value_fails sys cs (value_items sys cs) c.args.budget.now c.assignments.budget c.try_values.new.budget (choices.constants_of c.in_ok-constants.constants.items) c.in_ok-open.open.items c.assignments.turns.numbers.items
-    c.in_ok-values.values (c.in_ok-values.ensures ∙ same_chosen c.in_ok-constants.constants.items c.deref-in-assignments.result.now c.in_ok-open.open.items c.deref.result.now c.assignments.turns.numbers.items c.deref-in-assignments.ensures.value c.deref.ensures.value)
+    value_fails sys cs (value_items sys cs) c.args.budget.now c.assignments.budget c.try_values.new.budget (choices.constants_of c.in_ok-constants.constants.items)
+    c.in_ok-open.open.items c.assignments.turns.numbers.items
+    c.in_ok-values.values (c.in_ok-values.ensures ∙ same_chosen c.in_ok-constants.constants.items c.deref-in-assignments.result.now c.in_ok-open.open.items c.deref.result.now
+    c.assignments.turns.numbers.items c.deref-in-assignments.ensures.value c.deref.ensures.value)
     c.assignments.invariant.walking c.from_residual-in_err-end.result c.from_residual-in_err-end.ensures.0 c.in_err-end.ensures
 
 pub returns-in_default : goal.returns-in_default
 returns-in_default c =
     let sys = c.args.sys.now in
     let cs = map condition_view c.args.conds.now in
-    value_ends sys cs (value_items sys cs) c.args.budget.now c.assignments.budget c.try_values.new.budget (choices.constants_of c.in_ok-constants.constants.items) c.in_ok-open.open.items c.assignments.turns.numbers.items
-    c.in_ok-values.values (c.in_ok-values.ensures ∙ same_chosen c.in_ok-constants.constants.items c.deref-in-assignments.result.now c.in_ok-open.open.items c.deref.result.now c.assignments.turns.numbers.items c.deref-in-assignments.ensures.value c.deref.ensures.value)
+    value_ends sys cs (value_items sys cs) c.args.budget.now c.assignments.budget c.try_values.new.budget (choices.constants_of c.in_ok-constants.constants.items)
+    c.in_ok-open.open.items c.assignments.turns.numbers.items
+    c.in_ok-values.values (c.in_ok-values.ensures ∙ same_chosen c.in_ok-constants.constants.items c.deref-in-assignments.result.now c.in_ok-open.open.items c.deref.result.now
+    c.assignments.turns.numbers.items c.deref-in-assignments.ensures.value c.deref.ensures.value)
     c.assignments.invariant.walking c.in_ok-end.end c.in_default.not-Exhausted c.in_ok-end.ensures
 
 pub returns-then-not-turn : goal.returns-then-not-turn
@@ -47,7 +52,8 @@ returns-then-not-turn c =
     let cs = map condition_view c.args.conds.now in
     let ts = choices.constants_of c.in_ok-constants.constants.items in
     value_last sys cs (value_items sys cs) c.args.budget.now c.assignments.budget c.try_values.new.budget ts c.in_ok-open.open.items c.assignments.turns.numbers.items
-    c.in_ok-values.values (c.in_ok-values.ensures ∙ same_chosen c.in_ok-constants.constants.items c.deref-in-assignments.result.now c.in_ok-open.open.items c.deref.result.now c.assignments.turns.numbers.items c.deref-in-assignments.ensures.value c.deref.ensures.value)
+    c.in_ok-values.values (c.in_ok-values.ensures ∙ same_chosen c.in_ok-constants.constants.items c.deref-in-assignments.result.now c.in_ok-open.open.items c.deref.result.now
+    c.assignments.turns.numbers.items c.deref-in-assignments.ensures.value c.deref.ensures.value)
     c.assignments.invariant.walking c.turn.new.self.numbers.items
     (c.if-not-turn.ensures.next ts c.in_ok-open.open.items (length-map c.in_ok-constants.constants.items (λ f. app f nil) ∙ sym c.assignments.invariant.last) (sym c.assignments.invariant.as_many))
     (subst (λ r. WalkAnswers sys cs (try_values c.in_ok-values.values ∷ []) c.assignments.budget c.try_values.new.budget (Ok r)) c.in-Exhausted.is c.in_ok-end.ensures)
@@ -62,8 +68,10 @@ assignments-preserved c =
       last = c.if-not-turn.ensures.last ∙ c.assignments.invariant.last;
       walking =
           value_goes_on sys cs (value_items sys cs) c.args.budget.now c.assignments.budget c.try_values.new.budget ts c.in_ok-open.open.items c.assignments.turns.numbers.items
-          c.in_ok-values.values (c.in_ok-values.ensures ∙ same_chosen c.in_ok-constants.constants.items c.deref-in-assignments.result.now c.in_ok-open.open.items c.deref.result.now c.assignments.turns.numbers.items c.deref-in-assignments.ensures.value c.deref.ensures.value)
+          c.in_ok-values.values (c.in_ok-values.ensures ∙ same_chosen c.in_ok-constants.constants.items c.deref-in-assignments.result.now c.in_ok-open.open.items c.deref.result.now
+          c.assignments.turns.numbers.items c.deref-in-assignments.ensures.value c.deref.ensures.value)
           c.assignments.invariant.walking c.turn.new.self.numbers.items
-          (c.if-not-turn.ensures.next ts c.in_ok-open.open.items (length-map c.in_ok-constants.constants.items (λ f. app f nil) ∙ sym c.assignments.invariant.last) (sym c.assignments.invariant.as_many))
+          (c.if-not-turn.ensures.next ts c.in_ok-open.open.items (length-map c.in_ok-constants.constants.items (λ f. app f nil) ∙ sym c.assignments.invariant.last)
+          (sym c.assignments.invariant.as_many))
           (subst (λ r. WalkAnswers sys cs (try_values c.in_ok-values.values ∷ []) c.assignments.budget c.try_values.new.budget (Ok r)) c.in-Exhausted.is c.in_ok-end.ensures);
     }

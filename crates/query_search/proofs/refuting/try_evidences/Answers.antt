@@ -13,7 +13,8 @@ returns-in-Exhausted c =
     let cs = map condition_view c.args.conds.now in
     two_parts sys cs (try_refuting try_caps ∷ []) (map try_refuting (growths (length cs))) c.args.budget.now c.try_evidence.new.budget c.try_growths.new.budget
     (subst (λ z. WalkAnswers sys cs (try_refuting try_caps ∷ []) c.args.budget.now c.try_evidence.new.budget (Ok z)) c.in-Exhausted.is c.in_ok-end.ensures) c.try_growths.result
-    (subst (λ n. WalkAnswers sys cs (map try_refuting (growths n)) c.try_evidence.new.budget c.try_growths.new.budget c.try_growths.result) (sym (length-map c.args.conds.now condition_view)) c.try_growths.ensures)
+    (subst (λ n. WalkAnswers sys cs (map try_refuting (growths n)) c.try_evidence.new.budget c.try_growths.new.budget c.try_growths.result)
+    (sym (length-map c.args.conds.now condition_view)) c.try_growths.ensures)
 
 pub returns-in_default : goal.returns-in_default
 returns-in_default c =

@@ -13,7 +13,8 @@ returns-in_err-end c =
     let cs = map condition_view c.args.conds.now in
     let n = length c.args.conds.now in
     let k = c.growths.before in
-    fails sys cs (map try_refuting (growths n)) c.args.budget.now c.growths.budget c.try_evidence.new.budget (growths_left sys cs k n) (try_refuting (try_growth (k + 1)) ∷ []) (growths_left sys cs (k + 1) n) c.growths.invariant
+    fails sys cs (map try_refuting (growths n)) c.args.budget.now c.growths.budget c.try_evidence.new.budget (growths_left sys cs k n) (try_refuting (try_growth (k + 1)) ∷ [])
+    (growths_left sys cs (k + 1) n) c.growths.invariant
     (growths_next sys cs k n c.growths-test.true) c.from_residual.result c.from_residual.ensures.0 c.in_err-end.ensures
 
 pub returns-in_default : goal.returns-in_default
@@ -22,7 +23,8 @@ returns-in_default c =
     let cs = map condition_view c.args.conds.now in
     let n = length c.args.conds.now in
     let k = c.growths.before in
-    ends sys cs (map try_refuting (growths n)) c.args.budget.now c.growths.budget c.try_evidence.new.budget (growths_left sys cs k n) (try_refuting (try_growth (k + 1)) ∷ []) (growths_left sys cs (k + 1) n) c.growths.invariant
+    ends sys cs (map try_refuting (growths n)) c.args.budget.now c.growths.budget c.try_evidence.new.budget (growths_left sys cs k n) (try_refuting (try_growth (k + 1)) ∷ [])
+    (growths_left sys cs (k + 1) n) c.growths.invariant
     (growths_next sys cs k n c.growths-test.true) c.in_ok-end.end c.in_default.not-Exhausted c.in_ok-end.ensures
 
 pub growths-preserved : goal.growths-preserved
@@ -31,6 +33,7 @@ growths-preserved c =
     let cs = map condition_view c.args.conds.now in
     let n = length c.args.conds.now in
     let k = c.growths.before in
-    goes_on sys cs (map try_refuting (growths n)) c.args.budget.now c.growths.budget c.try_evidence.new.budget (growths_left sys cs k n) (try_refuting (try_growth (k + 1)) ∷ []) (growths_left sys cs (k + 1) n) c.growths.invariant
+    goes_on sys cs (map try_refuting (growths n)) c.args.budget.now c.growths.budget c.try_evidence.new.budget (growths_left sys cs k n) (try_refuting (try_growth (k + 1)) ∷ [])
+    (growths_left sys cs (k + 1) n) c.growths.invariant
     (growths_next sys cs k n c.growths-test.true)
     (subst (λ z. WalkAnswers sys cs (try_refuting (try_growth (k + 1)) ∷ []) c.growths.budget c.try_evidence.new.budget (Ok z)) c.in-Exhausted.is c.in_ok-end.ensures)

@@ -12,4 +12,5 @@ returns-in-Err-Reason c =
     let cs = map condition_view c.args.conds.now in
     let r = refuting_view c.args.refuting in
     let offered = subst (λ s. OfferAnswers s cs r (Ok c.in_ok-evidence.field-0)) c.system.ensures c.in_ok-evidence.ensures in
-    refused_gives c.args.sys.now cs r (inf_evidence_view c.in-Some.evidence) (evidence_reason_view c.in-Err-Reason.field-0-0) (rw c.in-Some.is at offered) (rw c.in-Err-Reason.field-0-is at c.in-Err-Reason.ensures.judged)
+    refused_gives c.args.sys.now cs r (inf_evidence_view c.in-Some.evidence) (evidence_reason_view c.in-Err-Reason.field-0-0) (rw c.in-Some.is at offered)
+    (rw c.in-Err-Reason.field-0-is at c.in-Err-Reason.ensures.judged)

@@ -4,6 +4,7 @@ use Rattle.shown_systems.proofs.walks.walk_overlaps.Goals as goal
 
 pub try_overlap-requires : goal.try_overlap-requires
 try_overlap-requires c = record {
-  overlap = (c.requires.overlaps.are.each (overlap_view c.index-overlaps-before.result) (among_here c.args.overlaps.now c.overlaps.before c.index-overlaps-before.result c.overlaps-test.true c.index-overlaps-before.is)).0;
+  overlap = (c.requires.overlaps.are.each (overlap_view c.index-overlaps-before.result)
+      (among_here c.args.overlaps.now c.overlaps.before c.index-overlaps-before.result c.overlaps-test.true c.index-overlaps-before.is)).0;
   knows = c.overlaps.invariant.knows;
 }

@@ -14,7 +14,8 @@ of_parts-requires-clause-sound c =
     ∙ sym (gone c.args.sys r.0.items r.1.items r.2 c.args.change.place p.arities p.rules p.own c.remove-gone.new.self.items c.remove-gone.ensures.items)) c.requires.system
 
 pub of_parts-requires-clause-counted : goal.of_parts-requires-clause-counted
-of_parts-requires-clause-counted c = counted_removed c.into_parts-arities.result.1.items c.args.change.place c.remove-gone.new.self.items c.remove-gone.ensures.items c.into_parts-arities.ensures.counted
+of_parts-requires-clause-counted c = counted_removed c.into_parts-arities.result.1.items c.args.change.place c.remove-gone.new.self.items c.remove-gone.ensures.items
+    c.into_parts-arities.ensures.counted
 
 pub of_parts-requires-in-Some-clause-sound : goal.of_parts-requires-in-Some-clause-sound
 of_parts-requires-in-Some-clause-sound c =

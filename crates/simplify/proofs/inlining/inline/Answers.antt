@@ -22,17 +22,22 @@ push_instances-requires c =
 pub returns-in-Err-push_instances : goal.returns-in-Err-push_instances
 returns-in-Err-push_instances c =
     large_conds c.args.rule.now c.args.place c.args.x c.index-cond.result.now c.requires.place c.index-cond.ensures c.bind.new.self
-    (bound_once c.args.x _ _ _ _ c.in_ok-bind.ensures.ok c.new-values.ensures c.in_ok-try_clone.ensures) (map condition_view c.in_ok-behind.behind.items) (map condition_view c.push_instances.new.out.items) c.in-Err-push_instances.error
-    (subst (λ z. CondsAnswers c.bind.new.self (map condition_view (take (length z - (c.args.place + 1)) (drop (c.args.place + 1) z))) (map condition_view c.in_ok-behind.behind.items) (map condition_view c.push_instances.new.out.items) (Err c.in-Err-push_instances.error))
+    (bound_once c.args.x _ _ _ _ c.in_ok-bind.ensures.ok c.new-values.ensures c.in_ok-try_clone.ensures) (map condition_view c.in_ok-behind.behind.items)
+    (map condition_view c.push_instances.new.out.items) c.in-Err-push_instances.error
+    (subst (λ z. CondsAnswers c.bind.new.self (map condition_view (take (length z - (c.args.place + 1)) (drop (c.args.place + 1) z)))
+    (map condition_view c.in_ok-behind.behind.items) (map condition_view c.push_instances.new.out.items) (Err c.in-Err-push_instances.error))
     c.deref.ensures.value c.in-Err-push_instances.ensures)
 
 pub numbered-requires : goal.numbered-requires
 numbered-requires c =
-    subst₂ (λ (z y : List Cond). length (rule_variables (rule_of (view c.args.rule.now.left) (view c.in-Ok.right) (map condition_view (take c.args.place z) ++ map condition_view y))) < 2 ^ 31) (sym c.deref-2.ensures.value) (sym c.deref-3.ensures.value)
+    subst₂ (λ (z y : List Cond). length (rule_variables
+    (rule_of (view c.args.rule.now.left) (view c.in-Ok.right) (map condition_view (take c.args.place z) ++ map condition_view y))) < 2 ^ 31)
+    (sym c.deref-2.ensures.value) (sym c.deref-3.ensures.value)
     (made_few c.args.rule.now c.args.place c.args.x c.index-cond.result.now c.requires.place c.index-cond.ensures c.bind.new.self
     (bound_once c.args.x _ _ _ _ c.in_ok-bind.ensures.ok c.new-values.ensures c.in_ok-try_clone.ensures) c.requires.fits c.requires.few c.in-Ok.right c.in-Ok.ensures
     c.in_ok-behind.behind.items c.push_instances.new.out.items c.in_ok-behind.ensures.items
-    (subst (λ z. CondsAnswers c.bind.new.self (map condition_view (take (length z - (c.args.place + 1)) (drop (c.args.place + 1) z))) (map condition_view c.in_ok-behind.behind.items) (map condition_view c.push_instances.new.out.items) (Ok tt))
+    (subst (λ z. CondsAnswers c.bind.new.self (map condition_view (take (length z - (c.args.place + 1)) (drop (c.args.place + 1) z)))
+    (map condition_view c.in_ok-behind.behind.items) (map condition_view c.push_instances.new.out.items) (Ok tt))
     c.deref.ensures.value c.in_default.ensures))
 
 pub returns : goal.returns
@@ -40,9 +45,11 @@ returns c =
     made_answer c.args.rule.now c.args.place c.args.x c.index-cond.result.now c.requires.place c.index-cond.ensures c.bind.new.self
     (bound_once c.args.x _ _ _ _ c.in_ok-bind.ensures.ok c.new-values.ensures c.in_ok-try_clone.ensures) c.requires.fits c.requires.few c.in-Ok.right c.in-Ok.ensures
     c.in_ok-behind.behind.items c.push_instances.new.out.items c.in_ok-behind.ensures.items
-    (subst (λ z. CondsAnswers c.bind.new.self (map condition_view (take (length z - (c.args.place + 1)) (drop (c.args.place + 1) z))) (map condition_view c.in_ok-behind.behind.items) (map condition_view c.push_instances.new.out.items) (Ok tt))
+    (subst (λ z. CondsAnswers c.bind.new.self (map condition_view (take (length z - (c.args.place + 1)) (drop (c.args.place + 1) z)))
+    (map condition_view c.in_ok-behind.behind.items) (map condition_view c.push_instances.new.out.items) (Ok tt))
     c.deref.ensures.value c.in_default.ensures)
     c.in_ok-numbered.field-0
     (c.in_ok-numbered.ensures.rule
-    ∙ ap₂ (λ (z y : List Cond). numbered (rule_of (view c.args.rule.now.left) (view c.in-Ok.right) (map condition_view (take c.args.place z) ++ map condition_view y))) c.deref-2.ensures.value c.deref-3.ensures.value)
+    ∙ ap₂ (λ (z y : List Cond). numbered (rule_of (view c.args.rule.now.left) (view c.in-Ok.right) (map condition_view (take c.args.place z) ++ map condition_view y)))
+    c.deref-2.ensures.value c.deref-3.ensures.value)
     c.in_ok-numbered.ensures.count

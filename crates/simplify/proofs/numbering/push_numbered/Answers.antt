@@ -18,7 +18,9 @@ loop-cond-preserved c =
     let more = map-take_read condition_view c.args.conds.now i c.cond-item.result c.loop-cond-test.true c.cond-item.is in
     let pushed = conditions_push c.loop-cond.out.items c.push.new.self.items _ c.in_ok-push.ensures.items in
     subst₂ (λ (cs es : List Condition). AddsNumbered cs (map condition_view c.args.out.now.items) c.args.row.now es c.numbered-in-loop-cond.new.self) (sym more) (sym pushed)
-    (adds_more (map condition_view (take i c.args.conds.now)) (map condition_view c.args.out.now.items) (map condition_view c.loop-cond.out.items) c.args.row.now c.loop-cond.row c.numbered.new.self c.numbered-in-loop-cond.new.self (condition_view c.cond-item.result) (condition_view (record { left = c.in_ok-left.left; right = c.in_ok-right.right })) c.loop-cond.invariant a.front b.front a.row b.row b.distinct
+    (adds_more (map condition_view (take i c.args.conds.now)) (map condition_view c.args.out.now.items) (map condition_view c.loop-cond.out.items) c.args.row.now c.loop-cond.row
+    c.numbered.new.self c.numbered-in-loop-cond.new.self (condition_view c.cond-item.result) (condition_view (record { left = c.in_ok-left.left; right = c.in_ok-right.right }))
+    c.loop-cond.invariant a.front b.front a.row b.row b.distinct
     (placed c.loop-cond.row c.numbered.new.self (view c.cond-item.result.left) (view c.in_ok-left.left) a.row a.distinct a.names a.below)
     (placed c.numbered.new.self c.numbered-in-loop-cond.new.self (view c.cond-item.result.right) (view c.in_ok-right.right) b.row b.distinct b.names b.below))
 

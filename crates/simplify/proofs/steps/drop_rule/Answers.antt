@@ -39,6 +39,7 @@ returns-in-Err-Reason c =
     let p = c.in-Some.ensures.some in
     let e = inf_evidence_view c.args.evidence.now in
     subst (λ z. IsRefused c.args.sys.now (dropped c.args.number e) (bad_evidence (evidence_reason_view z))) (sym c.in-Err-Reason.reason-is)
-    (bad_drop c.args.sys.now s.sound c.rules-rules.result.now s.rules c.args.number c.in-Some.place c.index-rules-place.result p.0 p.1 c.index-rules-place.is e (evidence_reason_view c.in-Err-Reason.reason)
+    (bad_drop c.args.sys.now s.sound c.rules-rules.result.now s.rules c.args.number c.in-Some.place c.index-rules-place.result p.0 p.1 c.index-rules-place.is e
+    (evidence_reason_view c.in-Err-Reason.reason)
     c.deref.result.now (c.deref.ensures.value ∙ ap (λ (z : Rule). z.conds.items) (sym c.index-rules-place.is))
     (subst (λ z. RefutesAnswers (IsInfeasibilityJudged c.args.sys.now (map condition_view c.deref.result.now) e) (Err z)) c.in-Err-Reason.field-0-is c.in-Err-Reason.ensures.judged))

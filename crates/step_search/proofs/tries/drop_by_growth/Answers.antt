@@ -20,10 +20,12 @@ valid_growth-requires-clause-fit c =
 
 pub returns-in-Some : goal.returns-in-Some
 returns-in-Some c =
-    let gives = subst₂ (λ (s : System) (z : List Cond). ValidGrowthAnswers s (map condition_view z) c.args.cond (Ok c.in_ok-automaton.field-0)) c.system.ensures c.deref.ensures.value c.in_ok-automaton.ensures in
+    let gives = subst₂ (λ (s : System) (z : List Cond). ValidGrowthAnswers s (map condition_view z) c.args.cond (Ok c.in_ok-automaton.field-0)) c.system.ensures
+    c.deref.ensures.value c.in_ok-automaton.ensures in
     growth_drops c.args.sys.now c.args.number c.args.cond (rule_view c.args.rule.now) c.requires (automaton_view c.in-Some.automaton) (rw c.in-Some.is at gives) c.dropping.result c.dropping.ensures
 
 pub returns-in-None : goal.returns-in-None
 returns-in-None c =
-    let gives = subst₂ (λ (s : System) (z : List Cond). ValidGrowthAnswers s (map condition_view z) c.args.cond (Ok c.in_ok-automaton.field-0)) c.system.ensures c.deref.ensures.value c.in_ok-automaton.ensures in
+    let gives = subst₂ (λ (s : System) (z : List Cond). ValidGrowthAnswers s (map condition_view z) c.args.cond (Ok c.in_ok-automaton.field-0)) c.system.ensures
+    c.deref.ensures.value c.in_ok-automaton.ensures in
     growth_drops_none c.args.sys.now c.args.number c.args.cond (rule_view c.args.rule.now) c.requires (rw c.in-None.is at gives)

@@ -19,7 +19,8 @@ returns-then-place-count c =
     let same : length cs ≡ length c.args.rule.now.conds.items = length-map c.args.rule.now.conds.items condition_view in
     let long : c.len-count.result ≡ length c.args.rule.now.conds.items = c.len-count.ensures ∙ c.args.rule.now.conds.ok.0 in
     let most : c.args.place ≤ length cs = (let below = c.if-place-count.true in omega (arith, same, long, below)) in
-    λ t at. subst (λ z. TryAnswers c.args.sys.now z c.try_drop-then-place-count.result) (sym (growth_at c.args.number cs c.args.place t c.if-place-eq0.false most at)) c.try_drop-then-place-count.ensures
+    λ t at. subst (λ z. TryAnswers c.args.sys.now z c.try_drop-then-place-count.result) (sym (growth_at c.args.number cs c.args.place t c.if-place-eq0.false most at))
+    c.try_drop-then-place-count.ensures
 
 pub returns-else-place-count : goal.returns-else-place-count
 returns-else-place-count c =

@@ -50,7 +50,8 @@ returns-in-Err c =
     let xs = tries_of c.args.number (map condition_view c.args.rule.now.conds.items) in
     let k = c.tries.place in
     let it = its_try c.args.rule.now c.args.number c.len.result c.len.ensures c.if-is_empty.ensures k c.tries-test.true in
-    part_fails c.args.sys.now xs (take k xs) (it.0 ∷ []) (drop (suc k) xs) c.args.budget.now c.tries.budget c.walk_one.new.budget (split_at xs k it.0 it.1) c.tries.invariant c.in-Err.e (c.in-Err.ensures it.0 it.1)
+    part_fails c.args.sys.now xs (take k xs) (it.0 ∷ []) (drop (suc k) xs) c.args.budget.now c.tries.budget c.walk_one.new.budget (split_at xs k it.0 it.1) c.tries.invariant
+    c.in-Err.e (c.in-Err.ensures it.0 it.1)
 
 pub tries-init : goal.tries-init
 tries-init c = nothing_yet c.args.sys.now c.args.budget.now

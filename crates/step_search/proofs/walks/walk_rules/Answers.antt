@@ -23,7 +23,8 @@ returns-in-Ok-Found c =
     let all = ap (tries_from 1) (sym c.rules-rules.ensures.rules) ∙ rule_tries rs k (rule_view c.index-rules-i.result) at in
     part_given c.args.sys.now (tries c.args.sys.now) (tries_from 1 (take k rs)) (tries_of (k + 1) (rule_view c.index-rules-i.result).conditions) (tries_from (suc (k + 1)) (drop (suc k) rs))
     c.args.budget.now c.rules.budget c.walk_rule.new.budget all c.rules.invariant c.in-Ok-Found.made
-    (subst (λ z. WalkAnswers c.args.sys.now (tries_of (k + 1) (rule_view c.index-rules-i.result).conditions) c.rules.budget c.walk_rule.new.budget (Ok z)) c.in-Ok-Found.field-0-is c.in-Ok-Found.ensures)
+    (subst (λ z. WalkAnswers c.args.sys.now (tries_of (k + 1) (rule_view c.index-rules-i.result).conditions) c.rules.budget c.walk_rule.new.budget (Ok z))
+    c.in-Ok-Found.field-0-is c.in-Ok-Found.ensures)
 
 pub returns-in-Ok-Spent : goal.returns-in-Ok-Spent
 returns-in-Ok-Spent c =
@@ -33,7 +34,8 @@ returns-in-Ok-Spent c =
     let all = ap (tries_from 1) (sym c.rules-rules.ensures.rules) ∙ rule_tries rs k (rule_view c.index-rules-i.result) at in
     part_stops c.args.sys.now (tries c.args.sys.now) (tries_from 1 (take k rs)) (tries_of (k + 1) (rule_view c.index-rules-i.result).conditions) (tries_from (suc (k + 1)) (drop (suc k) rs))
     c.args.budget.now c.rules.budget c.walk_rule.new.budget all c.rules.invariant
-    (subst (λ z. WalkAnswers c.args.sys.now (tries_of (k + 1) (rule_view c.index-rules-i.result).conditions) c.rules.budget c.walk_rule.new.budget (Ok z)) c.in-Ok-Spent.field-0-is c.in-Ok-Spent.ensures)
+    (subst (λ z. WalkAnswers c.args.sys.now (tries_of (k + 1) (rule_view c.index-rules-i.result).conditions) c.rules.budget c.walk_rule.new.budget (Ok z))
+    c.in-Ok-Spent.field-0-is c.in-Ok-Spent.ensures)
 
 pub returns-in-Err : goal.returns-in-Err
 returns-in-Err c =
@@ -56,7 +58,8 @@ rules-preserved c =
     subst (λ z. SoFar c.args.sys.now z c.args.budget.now c.walk_rule.new.budget) (sym (more_tries rs k (rule_view c.index-rules-i.result) at))
     (part_done c.args.sys.now (tries c.args.sys.now) (tries_from 1 (take k rs)) (tries_of (k + 1) (rule_view c.index-rules-i.result).conditions) (tries_from (suc (k + 1)) (drop (suc k) rs))
     c.args.budget.now c.rules.budget c.walk_rule.new.budget all c.rules.invariant
-    (subst (λ z. WalkAnswers c.args.sys.now (tries_of (k + 1) (rule_view c.index-rules-i.result).conditions) c.rules.budget c.walk_rule.new.budget (Ok z)) c.in-Ok-Nothing.field-0-is c.in-Ok-Nothing.ensures))
+    (subst (λ z. WalkAnswers c.args.sys.now (tries_of (k + 1) (rule_view c.index-rules-i.result).conditions) c.rules.budget c.walk_rule.new.budget (Ok z))
+    c.in-Ok-Nothing.field-0-is c.in-Ok-Nothing.ensures))
 
 pub returns : goal.returns
 returns c =

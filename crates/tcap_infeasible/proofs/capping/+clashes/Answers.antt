@@ -32,7 +32,8 @@ returns-then-clashes t c =
     let k : c.loop-i.i < length w.ys.items = subst (λ z. c.loop-i.i < z) same h in
     sym
     (arguments c.args.constants c.args.first.now c.args.second.now w.f w.g w.xs w.ys w.is-0 w.is-1 c.if-f-g.false same ∙
-    (c.loop-i.invariant ∙ (from_place c.args.constants w.xs.items w.ys.items c.loop-i.i c.index.result.now c.index-in-loop-i.result.now h k c.index.ensures c.index-in-loop-i.ensures ∙ or_left _ _ (sym c.clashes.ensures ∙ c.if-clashes.true))))
+    (c.loop-i.invariant ∙ (from_place c.args.constants w.xs.items w.ys.items c.loop-i.i c.index.result.now c.index-in-loop-i.result.now h k c.index.ensures
+    c.index-in-loop-i.ensures ∙ or_left _ _ (sym c.clashes.ensures ∙ c.if-clashes.true))))
 
 pub loop-i-preserved : goal.loop-i-preserved
 loop-i-preserved t c =
@@ -49,4 +50,5 @@ returns-after-loop-i t c =
     let w = c.in-Fun-Fun in
     let same : length w.xs.items ≡ length w.ys.items = sym (c.len.ensures ∙ w.xs.ok.0) ∙ (c.if-len.false ∙ (c.len-else-f-g.ensures ∙ w.ys.ok.0)) in
     let past : length w.xs.items ≤ c.loop-i.i = subst (λ z. z ≤ c.loop-i.i) (c.len-i-end.ensures ∙ w.xs.ok.0) c.loop-i-test.false in
-    sym (arguments c.args.constants c.args.first.now c.args.second.now w.f w.g w.xs w.ys w.is-0 w.is-1 c.if-f-g.false same ∙ (c.loop-i.invariant ∙ past_all c.args.constants w.xs.items w.ys.items c.loop-i.i past))
+    sym (arguments c.args.constants c.args.first.now c.args.second.now w.f w.g w.xs w.ys w.is-0 w.is-1 c.if-f-g.false same
+    ∙ (c.loop-i.invariant ∙ past_all c.args.constants w.xs.items w.ys.items c.loop-i.i past))

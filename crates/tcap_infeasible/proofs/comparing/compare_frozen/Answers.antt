@@ -21,11 +21,16 @@ returns-then-clashes c =
     let a = subst (λ z. FrozenAnswers c.args.sys.now c.args.leaf (view c.args.u.now) 2147483648 c.frozen_cap.new.next (Ok z)) c.in-Capped.is c.in_ok-first.ensures in
     let b = subst (λ z. FrozenAnswers c.args.sys.now c.args.leaf (view c.args.v.now) c.frozen_cap.new.next c.frozen_cap-2.new.next (Ok z)) c.in-Capped-2.is c.in_ok-second.ensures in
     frozen_outcome c.args.sys.now c.args.leaf (view c.args.u.now) (view c.args.v.now) c.in-Capped.first c.in-Capped-2.second c.frozen_cap.new.next c.frozen_cap-2.new.next a b clash
-    (clash_outcome _ _ (views_apart c.args.sys.now c.args.leaf (view c.args.u.now) (view c.args.v.now) c.in-Capped.first c.in-Capped-2.second c.frozen_cap.new.next c.frozen_cap-2.new.next a b c.requires.first c.requires.second) (sym c.clashes.ensures ∙ c.if-clashes.true))
+    (clash_outcome _ _ (views_apart c.args.sys.now c.args.leaf (view c.args.u.now) (view c.args.v.now) c.in-Capped.first c.in-Capped-2.second c.frozen_cap.new.next
+    c.frozen_cap-2.new.next a b c.requires.first c.requires.second) (sym c.clashes.ensures ∙ c.if-clashes.true))
 
 pub returns : goal.returns
 returns c =
     let a = subst (λ z. FrozenAnswers c.args.sys.now c.args.leaf (view c.args.u.now) 2147483648 c.frozen_cap.new.next (Ok z)) c.in-Capped.is c.in_ok-first.ensures in
     let b = subst (λ z. FrozenAnswers c.args.sys.now c.args.leaf (view c.args.v.now) c.frozen_cap.new.next c.frozen_cap-2.new.next (Ok z)) c.in-Capped-2.is c.in_ok-second.ensures in
-    let run = unifier_outcome _ _ (views_apart c.args.sys.now c.args.leaf (view c.args.u.now) (view c.args.v.now) c.in-Capped.first c.in-Capped-2.second c.frozen_cap.new.next c.frozen_cap-2.new.next a b c.requires.first c.requires.second) (sym c.clashes.ensures ∙ c.if-clashes.false) in
-    (run.0, frozen_outcome c.args.sys.now c.args.leaf (view c.args.u.now) (view c.args.v.now) c.in-Capped.first c.in-Capped-2.second c.frozen_cap.new.next c.frozen_cap-2.new.next a b (unifier run.0) run.1)
+    let run = unifier_outcome _ _ (views_apart c.args.sys.now c.args.leaf (view c.args.u.now) (view c.args.v.now) c.in-Capped.first c.in-Capped-2.second c.frozen_cap.new.next
+    c.frozen_cap-2.new.next a b c.requires.first c.requires.second) (sym c.clashes.ensures ∙ c.if-clashes.false) in (
+      run.0,
+      frozen_outcome c.args.sys.now c.args.leaf (view c.args.u.now) (view c.args.v.now) c.in-Capped.first c.in-Capped-2.second c.frozen_cap.new.next
+          c.frozen_cap-2.new.next a b (unifier run.0) run.1,
+    )

@@ -27,4 +27,5 @@ loop-i-preserved t c =
 pub returns-after-loop-i : goal.returns-after-loop-i
 returns-after-loop-i t c =
     let w = c.in-Fun-Fun in
-    whole_thawed c.args.fresh c.args.t.now c.args.cap.now w.f w.field-0-1 w.args w.caps c.loop-i.i c.loop-i.out w.is-0 w.is-1 (subst (λ z. z ≤ c.loop-i.i) (c.len-i-end.ensures ∙ w.args.ok.0) c.loop-i-test.false) c.loop-i.invariant
+    whole_thawed c.args.fresh c.args.t.now c.args.cap.now w.f w.field-0-1 w.args w.caps c.loop-i.i c.loop-i.out w.is-0 w.is-1
+    (subst (λ z. z ≤ c.loop-i.i) (c.len-i-end.ensures ∙ w.args.ok.0) c.loop-i-test.false) c.loop-i.invariant

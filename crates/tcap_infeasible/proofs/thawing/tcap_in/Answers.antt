@@ -17,4 +17,5 @@ returns-in_ok-thawed-in-Capped-clause-answer c =
     cap_answers c.args.sys.now c.args.fresh (view c.args.t.now) (2 ^ 31) c.frozen_cap.new.next c.in-Capped.u c.in_ok-thawed-in-Capped.field-0 refl c.requires.room a c.in_ok-thawed-in-Capped.ensures
 
 pub returns-in_ok-thawed-in-Capped-clause-reducts : goal.returns-in_ok-thawed-in-Capped-clause-reducts
-returns-in_ok-thawed-in-Capped-clause-reducts c = keeps_reducts c.args.sys.now (view c.args.t.now) c.args.fresh (Ok (Capped c.in_ok-thawed-in-Capped.field-0)) (returns-in_ok-thawed-in-Capped-clause-answer c)
+returns-in_ok-thawed-in-Capped-clause-reducts c = keeps_reducts c.args.sys.now (view c.args.t.now) c.args.fresh (Ok (Capped c.in_ok-thawed-in-Capped.field-0))
+    (returns-in_ok-thawed-in-Capped-clause-answer c)

@@ -16,17 +16,20 @@ frozen_cap-requires-clause-room c = let few = (frozen_cap-requires-clause-fit c)
 pub frozen_cap-requires-clause-constants : goal.frozen_cap-requires-clause-constants
 frozen_cap-requires-clause-constants c =
     let places = c.requires.places in
-    places_base c.args.sys.now _ c.args.base places.foreign places.foreign places.row (view c.args.t.now) (view c.args.places.now) refl places.base_is c.requires.sound (omega arith) places.few_foreign places.few places.keyed
+    places_base c.args.sys.now _ c.args.base places.foreign places.foreign places.row (view c.args.t.now) (view c.args.places.now) refl places.base_is c.requires.sound
+    (omega arith) places.few_foreign places.few places.keyed
 
 pub thawed-requires : goal.thawed-requires
 thawed-requires c =
     let a = subst (λ z. FrozenAnswers c.args.sys.now (Kept c.args.base) (view c.args.places.now) (2 ^ 31) c.frozen_cap.new.next (Ok z)) c.in-Capped.is c.in_ok-u.ensures in
-    rigid_thaws c.args.sys.now c.args.base c.args.fresh (view c.args.t.now) (view c.args.places.now) c.requires.sound c.requires.places c.requires.room (2 ^ 31) c.frozen_cap.new.next (view c.in-Capped.u) c.in-Capped.u refl a refl
+    rigid_thaws c.args.sys.now c.args.base c.args.fresh (view c.args.t.now) (view c.args.places.now) c.requires.sound c.requires.places c.requires.room
+    (2 ^ 31) c.frozen_cap.new.next (view c.in-Capped.u) c.in-Capped.u refl a refl
 
 pub returns-in_ok-thawed-in-Capped : goal.returns-in_ok-thawed-in-Capped
 returns-in_ok-thawed-in-Capped c =
     let a = subst (λ z. FrozenAnswers c.args.sys.now (Kept c.args.base) (view c.args.places.now) (2 ^ 31) c.frozen_cap.new.next (Ok z)) c.in-Capped.is c.in_ok-u.ensures in
-    rigid_answers c.args.sys.now c.args.base c.args.fresh (view c.args.t.now) (view c.args.places.now) c.requires.sound c.requires.places c.requires.room (2 ^ 31) c.frozen_cap.new.next c.in-Capped.u c.in_ok-thawed-in-Capped.field-0 refl a c.in_ok-thawed-in-Capped.ensures
+    rigid_answers c.args.sys.now c.args.base c.args.fresh (view c.args.t.now) (view c.args.places.now) c.requires.sound c.requires.places c.requires.room
+    (2 ^ 31) c.frozen_cap.new.next c.in-Capped.u c.in_ok-thawed-in-Capped.field-0 refl a c.in_ok-thawed-in-Capped.ensures
 
 pub returns-in-TooLarge : goal.returns-in-TooLarge
 returns-in-TooLarge c =

@@ -16,7 +16,8 @@ loop-arg-preserved t c =
     let items = c.deref-arg-items.result.now in
     let i = c.loop-arg.arg-index in
     noted_then (λ x. occurrences_in x (views (take i items))) (λ x. occurrences x (view c.arg-item.result)) (λ x. occurrences_in x (views (take (i + 1) items)))
-    c.args.seen.now c.loop-arg.seen _ c.args.repeated.now c.loop-arg.repeated _ (counted_take items i c.arg-item.result c.loop-arg-test.true c.arg-item.is) c.loop-arg.invariant c.in_ok-note_all-in-Fun.ensures
+    c.args.seen.now c.loop-arg.seen _ c.args.repeated.now c.loop-arg.repeated _ (counted_take items i c.arg-item.result c.loop-arg-test.true c.arg-item.is) c.loop-arg.invariant
+    c.in_ok-note_all-in-Fun.ensures
 
 pub returns-after-loop-arg : goal.returns-after-loop-arg
 returns-after-loop-arg t c =

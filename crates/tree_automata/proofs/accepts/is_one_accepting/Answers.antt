@@ -17,7 +17,8 @@ loop-q-preserved c =
 pub returns-then-has_left : goal.returns-then-has_left
 returns-then-has_left c = (
   λ _.
-      accepting_here (automaton_view c.args.a.now) c.args.reached.now c.deref-q-items.result.now c.deref-q-items.ensures.value c.loop-q.q-index c.loop-q-test.true c.if-q-a.true (c.if-has_left.ensures.0 refl),
+      accepting_here (automaton_view c.args.a.now) c.args.reached.now c.deref-q-items.result.now c.deref-q-items.ensures.value c.loop-q.q-index c.loop-q-test.true c.if-q-a.true
+      (c.if-has_left.ensures.0 refl),
   λ _. refl,
 )
 

@@ -7,14 +7,16 @@ use Rattle.tree_automata.proofs.accepts.keeps_zero.Goals.{else-transition-eq0-vi
 pub returns-then-are_zeros : goal.returns-then-are_zeros
 returns-then-are_zeros c = (
   λ _.
-      zero_here c.args.index.now c.args.f c.args.arity c.with_symbol-transition-items.result.now c.with_symbol-transition-items.ensures c.loop-transition.transition-index c.transition-item.result c.loop-transition-test.true
+      zero_here c.args.index.now c.args.f c.args.arity c.with_symbol-transition-items.result.now c.with_symbol-transition-items.ensures c.loop-transition.transition-index
+      c.transition-item.result c.loop-transition-test.true
       c.transition-item.is (sym c.deref.ensures.value ∙ c.if-are_zeros.ensures.0 refl) c.if-transition-eq0.true,
   λ _. refl,
 )
 
 pub loop-transition-preserved : goal.loop-transition-preserved
 loop-transition-preserved c =
-    zero_more c.args.index.now c.args.f c.args.arity c.with_symbol-transition-items.result.now c.with_symbol-transition-items.ensures c.loop-transition.transition-index c.transition-item.result c.loop-transition-test.true
+    zero_more c.args.index.now c.args.f c.args.arity c.with_symbol-transition-items.result.now c.with_symbol-transition-items.ensures c.loop-transition.transition-index
+    c.transition-item.result c.loop-transition-test.true
     c.transition-item.is c.loop-transition.invariant
     (λ zeros target.
     elim c.else-transition-eq0.branch [
@@ -27,5 +29,6 @@ returns c = (
   λ h. absurd (false≢true h),
   λ h.
       absurd
-      (zero_nowhere c.args.index.now c.args.f c.args.arity c.with_symbol-transition-items.result.now c.with_symbol-transition-items.ensures c.loop-transition.transition-index c.loop-transition-test.false c.loop-transition.invariant h),
+      (zero_nowhere c.args.index.now c.args.f c.args.arity c.with_symbol-transition-items.result.now c.with_symbol-transition-items.ensures c.loop-transition.transition-index
+      c.loop-transition-test.false c.loop-transition.invariant h),
 )

@@ -18,7 +18,8 @@ first_open_in-requires-clause-length c =
     let at = subst (λ (fs : List (List ℕ)). slice_get fs c.loop-front.front-index ≡ Some c.front-item.result.items) c.fronts-front-items.ensures
     (list_at c.fronts-front-items.result.now c.loop-front.front-index c.front-item.result c.loop-front-test.true c.front-item.is) in
     let long = c.requires.choices.long c.front-item.result.items (place_among c.args.choices.now.fronts c.loop-front.front-index c.front-item.result.items at) in
-    ap occurrences_of c.in_ok-batch.ensures ∙ ap (λ (f : List ℕ). length f + c.args.choices.now.width) c.deref-in-loop-front.ensures.value ∙ long ∙ ap length (sym (c.deref-in-loop-front-2.ensures.value ∙ c.in_ok-names.ensures))
+    ap occurrences_of c.in_ok-batch.ensures ∙ ap (λ (f : List ℕ). length f + c.args.choices.now.width) c.deref-in-loop-front.ensures.value ∙ long
+    ∙ ap length (sym (c.deref-in-loop-front-2.ensures.value ∙ c.in_ok-names.ensures))
 
 pub first_open_in-requires-clause-known : goal.first_open_in-requires-clause-known
 first_open_in-requires-clause-known c =
@@ -31,7 +32,8 @@ first_open_in-requires-clause-known c =
     let same : c.deref.result.now ≡ c.deref-in-loop-front-2.result.now = c.deref.ensures.value ∙ sym c.deref-in-loop-front-2.ensures.value in
     subst (λ (b : Batch). IfSome c.as_ref-known.result (λ r. AreWhere b (P c.deref-in-loop-front-2.result.now) r.now)) (sym is)
     (subst (λ (names : List ℕ). IfSome c.as_ref-known.result (λ r. AreWhere (batch_at choices front) (P names) r.now)) same
-    (known_at choices (P c.deref.result.now) c.as_ref-known.result c.in_ok-always.always c.as_ref-known.ensures.value c.in_ok-always.ensures front (place_among choices.fronts c.loop-front.front-index front at)))
+    (known_at choices (P c.deref.result.now) c.as_ref-known.result c.in_ok-always.always c.as_ref-known.ensures.value c.in_ok-always.ensures front
+    (place_among choices.fronts c.loop-front.front-index front at)))
 
 pub returns-then-is_some : goal.returns-then-is_some
 returns-then-is_some c =
@@ -64,5 +66,10 @@ returns c =
     let a = c.args.index.now in
     let t = view c.args.rule.now.left in
     let P = IsKeptBy c.args.inclusion.now a (variable_occurrences t) (view c.args.rule.now.right) in
-    let past : length c.args.choices.now.fronts ≤ c.loop-front.front-index = omega (arith, c.loop-front-test.false, ap length c.fronts-front-items.ensures, length-map c.fronts-front-items.result.now (λ v. v.items)) in
+    let past : length c.args.choices.now.fronts ≤ c.loop-front.front-index = omega (
+      arith,
+      c.loop-front-test.false,
+      ap length c.fronts-front-items.ensures,
+      length-map c.fronts-front-items.result.now (λ v. v.items),
+    ) in
     throughout a t P c.args.choices.now c.requires.choices c.loop-front.front-index past c.loop-front.invariant

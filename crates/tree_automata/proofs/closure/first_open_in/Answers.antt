@@ -27,7 +27,8 @@ returns-in-Some c =
     let P = IsKeptBy c.args.inclusion.now a c.args.names.now (view c.args.rule.now.right) in
     let right = c.in-Some.right.now in
     let kept = subst (λ (o : Option (Bor NumberRelation)). IfSome o (λ r. AreWhere b P r.now)) c.in-Some.is c.requires.known in
-    IfOk-weaker c.first_lacking.result (LackingAtAnswers b c.in_ok-left.left right) (FailureInAnswers a t P b) (in_answers a t P b c.in_ok-left.left c.in_ok-left.ensures right kept) c.first_lacking.ensures
+    IfOk-weaker c.first_lacking.result (LackingAtAnswers b c.in_ok-left.left right) (FailureInAnswers a t P b)
+    (in_answers a t P b c.in_ok-left.left c.in_ok-left.ensures right kept) c.first_lacking.ensures
 
 pub first_lacking-requires-in-None : goal.first_lacking-requires-in-None
 first_lacking-requires-in-None c = λ q k h. ((c.in_ok-left.ensures q k).0 h).0
@@ -39,5 +40,6 @@ returns c =
     let b = c.args.batch.now in
     let P = IsKeptBy c.args.inclusion.now a c.args.names.now (view c.args.rule.now.right) in
     let right = c.in_ok-right-in-None.right in
-    IfOk-weaker c.first_lacking-in-None.result (LackingAtAnswers b c.in_ok-left.left right) (FailureInAnswers a t P b) (in_answers a t P b c.in_ok-left.left c.in_ok-left.ensures right c.in_ok-right-in-None.ensures)
+    IfOk-weaker c.first_lacking-in-None.result (LackingAtAnswers b c.in_ok-left.left right) (FailureInAnswers a t P b)
+    (in_answers a t P b c.in_ok-left.left c.in_ok-left.ensures right c.in_ok-right-in-None.ensures)
     c.first_lacking-in-None.ensures

@@ -19,7 +19,8 @@ first_open_of_rule-requires-clause-asked c =
     c.in_ok-inclusion.ensures (c.rules.rule-index + 1) r (numbered sys c.rules.rule-index (c.rules.rule-index + 1) r refl at)
 
 pub first_open_of_rule-requires-clause-earlier : goal.first_open_of_rule-requires-clause-earlier
-first_open_of_rule-requires-clause-earlier c = each_in_front (IsRuleClosed c.args.index.now) c.args.sys.now c.rules-rules.result.now c.rules.rule-index c.rules.number c.rules-rules.ensures.rules c.rules.invariant.counted c.rules.invariant.closed
+first_open_of_rule-requires-clause-earlier c = each_in_front (IsRuleClosed c.args.index.now) c.args.sys.now c.rules-rules.result.now c.rules.rule-index c.rules.number
+    c.rules-rules.ensures.rules c.rules.invariant.counted c.rules.invariant.closed
 
 pub returns-in-Some : goal.returns-in-Some
 returns-in-Some c =
@@ -27,7 +28,8 @@ returns-in-Some c =
     let a = c.args.index.now in
     let r = rule_view c.rule-item.result in
     let at = rule_stands sys c.rules-rules.result.now c.rules.rule-index c.rule-item.result c.rules-rules.ensures.rules c.rules-test.true c.rule-item.is in
-    first_open_of sys (automaton_view c.args.a.now) c.rules.rule-index (c.rules.number + 1) r c.in-Some.arrival.choice.items c.in-Some.arrival.state (ap (λ (k : ℕ). k + 1) c.rules.invariant.counted) at
+    first_open_of sys (automaton_view c.args.a.now) c.rules.rule-index (c.rules.number + 1) r c.in-Some.arrival.choice.items c.in-Some.arrival.state
+    (ap (λ (k : ℕ). k + 1) c.rules.invariant.counted) at
     (subst (λ (x : Indexed). OpenAnswers x r (Some c.in-Some.arrival)) c.requires.index
     (subst (OpenAnswers a r) c.in-Some.is c.in_ok-first_open_of_rule.ensures))
     (λ k q l e. subst (λ (x : Indexed). IsRuleClosed x q) c.requires.index (c.rules.invariant.closed k q l e))

@@ -15,17 +15,24 @@ returns-then-not-accepts_all c = not_any (λ any. false≢true (c.if-not-accepts
 pub returns-then-not-branch : goal.returns-then-not-branch
 returns-then-not-branch c =
     let answer : c.in_ok-is_accepted.field-0 ≡ false = search (rules, not-true) in
-    misses (subst (λ (i : Indexed). AcceptsAll c.args.sys.now (Finds i)) c.in_ok-index.ensures (c.if-not-accepts_all.ensures.0 refl)) (λ acc. false≢true (sym answer ∙ c.in_ok-is_accepted.ensures.1 (subst (λ (i : Indexed). IsAccepted i.symbols (automaton_view c.args.a.now) (condition_view c.args.cond.now).left) (sym c.in_ok-index.ensures) acc)))
+    misses (subst (λ (i : Indexed). AcceptsAll c.args.sys.now (Finds i)) c.in_ok-index.ensures (c.if-not-accepts_all.ensures.0 refl))
+    (λ acc. false≢true (sym answer ∙ c.in_ok-is_accepted.ensures.1
+    (subst (λ (i : Indexed). IsAccepted i.symbols (automaton_view c.args.a.now) (condition_view c.args.cond.now).left) (sym c.in_ok-index.ensures) acc)))
 
 pub returns-in-Ok : goal.returns-in-Ok
 returns-in-Ok c =
     let answer : c.in_ok-is_accepted.field-0 ≡ true = search (rules, not-false) in
-    judged_right c.args.sys.now (condition_view c.args.cond.now) (automaton_view c.args.a.now) (subst (λ (i : Indexed). AcceptsAll c.args.sys.now (Finds i)) c.in_ok-index.ensures (c.if-not-accepts_all.ensures.0 refl))
-    (subst (λ (i : Indexed). IsAccepted i.symbols (automaton_view c.args.a.now) (condition_view c.args.cond.now).left) c.in_ok-index.ensures (c.in_ok-is_accepted.ensures.0 answer)) c.judge_exclusion.result c.in-Ok.ensures
-    (subst (λ (i : Indexed). RefutesAnswers (IsExclusionJudged i.symbols (automaton_view c.args.a.now) (condition_view c.args.cond.now).right) c.judge_exclusion.result) c.in_ok-index.ensures c.judge_exclusion.ensures)
+    judged_right c.args.sys.now (condition_view c.args.cond.now) (automaton_view c.args.a.now) (subst (λ (i : Indexed). AcceptsAll c.args.sys.now (Finds i)) c.in_ok-index.ensures
+    (c.if-not-accepts_all.ensures.0 refl))
+    (subst (λ (i : Indexed). IsAccepted i.symbols (automaton_view c.args.a.now) (condition_view c.args.cond.now).left) c.in_ok-index.ensures (c.in_ok-is_accepted.ensures.0 answer))
+    c.judge_exclusion.result c.in-Ok.ensures
+    (subst (λ (i : Indexed). RefutesAnswers (IsExclusionJudged i.symbols (automaton_view c.args.a.now) (condition_view c.args.cond.now).right) c.judge_exclusion.result)
+    c.in_ok-index.ensures c.judge_exclusion.ensures)
 
 pub returns : goal.returns
 returns c =
     let answer : c.in_ok-is_accepted.field-0 ≡ true = search (rules, not-false) in
-    not_closed c.args.sys.now (condition_view c.args.cond.now) (automaton_view c.args.a.now) (subst (λ (i : Indexed). AcceptsAll c.args.sys.now (Finds i)) c.in_ok-index.ensures (c.if-not-accepts_all.ensures.0 refl))
-    (subst (λ (i : Indexed). IsAccepted i.symbols (automaton_view c.args.a.now) (condition_view c.args.cond.now).left) c.in_ok-index.ensures (c.in_ok-is_accepted.ensures.0 answer)) c.in-Err.why c.in-Err.ensures
+    not_closed c.args.sys.now (condition_view c.args.cond.now) (automaton_view c.args.a.now) (subst (λ (i : Indexed). AcceptsAll c.args.sys.now (Finds i)) c.in_ok-index.ensures
+    (c.if-not-accepts_all.ensures.0 refl))
+    (subst (λ (i : Indexed). IsAccepted i.symbols (automaton_view c.args.a.now) (condition_view c.args.cond.now).left) c.in_ok-index.ensures
+    (c.in_ok-is_accepted.ensures.0 answer)) c.in-Err.why c.in-Err.ensures

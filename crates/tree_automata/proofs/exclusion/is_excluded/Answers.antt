@@ -35,7 +35,8 @@ returns-then-is_one_accepting c =
           absurd
           (not_excluded a t c.args.choices.now c.requires.choices front (place_among c.args.choices.now.fronts c.loop-front.front-index front at) c.in_ok-reached.reached
           (subst (λ (b : Batch). AreWhere b (ReachBy (Finds a) t) c.in_ok-reached.reached) is c.in_ok-reached.ensures)
-          (subst (λ (x : Automaton). IsOneAccepting x c.in_ok-reached.reached) (sym c.requires.index) (c.if-is_one_accepting.ensures.0 refl)) (subst (λ (x : Automaton). Excludes a.symbols x t) (sym c.requires.index) ex)),
+          (subst (λ (x : Automaton). IsOneAccepting x c.in_ok-reached.reached) (sym c.requires.index) (c.if-is_one_accepting.ensures.0 refl))
+          (subst (λ (x : Automaton). Excludes a.symbols x t) (sym c.requires.index) ex)),
     )
 
 pub loop-front-preserved : goal.loop-front-preserved
@@ -55,7 +56,12 @@ pub returns : goal.returns
 returns c =
     let a = c.args.index.now in
     let t = view c.args.t.now in
-    let past : length c.args.choices.now.fronts ≤ c.loop-front.front-index = omega (arith, c.loop-front-test.false, ap length c.fronts-front-items.ensures, length-map c.fronts-front-items.result.now (λ v. v.items)) in (
+    let past : length c.args.choices.now.fronts ≤ c.loop-front.front-index = omega (
+      arith,
+      c.loop-front-test.false,
+      ap length c.fronts-front-items.ensures,
+      length-map c.fronts-front-items.result.now (λ v. v.items),
+    ) in (
       λ _.
           subst (λ (x : Automaton). Excludes a.symbols x t) c.requires.index
           (excluded a t (throughout a t (IsNot a t) c.args.choices.now c.requires.choices c.loop-front.front-index past c.loop-front.invariant)),

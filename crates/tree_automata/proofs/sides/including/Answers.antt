@@ -11,7 +11,8 @@ pub loop-q-preserved : goal.loop-q-preserved
 loop-q-preserved c =
     elim c.if-includes.branch [
       | then-includes+in_ok-insert w ↦
-          part_more c.args.index.now c.args.p c.loop-q.q (members c.loop-q.set) (members c.if-includes.set) c.loop-q.invariant (λ q. subst (λ (v : NumberSet). IsAmong q (members v) ↔ (IsAmong q (members c.loop-q.set) ⊎ (q ≡ c.loop-q.q))) (sym w.set-is) (w.in_ok-insert.ensures q))
+          part_more c.args.index.now c.args.p c.loop-q.q (members c.loop-q.set) (members c.if-includes.set) c.loop-q.invariant
+          (λ q. subst (λ (v : NumberSet). IsAmong q (members v) ↔ (IsAmong q (members c.loop-q.set) ⊎ (q ≡ c.loop-q.q))) (sym w.set-is) (w.in_ok-insert.ensures q))
           (c.includes.ensures.0 w.if-includes.true)
       | else-includes w ↦
           part_same c.args.index.now c.args.p c.loop-q.q (members c.loop-q.set) (members c.if-includes.set) c.loop-q.invariant (ap members w.set-is)

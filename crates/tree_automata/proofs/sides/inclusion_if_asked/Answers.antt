@@ -9,7 +9,8 @@ pub loop-rule-preserved : goal.loop-rule-preserved
 loop-rule-preserved c =
     let sys = c.args.sys.now in
     each_more (λ (r : Rule). IsVariable r.right → ⊥) sys.rules c.loop-rule.rule-index (rule_view c.rule-item.result)
-    (rule_stands sys c.rules-rule-items.result.now c.loop-rule.rule-index c.rule-item.result c.rules-rule-items.ensures.rules c.loop-rule-test.true c.rule-item.is) (λ h. false≢true (c.if-is_variable.ensures.1 h)) c.loop-rule.invariant
+    (rule_stands sys c.rules-rule-items.result.now c.loop-rule.rule-index c.rule-item.result c.rules-rule-items.ensures.rules c.loop-rule-test.true c.rule-item.is)
+    (λ h. false≢true (c.if-is_variable.ensures.1 h)) c.loop-rule.invariant
 
 pub returns : goal.returns
 returns c = λ i rule at var.

@@ -18,9 +18,11 @@ occurs_under-requires t c =
 pub returns-then-occurs_under : goal.returns-then-occurs_under
 returns-then-occurs_under t c =
     let s = value (bindings c.args.found.now) in
-    sym (argument_has s _ _ _ _ _ c.head.ensures.same c.in-Fun.is c.deref-arg-items.ensures.value c.args.x c.loop-arg.arg-index _ c.loop-arg-test.true c.arg-item.is (sym c.occurs_under.ensures ∙ c.if-occurs_under.true))
+    sym (argument_has s _ _ _ _ _ c.head.ensures.same c.in-Fun.is c.deref-arg-items.ensures.value c.args.x c.loop-arg.arg-index _ c.loop-arg-test.true c.arg-item.is
+    (sym c.occurs_under.ensures ∙ c.if-occurs_under.true))
 
 pub returns-after-loop-arg : goal.returns-after-loop-arg
 returns-after-loop-arg t c =
     let s = value (bindings c.args.found.now) in
-    sym (ap (occurs c.args.x) (opened_head s _ _ _ _ _ c.head.ensures.same c.in-Fun.is c.deref-arg-items.ensures.value) ∙ (c.loop-arg.invariant ∙ ap (λ z. occurs_in c.args.x (apply_all s z)) (views-drop_all _ c.loop-arg.arg-index c.loop-arg-test.false)))
+    sym (ap (occurs c.args.x) (opened_head s _ _ _ _ _ c.head.ensures.same c.in-Fun.is c.deref-arg-items.ensures.value)
+    ∙ (c.loop-arg.invariant ∙ ap (λ z. occurs_in c.args.x (apply_all s z)) (views-drop_all _ c.loop-arg.arg-index c.loop-arg-test.false)))

@@ -11,7 +11,8 @@ use Rattle.unification.proofs.bound.followed.Goals.{then-bound-variable+in-Var, 
 
 pub returns-in-Fun-clause-same : goal.returns-in-Fun-clause-same
 returns-in-Fun-clause-same c =
-    follows c.args.found.now c.loop-bound.bound-index c.bound-item.result _ _ c.requires.turns c.loop-bound-test.true c.bound-item.is (c.loop-bound.invariant.variable ∙ ap math.var (sym c.if-bound-variable.true)) c.loop-bound.invariant.same
+    follows c.args.found.now c.loop-bound.bound-index c.bound-item.result _ _ c.requires.turns c.loop-bound-test.true c.bound-item.is
+    (c.loop-bound.invariant.variable ∙ ap math.var (sym c.if-bound-variable.true)) c.loop-bound.invariant.same
 
 pub loop-bound-preserved : goal.loop-bound-preserved
 loop-bound-preserved c =
@@ -23,11 +24,14 @@ loop-bound-preserved c =
       | then-bound-variable+in-Var w ↦ record {
         variable = ap (λ z. view z.now) w.head-is ∙ (ap view w.in-Var.is ∙ (view-Var _ ∙ ap math.var (sym w.variable-is)));
         head = subst (λ z. IsHead (bindings (take (i + 1) es)) (view z.now)) (sym w.head-is) (next_head_bound es i e c.requires.turns c.loop-bound-test.true c.bound-item.is);
-        same = ap (λ z. apply (value (bindings es)) (view z.now)) w.head-is ∙ follows es i e _ _ c.requires.turns c.loop-bound-test.true c.bound-item.is (before.variable ∙ ap math.var (sym w.if-bound-variable.true)) before.same;
+        same = ap (λ z. apply (value (bindings es)) (view z.now)) w.head-is ∙ follows es i e _ _ c.requires.turns c.loop-bound-test.true c.bound-item.is
+            (before.variable ∙ ap math.var (sym w.if-bound-variable.true)) before.same;
       }
       | else-bound-variable w ↦ record {
         variable = ap (λ z. view z.now) w.head-is ∙ (before.variable ∙ ap math.var (sym w.variable-is));
-        head = subst (λ z. IsHead (bindings (take (i + 1) es)) (view z.now)) (sym w.head-is) (next_head_other es i e _ c.requires.turns c.loop-bound-test.true c.bound-item.is before.head (λ q. w.if-bound-variable.false (same_variable _ _ (sym q ∙ before.variable))));
+        head = subst (λ z. IsHead (bindings (take (i + 1) es)) (view z.now)) (sym w.head-is)
+            (next_head_other es i e _ c.requires.turns c.loop-bound-test.true c.bound-item.is before.head
+            (λ q. w.if-bound-variable.false (same_variable _ _ (sym q ∙ before.variable))));
         same = ap (λ z. apply (value (bindings es)) (view z.now)) w.head-is ∙ before.same;
       }
     ]

@@ -8,7 +8,12 @@ use Rattle.unification.proofs.Terms.{occurs_inside, size_inside}
 use Rattle.unification.proofs.renaming.+renamed.Goals as goal
 
 pub renamed-requires : goal.renamed-requires
-renamed-requires t c = (subst (λ z. size (view c.arg-item.result) < z) c.decreases (size_inside _ c.in-Fun.f c.in-Fun.args _ c.loop-arg.arg-index _ c.in-Fun.is c.deref-arg-items.ensures.value c.loop-arg-test.true c.arg-item.is), λ k o. c.requires.below k (occurs_inside k _ c.in-Fun.f c.in-Fun.args _ c.loop-arg.arg-index _ c.in-Fun.is c.deref-arg-items.ensures.value c.loop-arg-test.true c.arg-item.is o))
+renamed-requires t c = (
+  subst (λ z. size (view c.arg-item.result) < z) c.decreases
+      (size_inside _ c.in-Fun.f c.in-Fun.args _ c.loop-arg.arg-index _ c.in-Fun.is c.deref-arg-items.ensures.value c.loop-arg-test.true c.arg-item.is),
+  λ k o. c.requires.below k
+      (occurs_inside k _ c.in-Fun.f c.in-Fun.args _ c.loop-arg.arg-index _ c.in-Fun.is c.deref-arg-items.ensures.value c.loop-arg-test.true c.arg-item.is o),
+)
 
 pub returns-after-loop-arg : goal.returns-after-loop-arg
 returns-after-loop-arg t c =

@@ -20,7 +20,8 @@ meet-returns-then-f-g-clause-solves t c =
     let w = c.in-Fun-Fun in
     elim c.then-f-g.branch [
       | meet-then-f-g-via-then-f-g k ↦ other_symbols b b _ _ c.requires.good c.requires.fit w.f w.g w.xs w.ys w.is-0 w.is-1 k.if-f-g.true
-      | meet-then-f-g-via-else-f-g+then-len k ↦ other_lengths b b _ _ c.requires.good c.requires.fit w.f w.g w.xs w.ys w.is-0 w.is-1 (λ e. k.if-len.true (k.len.ensures ∙ (w.xs.ok.0 ∙ (e ∙ (sym w.ys.ok.0 ∙ sym k.len-else-f-g.ensures)))))
+      | meet-then-f-g-via-else-f-g+then-len k ↦ other_lengths b b _ _ c.requires.good c.requires.fit w.f w.g w.xs w.ys w.is-0 w.is-1
+          (λ e. k.if-len.true (k.len.ensures ∙ (w.xs.ok.0 ∙ (e ∙ (sym w.ys.ok.0 ∙ sym k.len-else-f-g.ensures)))))
     ]
 
 pub meet-solve_all-requires : goal.meet-solve_all-requires
@@ -33,9 +34,22 @@ meet-solve_all-requires t c =
     let left = left_fit b b _ _ c.requires.good c.requires.fit w.f w.g w.xs w.ys w.is-0 w.is-1 in
     let right = right_fit b b _ _ c.requires.good c.requires.fit w.f w.g w.xs w.ys w.is-0 w.is-1 in (
       subst (λ z. weight (length b) (size_all (apply_all (value b) (views c.deref.result.now)) + size_all (apply_all (value b) (views c.deref-in-Fun-Fun.result.now))) 3 < z) c.decreases
-          (subst₂ (λ x y. weight (length b) (size_all (apply_all (value b) (views x)) + size_all (apply_all (value b) (views y))) 3 < weight (length b) (size (apply (value b) (view c.args.a.now)) + size (apply (value b) (view c.args.b.now))) 1) (sym xs) (sym ys)
+          (subst₂ (λ x y. weight (length b) (size_all (apply_all (value b) (views x)) + size_all (apply_all (value b) (views y))) 3 < weight (length b)
+          (size (apply (value b) (view c.args.a.now)) + size (apply (value b) (view c.args.b.now))) 1) (sym xs) (sym ys)
           (arguments_weigh_less b b _ _ c.requires.good c.requires.fit w.f w.g w.xs w.ys w.is-0 w.is-1 (length b))),
-      (ap length xs ∙ (lengths ∙ sym (ap length ys)), (c.requires.turns, (c.requires.good, ((λ _. subst (λ z. Each Fits (apply_all (value b) (views z))) (sym xs) left), (λ _. subst (λ z. Each Fits (apply_all (value b) (views z))) (sym ys) right))))),
+      (
+        ap length xs ∙ (lengths ∙ sym (ap length ys)),
+        (
+          c.requires.turns,
+          (
+            c.requires.good,
+            (
+              (λ _. subst (λ z. Each Fits (apply_all (value b) (views z))) (sym xs) left),
+              (λ _. subst (λ z. Each Fits (apply_all (value b) (views z))) (sym ys) right),
+            ),
+          ),
+        ),
+      ),
     )
 
 pub meet-returns-then-x-y-clause-solves : goal.meet-returns-then-x-y-clause-solves
@@ -68,13 +82,15 @@ pub meet-returns-else-len-clause-solves : goal.meet-returns-else-len-clause-solv
 meet-returns-else-len-clause-solves t c =
     let b = bindings c.args.found.now.items in
     let w = c.in-Fun-Fun in
-    same_arguments b (bindings c.solve_all.new.found.items) _ _ c.requires.good c.requires.fit w.f w.g w.xs w.ys w.is-0 w.is-1 c.if-f-g.false (sym w.xs.ok.0 ∙ (sym c.len.ensures ∙ (c.if-len.false ∙ (c.len-else-f-g.ensures ∙ w.ys.ok.0)))) c.solve_all.result
+    same_arguments b (bindings c.solve_all.new.found.items) _ _ c.requires.good c.requires.fit w.f w.g w.xs w.ys w.is-0 w.is-1 c.if-f-g.false
+    (sym w.xs.ok.0 ∙ (sym c.len.ensures ∙ (c.if-len.false ∙ (c.len-else-f-g.ensures ∙ w.ys.ok.0)))) c.solve_all.result
     (subst₂ (λ x y. SolveAnswers b (bindings c.solve_all.new.found.items) (views x) (views y) c.solve_all.result) c.deref.ensures.value c.deref-in-Fun-Fun.ensures.value c.solve_all.ensures.solves)
 
 pub solve-returns-then-not-do_fit-clause-solves : goal.solve-returns-then-not-do_fit-clause-solves
 solve-returns-then-not-do_fit-clause-solves t c =
     let b = bindings c.args.found.now.items in
-    ends_large b b _ _ (λ f. false≢true (subst IsTrue c.if-not-do_fit.true (c.do_fit.ensures.1 (subst (λ z. DoFit (apply (value (bindings z)) (view c.args.a.now)) (apply (value (bindings z)) (view c.args.b.now))) (sym c.deref.ensures.value) f))))
+    ends_large b b _ _ (λ f. false≢true (subst IsTrue c.if-not-do_fit.true
+    (c.do_fit.ensures.1 (subst (λ z. DoFit (apply (value (bindings z)) (view c.args.a.now)) (apply (value (bindings z)) (view c.args.b.now))) (sym c.deref.ensures.value) f))))
 
 pub solve-returns-clause-solves : goal.solve-returns-clause-solves
 solve-returns-clause-solves t c =
@@ -118,7 +134,8 @@ solve_all-returns-in_default t c =
     let other : c.loop-i.i < length c.args.ys.now = subst (λ n. c.loop-i.i < n) c.requires.lengths i in
     record {
       turns = c.in_ok-other.ensures.turns;
-      solves = remain_end b d (bindings c.solve.new.found.items) _ _ _ _ _ _ c.in_ok-other.other (still_there b d _ _ c.loop-i.i _ _ i other c.index-xs-i.is c.index-ys-i.is c.loop-i.invariant.remain) c.in_default.not-Solved c.in_ok-other.ensures.solves;
+      solves = remain_end b d (bindings c.solve.new.found.items) _ _ _ _ _ _ c.in_ok-other.other
+          (still_there b d _ _ c.loop-i.i _ _ i other c.index-xs-i.is c.index-ys-i.is c.loop-i.invariant.remain) c.in_default.not-Solved c.in_ok-other.ensures.solves;
     }
 
 pub solve_all-loop-i-preserved : goal.solve_all-loop-i-preserved
@@ -129,5 +146,6 @@ solve_all-loop-i-preserved t c =
     let other : c.loop-i.i < length c.args.ys.now = subst (λ n. c.loop-i.i < n) c.requires.lengths i in
     record {
       turns = c.in_ok-other.ensures.turns;
-      remain = remain_next b d (bindings c.solve.new.found.items) _ _ _ _ _ _ c.in_ok-other.other c.in-Solved.is (still_there b d _ _ c.loop-i.i _ _ i other c.index-xs-i.is c.index-ys-i.is c.loop-i.invariant.remain) c.in_ok-other.ensures.solves;
+      remain = remain_next b d (bindings c.solve.new.found.items) _ _ _ _ _ _ c.in_ok-other.other c.in-Solved.is
+          (still_there b d _ _ c.loop-i.i _ _ i other c.index-xs-i.is c.index-ys-i.is c.loop-i.invariant.remain) c.in_ok-other.ensures.solves;
     }

@@ -14,7 +14,8 @@ abbrev pub decreases-solve : goal.decreases-solve
 decreases-solve l = weight (length (bindings l.found.now.items)) (size (apply (value (bindings l.found.now.items)) (view l.a.now)) + size (apply (value (bindings l.found.now.items)) (view l.b.now))) 2
 
 abbrev pub decreases-solve_all : goal.decreases-solve_all
-decreases-solve_all l = weight (length (bindings l.found.now.items)) (size_all (apply_all (value (bindings l.found.now.items)) (views l.xs.now)) + size_all (apply_all (value (bindings l.found.now.items)) (views l.ys.now))) 3
+decreases-solve_all l = weight (length (bindings l.found.now.items)) (size_all (apply_all (value (bindings l.found.now.items)) (views l.xs.now)) + size_all
+    (apply_all (value (bindings l.found.now.items)) (views l.ys.now))) 3
 
 abbrev pub invariant-solve_all-loop-i : goal.invariant-solve_all-loop-i
 invariant-solve_all-loop-i l = record {

@@ -30,7 +30,8 @@ returns-else-do_fit_under-clause-binds c =
     let n = c.len-earlier.result in (
       sym (c.occurs_under.ensures ∙ same) ∙ c.if-occurs_under.false,
       λ h. false≢true (subst IsTrue c.if-do_fit_under.false
-          (c.do_fit_under.ensures.1 (subst (λ z. DoAllFit (take n (bindings z))) (sym c.deref-3.ensures.value) (subst (λ z. DoAllFit (take n z)) (sym c.in_ok-add.ensures.extended) (first_fit _ n h))))),
+          (c.do_fit_under.ensures.1 (subst (λ z. DoAllFit (take n (bindings z))) (sym c.deref-3.ensures.value)
+          (subst (λ z. DoAllFit (take n z)) (sym c.in_ok-add.ensures.extended) (first_fit _ n h))))),
     )
 
 pub do_fit_under-requires-clause-known : goal.do_fit_under-requires-clause-known

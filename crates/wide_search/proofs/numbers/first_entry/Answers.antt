@@ -18,7 +18,13 @@ places-preserved c =
     record {
       within = omega (arith, c.places-test.true);
       counted = omega (arith, long, counted, longer);
-      tried = subst (AreTriedOf head (c.args.arity + 1)) (sym put) (one_more head (c.args.arity + 1) cs n known.tried (record { small = omega (arith, c.least_at.ensures.small); least = λ h. c.least_at.ensures.least (subst (λ (z : ℕ). IsOneAtLeast head (c.args.arity + 1) z) counted h) }));
+      tried = subst (AreTriedOf head (c.args.arity + 1)) (sym put)
+          (one_more head (c.args.arity + 1) cs n known.tried
+          (record {
+            small = omega (arith, c.least_at.ensures.small);
+            least = λ h. c.least_at.ensures.least
+                (subst (λ (z : ℕ). IsOneAtLeast head (c.args.arity + 1) z) counted h);
+          }));
     }
 
 pub returns-clause-count : goal.returns-clause-count

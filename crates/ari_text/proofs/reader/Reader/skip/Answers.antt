@@ -13,7 +13,8 @@ returns-then-open-eq0-clause-body c = body_read c.args.self.now c.words.self c.n
 
 pub words-preserved-in-Close : goal.words-preserved-in-Close
 words-preserved-in-Close c = record {
-  read = inside_closing c.args.self.now c.words.self c.next.new.self c.words.open (c.words.open - 1) c.words.invariant.read (rw c.in-Close.is at c.in-Some.ensures.word) (omega (arith, c.if-open-eq0.false));
+  read = inside_closing c.args.self.now c.words.self c.next.new.self c.words.open (c.words.open - 1) c.words.invariant.read (rw c.in-Close.is at c.in-Some.ensures.word)
+      (omega (arith, c.if-open-eq0.false));
   onward = omega (arith, c.words.invariant.onward, c.in-Some.ensures.onward);
 }
 

@@ -20,12 +20,14 @@ loop-state-preserved c =
     let here : P c.loop-state.state-index c.insert_all.new.self = (
       get_or c.args.front.now c.loop-state.state-index 0,
       slice_get-get_or c.args.front.now c.loop-state.state-index 0 c.loop-state-test.true,
-      all_with (length c.args.tails.now.lists) (get_or c.args.front.now c.loop-state.state-index 0) c.new-leaf.result c.insert_all.new.self (members c.all.result.now) c.new-leaf.ensures c.all.ensures c.in_ok-insert_all.ensures,
+      all_with (length c.args.tails.now.lists) (get_or c.args.front.now c.loop-state.state-index 0) c.new-leaf.result c.insert_all.new.self (members c.all.result.now)
+          c.new-leaf.ensures c.all.ensures c.in_ok-insert_all.ensures,
     ) in
     record {
       long = omega (arith, simp length-append at longer);
       each = λ place r e.
-          each_more P c.loop-state.leaves.items c.insert_all.new.self c.loop-state.invariant.each (subst (λ (j : ℕ). P j c.insert_all.new.self) (sym long) here) place r (subst (λ (xs : List NumberRelation). slice_get xs place ≡ Some r) items e);
+          each_more P c.loop-state.leaves.items c.insert_all.new.self c.loop-state.invariant.each (subst (λ (j : ℕ). P j c.insert_all.new.self) (sym long) here) place r
+          (subst (λ (xs : List NumberRelation). slice_get xs place ≡ Some r) items e);
     }
 
 pub invariant_of-result : goal.invariant_of-result

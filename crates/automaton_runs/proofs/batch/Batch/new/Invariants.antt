@@ -6,5 +6,6 @@ use Rattle.automaton_runs.proofs.batch.Batch.new.Given as goal
 abbrev pub invariant-loop-state : goal.invariant-loop-state
 invariant-loop-state l = record {
   long : length l.leaves.items ≡ l.state-index;
-  each : (place : ℕ) (r : NumberRelation) → slice_get l.leaves.items place ≡ Some r → (state : ℕ) × (slice_get l.front place ≡ Some state) × ((q k : ℕ) → Relates r q k ↔ ((k < length l.tails.lists) × (q ≡ state)));
+  each : (place : ℕ) (r : NumberRelation) → slice_get l.leaves.items place ≡ Some r
+      → (state : ℕ) × (slice_get l.front place ≡ Some state) × ((q k : ℕ) → Relates r q k ↔ ((k < length l.tails.lists) × (q ≡ state)));
 }

@@ -10,5 +10,6 @@ returns-clause-wide c =
     (λ k holds.
     let front = c.self.inside.front.now in
     let tail = get_or c.self.inside.tails.now.lists k [] in
-    let long = c.width.ensures.wide (get_or c.self.inside.tails.now.lists k []) (place_among c.self.inside.tails.now.lists k (get_or c.self.inside.tails.now.lists k []) (slice_get-get_or c.self.inside.tails.now.lists k [] holds)) in
+    let long = c.width.ensures.wide (get_or c.self.inside.tails.now.lists k []) (place_among c.self.inside.tails.now.lists k (get_or c.self.inside.tails.now.lists k [])
+    (slice_get-get_or c.self.inside.tails.now.lists k [] holds)) in
     omega (arith, length-append c.self.inside.front.now (get_or c.self.inside.tails.now.lists k [])))

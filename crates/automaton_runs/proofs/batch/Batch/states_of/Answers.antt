@@ -26,8 +26,10 @@ returns-in-Some c =
     let place = c.in-Some.place in
     let r = c.index.result.now in
     let inside : c.in-Some.place < length c.self.inside.leaves.items = omega (arith, c.if-place-len.true) in
-    let at : slice_get c.self.inside.leaves.items c.in-Some.place ≡ Some c.index.result.now = slice_get_read c.self.inside.leaves.items (length c.self.inside.leaves.items) c.in-Some.place c.index.result.now refl inside c.index.ensures in
-    let states : AreStatesAt c.args.self.now c.in-Some.place c.index.result.now = subst (λ (b : Batch). AreStatesAt b c.in-Some.place c.index.result.now) c.self.view_is (c.self.invariant.leaves c.in-Some.place c.index.result.now at) in
+    let at : slice_get c.self.inside.leaves.items c.in-Some.place ≡ Some c.index.result.now = slice_get_read c.self.inside.leaves.items (length c.self.inside.leaves.items)
+    c.in-Some.place c.index.result.now refl inside c.index.ensures in
+    let states : AreStatesAt c.args.self.now c.in-Some.place c.index.result.now = subst (λ (b : Batch). AreStatesAt b c.in-Some.place c.index.result.now) c.self.view_is
+    (c.self.invariant.leaves c.in-Some.place c.index.result.now at) in
     let front : length c.self.inside.front.now ≡ length c.args.self.now.front = ap (λ (b : Batch). length b.front) c.self.view_is in
     let places = c.self.invariant.places in
     states_found c.args.self.now c.args.names.now c.args.x c.in-Some.place c.index.result.now c.in-Some.ensures
@@ -49,9 +51,11 @@ returns-in-Some-2 c =
     let within : (k : ℕ) → Holds view k → c.in-Some-2.place < length (choice_of view k) =
     λ k holds.
     let tail = get_or c.self.inside.tails.now.lists k [] in
-    let low = c.leaf.ensures.within (get_or c.self.inside.tails.now.lists k []) (place_among c.self.inside.tails.now.lists k (get_or c.self.inside.tails.now.lists k []) (slice_get-get_or c.self.inside.tails.now.lists k [] holds)) in
+    let low = c.leaf.ensures.within (get_or c.self.inside.tails.now.lists k []) (place_among c.self.inside.tails.now.lists k (get_or c.self.inside.tails.now.lists k [])
+    (slice_get-get_or c.self.inside.tails.now.lists k [] holds)) in
     omega (arith, length-append c.self.inside.front.now (get_or c.self.inside.tails.now.lists k [])) in
-    subst (λ (b : Batch). (q k : ℕ) → Relates r q k ↔ (Holds b k × (q ≡ state_of names (choice_of b k) x))) c.self.view_is (states_found view names x c.in-Some-2.place r c.in-Some-2.ensures within states)
+    subst (λ (b : Batch). (q k : ℕ) → Relates r q k ↔ (Holds b k × (q ≡ state_of names (choice_of b k) x))) c.self.view_is
+    (states_found view names x c.in-Some-2.place r c.in-Some-2.ensures within states)
 
 pub returns-in-None : goal.returns-in-None
 returns-in-None c =

@@ -14,7 +14,9 @@ returns-then-states-eq1 c =
     let a = c.args.index.now in
     let t = view c.args.t.now in
     IfOk-weaker c.zeros.result _ (AreChoices c.args.index.now (view c.args.t.now))
-    (λ choices is. subst (AreChoices c.args.index.now (view c.args.t.now)) (sym is) (zeros_are c.args.index.now (view c.args.t.now) c.len.result (sym c.states.ensures ∙ c.if-states-eq1.true) (c.len.ensures ∙ c.in_ok-occurrences.field-0.ok.0 ∙ ap length c.in_ok-occurrences.ensures))) c.zeros.ensures
+    (λ choices is. subst (AreChoices c.args.index.now (view c.args.t.now)) (sym is)
+    (zeros_are c.args.index.now (view c.args.t.now) c.len.result (sym c.states.ensures ∙ c.if-states-eq1.true) (c.len.ensures ∙ c.in_ok-occurrences.field-0.ok.0
+    ∙ ap length c.in_ok-occurrences.ensures))) c.zeros.ensures
 
 pub new-requires-clause-wide : goal.new-requires-clause-wide
 new-requires-clause-wide c list h =

@@ -7,4 +7,5 @@ use Rattle.automaton_runs.proofs.tails.Tails.all.Goals as goal
 
 pub returns : goal.returns
 returns c k =
-    subst (λ (n : ℕ). IsAmong k (members c.self.inside.all) ↔ (k < n)) (sym (length-map c.self.inside.lists.items (λ v. v.items)) ∙ ap (λ (t : Tails). length t.lists) c.self.view_is) (c.self.invariant.all k)
+    subst (λ (n : ℕ). IsAmong k (members c.self.inside.all) ↔ (k < n)) (sym (length-map c.self.inside.lists.items (λ v. v.items))
+    ∙ ap (λ (t : Tails). length t.lists) c.self.view_is) (c.self.invariant.all k)

@@ -16,5 +16,6 @@ invariant_of-result c =
       all = all;
       leaves = subst (λ (vs : List (Vec ℕ Global)). AreAllStatesIn (as_lists vs) c.in_ok-leaves.leaves.items) c.deref.ensures.value c.in_ok-leaves.ensures.each;
       zeros = all_with (length c.args.lists.items) 0 c.new-zeros.result c.insert_all.new.self (members c.in_ok-all.all) c.new-zeros.ensures all c.in_ok-insert_all.ensures;
-      alone = subst (λ (vs : List (Vec ℕ Global)). IsTrue c.are_zeros-only_zeros.result → (list : List ℕ) → IsAmong list (as_lists vs) → AreZeros list) c.deref-2.ensures.value c.are_zeros-only_zeros.ensures;
+      alone = subst (λ (vs : List (Vec ℕ Global)). IsTrue c.are_zeros-only_zeros.result → (list : List ℕ) → IsAmong list (as_lists vs) → AreZeros list) c.deref-2.ensures.value
+          c.are_zeros-only_zeros.ensures;
     }

@@ -6,4 +6,5 @@ use Rattle.automaton_runs.proofs.tails.Tails.zeros.Goals as goal
 
 pub returns : goal.returns
 returns c q k =
-    subst (λ (n : ℕ). Relates c.self.inside.zeros q k ↔ ((k < n) × (q ≡ 0))) (sym (length-map c.self.inside.lists.items (λ v. v.items)) ∙ ap (λ (t : Tails). length t.lists) c.self.view_is) (c.self.invariant.zeros q k)
+    subst (λ (n : ℕ). Relates c.self.inside.zeros q k ↔ ((k < n) × (q ≡ 0))) (sym (length-map c.self.inside.lists.items (λ v. v.items))
+    ∙ ap (λ (t : Tails). length t.lists) c.self.view_is) (c.self.invariant.zeros q k)

@@ -31,7 +31,8 @@ returns-then-self-number c =
     let f = found_in i.texts.keys c.as_slice.result.now i.used i.unfolded c.args.number t c.as_slice.ensures.keys c.if-number-eq0.false c.if-number-self.false l.0 (l.1 t) in
     let below = c.if-sum.false in
     let more = c.if-self-number.true in
-    good_answer i.texts.keys i.used i.unfolded c.args.number c.args.number c.in-Some-checked_add.sum c.args.self.now t.now c.self.view_is f c.in-Some-checked_add.ensures.1 (omega (arith, below)) (omega (arith, more))
+    good_answer i.texts.keys i.used i.unfolded c.args.number c.args.number c.in-Some-checked_add.sum c.args.self.now t.now c.self.view_is f c.in-Some-checked_add.ensures.1
+    (omega (arith, below)) (omega (arith, more))
 
 pub returns-else-self-number : goal.returns-else-self-number
 returns-else-self-number c =
@@ -41,4 +42,5 @@ returns-else-self-number c =
     let f = found_in i.texts.keys c.as_slice.result.now i.used i.unfolded c.args.number t c.as_slice.ensures.keys c.if-number-eq0.false c.if-number-self.false l.0 (l.1 t) in
     let below = c.if-sum.false in
     let less = c.if-self-number.false in
-    good_answer i.texts.keys i.used i.unfolded c.args.number i.used c.in-Some-checked_add.sum c.args.self.now t.now c.self.view_is f c.in-Some-checked_add.ensures.1 (omega (arith, below)) (omega (arith, less))
+    good_answer i.texts.keys i.used i.unfolded c.args.number i.used c.in-Some-checked_add.sum c.args.self.now t.now c.self.view_is f c.in-Some-checked_add.ensures.1
+    (omega (arith, below)) (omega (arith, less))

@@ -14,7 +14,8 @@ passed c = pass_more c.args.sys.now (rest_of c.args.sys.now c.args.self.now) (re
 
 -- the next outer rule
 rule : (c : In-Some-get) → slice_get c.args.sys.now.rules c.settle_in_rule.new.self.outer ≡ Some (rule_view c.in-Some-get.rule.now)
-rule c = rule_there c.rules-in-rules.result.now _ c.settle_in_rule.new.self.outer c.in-Some-get.rule.now c.rules-in-rules.ensures.rules (ltb-true c.settle_in_rule.new.self.outer (length c.rules-in-rules.result.now) (sym c.in-Some-get.ensures.lookup.0)) c.in-Some-get.ensures.lookup.1
+rule c = rule_there c.rules-in-rules.result.now _ c.settle_in_rule.new.self.outer c.in-Some-get.rule.now c.rules-in-rules.ensures.rules
+    (ltb-true c.settle_in_rule.new.self.outer (length c.rules-in-rules.result.now) (sym c.in-Some-get.ensures.lookup.0)) c.in-Some-get.ensures.lookup.1
 
 pub returns-in-Some-clause-passes : goal.returns-in-Some-clause-passes
 returns-in-Some-clause-passes c = passed (goal.at.returns-in-Some-clause-passes c).After-settle_in_rule
@@ -35,7 +36,8 @@ rules-preserved c =
       cursor = entered_cursor sys before c.enter.new.self (rule_view c.in-Some-get.rule.now) next c.in_ok-enter.ensures;
       passes =
           pass_more sys (rest_of sys c.args.self.now) (rest_of sys before) (rest_of sys c.enter.new.self) (passed (goal.at.rules-preserved c).After-settle_in_rule)
-          (pass_same sys (rest_of sys before) (rest_of sys c.enter.new.self) (entered sys before c.enter.new.self (rule_view c.in-Some-get.rule.now) is c.in_default.ensures.answer next c.in_ok-enter.ensures));
+          (pass_same sys (rest_of sys before) (rest_of sys c.enter.new.self)
+          (entered sys before c.enter.new.self (rule_view c.in-Some-get.rule.now) is c.in_default.ensures.answer next c.in_ok-enter.ensures));
     }
 
 pub returns-in_err-enter-clause-passes : goal.returns-in_err-enter-clause-passes

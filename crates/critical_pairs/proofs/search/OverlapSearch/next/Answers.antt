@@ -14,7 +14,8 @@ found c = subst (λ z. FindAnswers c.self.inside.sys.now c.find.new.cursor (Ok z
 pub returns-in_err-found-clause-answer : goal.returns-in_err-found-clause-answer
 returns-in_err-found-clause-answer c =
     subst (OfferAnswers c.args.self.now _) (sym (handed_on _ _ c.from_residual.ensures.1))
-    (no_offer c.self.inside.sys.now c.self.invariant.sound c.self.inside.cursor c.find.new.cursor c.self.inside.offered c.args.self.now c.self.view_is c.find.ensures.cursor c.find.ensures.passes c.in_err-found.field-0.0 c.in_err-found.ensures.answer)
+    (no_offer c.self.inside.sys.now c.self.invariant.sound c.self.inside.cursor c.find.new.cursor c.self.inside.offered c.args.self.now c.self.view_is c.find.ensures.cursor
+    c.find.ensures.passes c.in_err-found.field-0.0 c.in_err-found.ensures.answer)
 
 pub triple-triple-requires : goal.triple-triple-requires
 triple-triple-requires c =
@@ -24,7 +25,8 @@ pub returns-in_err-overlap-clause-answer : goal.returns-in_err-overlap-clause-an
 returns-in_err-overlap-clause-answer c =
     let f = found (goal.at.returns-in_err-overlap-clause-answer c).In-Some in
     subst (OfferAnswers c.args.self.now _) (sym (handed_on _ _ c.from_residual-in_err-overlap.ensures.1))
-    (no_offer c.self.inside.sys.now c.self.invariant.sound c.self.inside.cursor c.find.new.cursor c.self.inside.offered c.args.self.now c.self.view_is c.find.ensures.cursor c.find.ensures.passes c.in_err-overlap.field-0.0
+    (no_offer c.self.inside.sys.now c.self.invariant.sound c.self.inside.cursor c.find.new.cursor c.self.inside.offered c.args.self.now c.self.view_is c.find.ensures.cursor
+    c.find.ensures.passes c.in_err-overlap.field-0.0
     (refused_here _ c.find.new.cursor c.in-Some.found.inner f.stands c.triple-triple.result c.triple-triple.ensures c.in_err-overlap.field-0.0 c.in_err-overlap.ensures))
 
 pub count-requires-clause-candidates : goal.count-requires-clause-candidates
@@ -36,11 +38,13 @@ returns-in_err-count-clause-answer c =
     let f = found (goal.at.returns-in_err-count-clause-answer c).In-Some in
     let q = c.in_err-count.ensures in
     subst (OfferAnswers c.args.self.now _) (sym (handed_on _ _ c.from_residual-in_err-count.ensures.1))
-    (beyond c.self.inside.sys.now c.self.invariant.sound c.self.inside.cursor c.find.new.cursor c.self.inside.offered c.args.self.now c.self.view_is c.find.ensures.cursor c.find.ensures.passes (overlap_view c.in_ok-overlap.overlap) _ q.0 q.1
+    (beyond c.self.inside.sys.now c.self.invariant.sound c.self.inside.cursor c.find.new.cursor c.self.inside.offered c.args.self.now c.self.view_is c.find.ensures.cursor
+    c.find.ensures.passes (overlap_view c.in_ok-overlap.overlap) _ q.0 q.1
     (overlap_here _ c.find.new.cursor c.in-Some.found.inner f.stands c.triple-triple.result c.triple-triple.ensures _ c.in_ok-overlap.ensures))
 
 pub returns-clause-answer : goal.returns-clause-answer
 returns-clause-answer c =
     let f = found (goal.at.returns-clause-answer c).In-Some in
-    offer c.self.inside.sys.now c.self.invariant.sound c.self.inside.cursor c.find.new.cursor c.self.inside.offered c.args.self.now c.self.view_is c.find.ensures.cursor c.find.ensures.passes c.count.new.here c.count.new.offered (overlap_view c.in_ok-overlap.overlap) c.in_ok-count.ensures
+    offer c.self.inside.sys.now c.self.invariant.sound c.self.inside.cursor c.find.new.cursor c.self.inside.offered c.args.self.now c.self.view_is c.find.ensures.cursor
+    c.find.ensures.passes c.count.new.here c.count.new.offered (overlap_view c.in_ok-overlap.overlap) c.in_ok-count.ensures
     (overlap_here _ c.find.new.cursor c.in-Some.found.inner f.stands c.triple-triple.result c.triple-triple.ensures _ c.in_ok-overlap.ensures)

@@ -13,7 +13,8 @@ found c = subst (λ z. FindAnswers c.self.inside.sys.now c.find.new.cursor (Ok z
 pub returns-in_err-found-clause-answer : goal.returns-in_err-found-clause-answer
 returns-in_err-found-clause-answer c =
     subst (PassAnswers c.args.self.now _) (sym (handed_on _ _ c.from_residual.ensures.1))
-    (no_offer c.self.inside.sys.now c.self.invariant.sound c.self.inside.cursor c.find.new.cursor c.self.inside.offered c.args.self.now c.self.view_is c.find.ensures.cursor c.find.ensures.passes c.in_err-found.field-0.0 c.in_err-found.ensures.answer)
+    (no_offer c.self.inside.sys.now c.self.invariant.sound c.self.inside.cursor c.find.new.cursor c.self.inside.offered c.args.self.now c.self.view_is c.find.ensures.cursor
+    c.find.ensures.passes c.in_err-found.field-0.0 c.in_err-found.ensures.answer)
 
 pub triple-triple-requires : goal.triple-triple-requires
 triple-triple-requires c =
@@ -23,7 +24,8 @@ pub returns-in_err-measure_by-clause-answer : goal.returns-in_err-measure_by-cla
 returns-in_err-measure_by-clause-answer c =
     let f = found (goal.at.returns-in_err-measure_by-clause-answer c).In-Some in
     subst (PassAnswers c.args.self.now _) (sym (handed_on _ _ c.from_residual-in_err-measure_by.ensures.1))
-    (no_offer c.self.inside.sys.now c.self.invariant.sound c.self.inside.cursor c.find.new.cursor c.self.inside.offered c.args.self.now c.self.view_is c.find.ensures.cursor c.find.ensures.passes c.in_err-measure_by.field-0.0
+    (no_offer c.self.inside.sys.now c.self.invariant.sound c.self.inside.cursor c.find.new.cursor c.self.inside.offered c.args.self.now c.self.view_is c.find.ensures.cursor
+    c.find.ensures.passes c.in_err-measure_by.field-0.0
     (refused_here _ c.find.new.cursor c.in-Some.found.inner f.stands c.triple-triple.result c.triple-triple.ensures c.in_err-measure_by.field-0.0 c.in_err-measure_by.ensures))
 
 pub count-requires-clause-candidates : goal.count-requires-clause-candidates
@@ -36,7 +38,8 @@ returns-in_err-count-clause-answer c =
     let (o, there) = c.in_ok-measure_by.ensures in
     let q = c.in_err-count.ensures in
     subst (PassAnswers c.args.self.now _) (sym (handed_on _ _ c.from_residual-in_err-count.ensures.1))
-    (beyond c.self.inside.sys.now c.self.invariant.sound c.self.inside.cursor c.find.new.cursor c.self.inside.offered c.args.self.now c.self.view_is c.find.ensures.cursor c.find.ensures.passes o _ q.0 q.1
+    (beyond c.self.inside.sys.now c.self.invariant.sound c.self.inside.cursor c.find.new.cursor c.self.inside.offered c.args.self.now c.self.view_is c.find.ensures.cursor
+    c.find.ensures.passes o _ q.0 q.1
     (overlap_here _ c.find.new.cursor c.in-Some.found.inner f.stands c.triple-triple.result c.triple-triple.ensures o there))
 
 pub returns-clause-answer : goal.returns-clause-answer
@@ -44,6 +47,7 @@ returns-clause-answer c =
     let f = found (goal.at.returns-clause-answer c).In-Some in
     let (o, there) = c.in_ok-measure_by.ensures in (
       o,
-      offer c.self.inside.sys.now c.self.invariant.sound c.self.inside.cursor c.find.new.cursor c.self.inside.offered c.args.self.now c.self.view_is c.find.ensures.cursor c.find.ensures.passes c.count.new.here c.count.new.offered o c.in_ok-count.ensures
+      offer c.self.inside.sys.now c.self.invariant.sound c.self.inside.cursor c.find.new.cursor c.self.inside.offered c.args.self.now c.self.view_is c.find.ensures.cursor
+          c.find.ensures.passes c.count.new.here c.count.new.offered o c.in_ok-count.ensures
           (overlap_here _ c.find.new.cursor c.in-Some.found.inner f.stands c.triple-triple.result c.triple-triple.ensures o there),
     )

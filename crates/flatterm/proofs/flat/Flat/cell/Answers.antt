@@ -7,7 +7,8 @@ use Rattle.flatterm.proofs.Replaced.{is_preorder}
 use Rattle.flatterm.proofs.flat.Flat.cell.Goals as goal
 
 pub returns-clause-cell : goal.returns-clause-cell
-returns-clause-cell c = let chain = c.self.inside.chain in cell_at_place chain.before chain.items (chain.after, true) chain.place c.read.result c.read.ensures c.self.invariant.0.1 ∙ ap (λ v. slice_get v.0 v.1) c.self.view_is
+returns-clause-cell c = let chain = c.self.inside.chain in cell_at_place chain.before chain.items (chain.after, true) chain.place c.read.result c.read.ensures c.self.invariant.0.1
+    ∙ ap (λ v. slice_get v.0 v.1) c.self.view_is
 
 pub returns-clause-whole : goal.returns-clause-whole
 returns-clause-whole c = let w = c.self.invariant.0.0 in is_preorder c.args.self.now.0 w.0 (sym (ap (λ v. v.0) c.self.view_is) ∙ laid_cells w.0 c.self.inside.chain.items w.1)

@@ -20,7 +20,8 @@ returns-in-Some-clause-answer c = let d = c.self.inside.chain in
 pub returns-in-Some-clause-place : goal.returns-in-Some-clause-place
 returns-in-Some-clause-place c = let d = c.self.inside.chain in let s = c.jump.ensures in let t = c.settle.ensures in
     let w = s.1.0 in
-    let e = ap (λ cs. place_in cs c.settle.new.chain.place) t.0 ∙ t.1.2 ∙ ap (λ cs. place_in cs c.jump.new.self.place) s.0 ∙ place_behind_subterm d.items d.place c.jump.new.self.place d.at d.here w s.1.1 in
+    let e = ap (λ cs. place_in cs c.settle.new.chain.place) t.0 ∙ t.1.2 ∙ ap (λ cs. place_in cs c.jump.new.self.place) s.0
+    ∙ place_behind_subterm d.items d.place c.jump.new.self.place d.at d.here w s.1.1 in
     (λ _. (w.tree, subst (λ v. Stands v.0 v.1 w.tree) c.self.view_is (subterm_stands d.items d.place w), e ∙ ap (λ v. v.1 + length (preorder w.tree)) c.self.view_is), λ (h : _ ≡ _). cc)
 
 pub returns-in-None-clause-answer : goal.returns-in-None-clause-answer

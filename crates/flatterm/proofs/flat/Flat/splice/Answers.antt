@@ -46,11 +46,13 @@ returns-clause-cells c = let x = c.exchange.ensures in let w = x.0.0 in let n = 
       stood = record {
         front = cells w.front;
         back = cells w.back;
-        whole = sym (ap (λ v. v.0) c.self.view_is) ∙ ap cells w.whole ∙ cells_app w.front (w.middle ++ w.back) ∙ ap (λ m. cells w.front ++ m) (cells_app w.middle w.back ∙ ap (λ m. m ++ cells w.back) (laid_cells w.tree w.middle w.laid));
+        whole = sym (ap (λ v. v.0) c.self.view_is) ∙ ap cells w.whole ∙ cells_app w.front (w.middle ++ w.back)
+            ∙ ap (λ m. cells w.front ++ m) (cells_app w.middle w.back ∙ ap (λ m. m ++ cells w.back) (laid_cells w.tree w.middle w.laid));
         long = sym (place_front w.front (w.middle ++ w.back)) ∙ (λ k. place_in (sym w.whole k) (w.long k)) ∙ ap (λ v. v.1) c.self.view_is;
       };
       cells = joined d.items n.items with d.place w x.0.1 ∙ ap (λ m. cells w.front ++ (m ++ cells w.back)) (ap (λ v. v.0) c.with.view_is);
-      place = ap (place_in n.items) x.1 ∙ (λ k. place_in (x.0.1 k) (sym w.long k)) ∙ place_front w.front (with ++ w.back) ∙ sym (place_front w.front (w.middle ++ w.back)) ∙ (λ k. place_in (sym w.whole k) (w.long k)) ∙ ap (λ v. v.1) c.self.view_is;
+      place = ap (place_in n.items) x.1 ∙ (λ k. place_in (x.0.1 k) (sym w.long k)) ∙ place_front w.front (with ++ w.back) ∙ sym (place_front w.front (w.middle ++ w.back))
+          ∙ (λ k. place_in (sym w.whole k) (w.long k)) ∙ ap (λ v. v.1) c.self.view_is;
       handed = let m = c.exchange.new.with in let e = ap cells x.0.2 ∙ laid_cells w.tree w.middle w.laid in let z = ap (place_in m.items) x.2 in (λ k. (e k, z k));
     }
 

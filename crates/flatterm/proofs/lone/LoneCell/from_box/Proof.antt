@@ -15,7 +15,10 @@ use denote.Triple.Walked.{stay_dropped}
 use denote.Exit.{yes}
 use Rattle.std.proofs.alloc.Calls.{Goes-blank}
 use Rattle.std.proofs.raw_atomic.Walks.{proved_at}
-use Rattle.flatterm.proofs.Steps.{fact, raw, ◌≡◌, ◌∙◌, List, [], ◌∷◌, ◌++◌, refl, sym, ap, subst, id⊢, ent, full_share, ftrue, flft, tables, ‵, ◌⊛◌, some, later, ◌$◌, ◌∵◌, !, qed, done, move, keep, drop, use1, split, join, fsplit, fjoin, feq_l, pick, await, suffices, enter, of_opd, stop, fld, no_more, and_then, agg, Is, shows, peeks, returns, alloc_all, pass_all, free_all, look_at, get, sets, whole, sub, Ptr, RawPtr, block_ptr, ptr_val, only, plain, nothing, Stays, walk_of, says, ends_at}
+use Rattle.flatterm.proofs.Steps.{fact, raw, ◌≡◌, ◌∙◌, List, [], ◌∷◌, ◌++◌, refl, sym, ap, subst, id⊢, ent, full_share, ftrue, flft, tables, ‵, ◌⊛◌, some, later, ◌$◌, ◌∵◌, !, qed}
+use Rattle.flatterm.proofs.Steps.{done, move, keep, drop, use1, split, join, fsplit, fjoin, feq_l, pick, await, suffices, enter, of_opd, stop, fld, no_more, and_then, agg, Is}
+use Rattle.flatterm.proofs.Steps.{shows, peeks, returns, alloc_all, pass_all, free_all, look_at, get, sets, whole, sub, Ptr, RawPtr, block_ptr, ptr_val, only, plain, nothing}
+use Rattle.flatterm.proofs.Steps.{Stays, walk_of, says, ends_at}
 use Rattle.std.specs.declared.alloc.Global.{Global}
 use Rattle.std.specs.contracts.alloc.Global as Heap
 use Rattle.std.proofs.alloc.Global.TheLaws as heap
@@ -47,7 +50,8 @@ from_box_spec {M} 𝓤 𝓛 𝓜 𝓡 wired =
     let En = callee.ended X Z E.al.g E.al.d E.al.drops (none X) in
     let k = triple_of 𝓛 (callee.signature X Z E.al.g E.al.d E.al.drops (none X)) (callee.spec X Z E.al.g E.al.d E.al.drops (none X) 𝓛 𝓜.mem 𝓡.returns) in
     let Pair = Tuple (RawPtr ∷ Heap.the_row ∷ []) in
-    let allocator = Global-met.passed 𝓡.env (code.calls-std_heap::GlobalAllocator::allocate 𝓡.env wired) (code.calls-std_heap::GlobalAllocator::deallocate 𝓡.env wired) (code.calls-std_heap::GlobalAllocator::grow 𝓡.env wired) (code.calls-std_heap::GlobalAllocator::shrink 𝓡.env wired) M 𝓤 𝓛 𝓜 𝓡 in
+    let allocator = Global-met.passed 𝓡.env (code.calls-std_heap::GlobalAllocator::allocate 𝓡.env wired) (code.calls-std_heap::GlobalAllocator::deallocate 𝓡.env wired)
+    (code.calls-std_heap::GlobalAllocator::grow 𝓡.env wired) (code.calls-std_heap::GlobalAllocator::shrink 𝓡.env wired) M 𝓤 𝓛 𝓜 𝓡 in
     let freed = glues #none 𝓡.env (code.calls-flatterm::Destruct++none::drop 𝓡.env wired) Z E.al.laws M 𝓤 𝓛 𝓜 𝓡 in
     let let_go = glues #none 𝓡.env (code.calls-flatterm::Destruct++none::drop 𝓡.env wired) X E.laws M 𝓤 𝓛 𝓜 𝓡 in
     proved_at 𝓛 f.ended stayed c 𝓜 𝓡 (Goes-blank 𝓛 0 (plain (λ _. Bo)) yes (λ κs x f. tt), tt)
@@ -62,7 +66,8 @@ from_box_spec {M} 𝓤 𝓛 𝓜 𝓡 wired =
     enter ! _ _ _ _ _ $ alloc_all ! (λ l. pass_all ! refl (typed, tt) $ sets ! (of_opd ! (get ! refl)) refl typed $
     nothing ! $ move ! (1 ∷ 0 ∷ []) $ fjoin ! $ nothing ! $ asks ! $ move ! (1 ∷ 0 ∷ []) $
     tokens ! $ join ! $ join ! $ use1 𝓛 (raw (k.pre z)) (id⊢ 𝓤 _) $
-    calls_at ! (framed 𝓤 𝓛.H 𝓜 𝓣) k (met 𝓤 𝓛 𝓜 𝓡 (code.calls-std_alloc::boxed::Box::into_raw_with_allocator 𝓡.env wired) X Z E.laws E.al.laws E.al.g E.al.d E.al.drops (none X) allocator freed let_go) z (and_then ! (get ! refl) (no_more !)) (λ u.
+    calls_at ! (framed 𝓤 𝓛.H 𝓜 𝓣) k (met 𝓤 𝓛 𝓜 𝓡 (code.calls-std_alloc::boxed::Box::into_raw_with_allocator 𝓡.env wired) X Z E.laws E.al.laws E.al.g E.al.d E.al.drops
+    (none X) allocator freed let_go) z (and_then ! (get ! refl) (no_more !)) (λ u.
     use1 𝓛 (later (some (λ (r : Ptr × Global). ((‵ (flft [] full_share) ⊛ ‵ (flft [] full_share) ⊛ ‵ ftrue) ⊛ ‵ (Pair.own_val r (u ∷ [])))
     ⊛ some (λ (ls : Lasts En z.0.0 z.0.3). ‵ (lasts En z.0.0 z.0.3 ls) ⊛ (raw (fact 𝓤 (r.1 ≡ v.alloc)) ⊛ ‵ (lone_owns v.alloc r.0 v.value)))))) (id⊢ 𝓤 (k.post z u)) $
     await ! tt $ pick ! (λ r. split ! $ move ! (1 ∷ []) $ pick ! (λ _. split3 ! $ drop ! $ drop ! $ lone_opens ! v.alloc r.0 v.value (λ b' o' e' good.

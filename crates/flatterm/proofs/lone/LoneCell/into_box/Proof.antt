@@ -11,7 +11,10 @@ use denote.Triple.Spec.{triple_of}
 use denote.Triple.Table.{framed}
 use denote.Triple.Walked.{stay_dropped, Goes-dropped}
 use denote.Exit.{yes}
-use Rattle.flatterm.proofs.Steps.{fact, raw, heard, ◌≡◌, List, [], ◌∷◌, refl, sym, ap, subst, proved, after, id⊢, full_share, ftrue, flft, tables, ‵, ◌⊛◌, some, later, at_ret, ◌$◌, ◌∵◌, !, qed, done, move, keep, drop, use1, split, join, fsplit, fjoin, feq_i, pick, await, rewrite, suffices, enter, of_opd, stop, fld, no_more, and_then, is, vptr, Is, first, blocks, exec, returns, alloc_all, pass_all, free_all, look_at, get, sets, env, whole, sub, block_ptr, ptr_val, only, plain, nothing, Stays, walk_of, says, ends_at}
+use Rattle.flatterm.proofs.Steps.{fact, raw, heard, ◌≡◌, List, [], ◌∷◌, refl, sym, ap, subst, proved, after, id⊢, full_share, ftrue, flft, tables, ‵, ◌⊛◌, some, later, at_ret, ◌$◌}
+use Rattle.flatterm.proofs.Steps.{◌∵◌, !, qed, done, move, keep, drop, use1, split, join, fsplit, fjoin, feq_i, pick, await, rewrite, suffices, enter, of_opd, stop, fld, no_more}
+use Rattle.flatterm.proofs.Steps.{and_then, is, vptr, Is, first, blocks, exec, returns, alloc_all, pass_all, free_all, look_at, get, sets, env, whole, sub, block_ptr, ptr_val}
+use Rattle.flatterm.proofs.Steps.{only, plain, nothing, Stays, walk_of, says, ends_at}
 use Rattle.std.specs.contracts.alloc.Global as Heap
 use Rattle.std.proofs.alloc.Global.TheLaws as heap
 use Rattle.std.proofs.BoxSteps.Form as box
@@ -39,7 +42,8 @@ into_box_spec {M} 𝓤 𝓛 𝓜 𝓡 wired =
     let c = f.clauses 𝓛 𝓜.mem 𝓡.returns in let W = walk_of 𝓛 f.ended stayed c in let 𝓣 = tables 𝓤 𝓛.H 𝓜 𝓡 𝓡.env in
     let En = callee.ended X Z E.al.g E.al.d E.al.drops in
     let k = triple_of 𝓛 (callee.signature X Z E.al.g E.al.d E.al.drops) (callee.spec X Z E.al.g E.al.d E.al.drops 𝓛 𝓜.mem 𝓡.returns) in
-    let allocator = Global-met.passed 𝓡.env (code.calls-std_heap::GlobalAllocator::allocate 𝓡.env wired) (code.calls-std_heap::GlobalAllocator::deallocate 𝓡.env wired) (code.calls-std_heap::GlobalAllocator::grow 𝓡.env wired) (code.calls-std_heap::GlobalAllocator::shrink 𝓡.env wired) M 𝓤 𝓛 𝓜 𝓡 in
+    let allocator = Global-met.passed 𝓡.env (code.calls-std_heap::GlobalAllocator::allocate 𝓡.env wired) (code.calls-std_heap::GlobalAllocator::deallocate 𝓡.env wired)
+    (code.calls-std_heap::GlobalAllocator::grow 𝓡.env wired) (code.calls-std_heap::GlobalAllocator::shrink 𝓡.env wired) M 𝓤 𝓛 𝓜 𝓡 in
     let freed = glues #none 𝓡.env (code.calls-flatterm::Destruct++none::drop 𝓡.env wired) Z E.al.laws M 𝓤 𝓛 𝓜 𝓡 in
     proved 𝓛 f.ended stayed c 𝓜 𝓡 (Goes-dropped 𝓛 0 (plain (λ _. Lo)) yes (λ κs x w. refl), tt)
     f.Key.name code.function (code.unfolded 𝓤 𝓛.H 𝓜 𝓡 wired)

@@ -10,7 +10,8 @@ overflow_sub-number c =
     let es = map linear_entry_view c.args.prefix.now in
     let rules = c.rules-rules.result.now in
     let numbers = c.deref-number-items.result.now in
-    let w = walked c.self.inside sys c.args.prefix.now rules c.index.result.now numbers c.self.invariant c.self.view_is c.requires.prefix c.rules-rules.ensures.rules c.rules-rules.ensures.counted c.rules-rules.ensures.sound c.index.ensures c.deref-number-items.ensures.value in
+    let w = walked c.self.inside sys c.args.prefix.now rules c.index.result.now numbers c.self.invariant c.self.view_is c.requires.prefix c.rules-rules.ensures.rules
+    c.rules-rules.ensures.counted c.rules-rules.ensures.sound c.index.ensures c.deref-number-items.ensures.value in
     (next_at sys es rules numbers w c.completed.number-index c.completed-test.true).low
 
 pub bounds-rules-number : goal.bounds-rules-number
@@ -19,7 +20,8 @@ bounds-rules-number c =
     let es = map linear_entry_view c.args.prefix.now in
     let rules = c.rules-rules.result.now in
     let numbers = c.deref-number-items.result.now in
-    let w = walked c.self.inside sys c.args.prefix.now rules c.index.result.now numbers c.self.invariant c.self.view_is c.requires.prefix c.rules-rules.ensures.rules c.rules-rules.ensures.counted c.rules-rules.ensures.sound c.index.ensures c.deref-number-items.ensures.value in
+    let w = walked c.self.inside sys c.args.prefix.now rules c.index.result.now numbers c.self.invariant c.self.view_is c.requires.prefix c.rules-rules.ensures.rules
+    c.rules-rules.ensures.counted c.rules-rules.ensures.sound c.index.ensures c.deref-number-items.ensures.value in
     (next_at sys es rules numbers w c.completed.number-index c.completed-test.true).high
 
 pub does_fall-requires : goal.does_fall-requires
@@ -28,7 +30,8 @@ does_fall-requires c =
     let es = map linear_entry_view c.args.prefix.now in
     let rules = c.rules-rules.result.now in
     let numbers = c.deref-number-items.result.now in
-    let w = walked c.self.inside sys c.args.prefix.now rules c.index.result.now numbers c.self.invariant c.self.view_is c.requires.prefix c.rules-rules.ensures.rules c.rules-rules.ensures.counted c.rules-rules.ensures.sound c.index.ensures c.deref-number-items.ensures.value in
+    let w = walked c.self.inside sys c.args.prefix.now rules c.index.result.now numbers c.self.invariant c.self.view_is c.requires.prefix c.rules-rules.ensures.rules
+    c.rules-rules.ensures.counted c.rules-rules.ensures.sound c.index.ensures c.deref-number-items.ensures.value in
     next_ready sys es rules numbers w c.completed.number-index c.completed-test.true c.index-rules-number.result c.index-rules-number.is c.requires.prefix
 
 pub returns-then-not-branch : goal.returns-then-not-branch
@@ -37,8 +40,10 @@ returns-then-not-branch c =
     let es = map linear_entry_view c.args.prefix.now in
     let rules = c.rules-rules.result.now in
     let numbers = c.deref-number-items.result.now in
-    let w = walked c.self.inside sys c.args.prefix.now rules c.index.result.now numbers c.self.invariant c.self.view_is c.requires.prefix c.rules-rules.ensures.rules c.rules-rules.ensures.counted c.rules-rules.ensures.sound c.index.ensures c.deref-number-items.ensures.value in
-    next_dead sys es rules numbers w c.completed.number-index c.completed-test.true c.index-rules-number.result c.index-rules-number.is (λ f. false≢true (sym c.if-not-branch.true ∙ c.in_ok-does_fall.ensures.1 f))
+    let w = walked c.self.inside sys c.args.prefix.now rules c.index.result.now numbers c.self.invariant c.self.view_is c.requires.prefix c.rules-rules.ensures.rules
+    c.rules-rules.ensures.counted c.rules-rules.ensures.sound c.index.ensures c.deref-number-items.ensures.value in
+    next_dead sys es rules numbers w c.completed.number-index c.completed-test.true c.index-rules-number.result c.index-rules-number.is
+    (λ f. false≢true (sym c.if-not-branch.true ∙ c.in_ok-does_fall.ensures.1 f))
 
 pub completed-preserved : goal.completed-preserved
 completed-preserved c =
@@ -46,8 +51,10 @@ completed-preserved c =
     let es = map linear_entry_view c.args.prefix.now in
     let rules = c.rules-rules.result.now in
     let numbers = c.deref-number-items.result.now in
-    let w = walked c.self.inside sys c.args.prefix.now rules c.index.result.now numbers c.self.invariant c.self.view_is c.requires.prefix c.rules-rules.ensures.rules c.rules-rules.ensures.counted c.rules-rules.ensures.sound c.index.ensures c.deref-number-items.ensures.value in
-    one_more sys es rules numbers w c.completed.number-index c.completed-test.true c.index-rules-number.result c.index-rules-number.is c.completed.invariant (c.in_ok-does_fall.ensures.0 c.if-not-branch.false)
+    let w = walked c.self.inside sys c.args.prefix.now rules c.index.result.now numbers c.self.invariant c.self.view_is c.requires.prefix c.rules-rules.ensures.rules
+    c.rules-rules.ensures.counted c.rules-rules.ensures.sound c.index.ensures c.deref-number-items.ensures.value in
+    one_more sys es rules numbers w c.completed.number-index c.completed-test.true c.index-rules-number.result c.index-rules-number.is c.completed.invariant
+    (c.in_ok-does_fall.ensures.0 c.if-not-branch.false)
 
 pub returns : goal.returns
 returns c =
@@ -55,5 +62,6 @@ returns c =
     let es = map linear_entry_view c.args.prefix.now in
     let rules = c.rules-rules.result.now in
     let numbers = c.deref-number-items.result.now in
-    let w = walked c.self.inside sys c.args.prefix.now rules c.index.result.now numbers c.self.invariant c.self.view_is c.requires.prefix c.rules-rules.ensures.rules c.rules-rules.ensures.counted c.rules-rules.ensures.sound c.index.ensures c.deref-number-items.ensures.value in
+    let w = walked c.self.inside sys c.args.prefix.now rules c.index.result.now numbers c.self.invariant c.self.view_is c.requires.prefix c.rules-rules.ensures.rules
+    c.rules-rules.ensures.counted c.rules-rules.ensures.sound c.index.ensures c.deref-number-items.ensures.value in
     all_walked sys es rules numbers w c.completed.number-index c.completed-test.false c.completed.invariant c.requires.alive

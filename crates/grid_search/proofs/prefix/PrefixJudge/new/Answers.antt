@@ -12,7 +12,8 @@ numbers_by_need-requires-clause-needs c =
     let u = c.in_ok-unraveled.unraveled in
     let symbols = map head_view u.heads.items in
     let count : length symbols + 1 ≡ c.len.result + 1 = (let many = length-map u.heads.items head_view in let held = u.heads.ok.0 in let len = c.len.ensures in omega (arith, many, held, len)) in
-    subst (λ n. DoNeedBelow n (map rule_view c.rules-rules.result.now)) count (unraveled_need c.args.sys.now u.system symbols (map rule_view c.rules-rules.result.now) made.system made.heads c.rules-rules.ensures.sound c.rules-rules.ensures.rules)
+    subst (λ n. DoNeedBelow n (map rule_view c.rules-rules.result.now)) count
+    (unraveled_need c.args.sys.now u.system symbols (map rule_view c.rules-rules.result.now) made.system made.heads c.rules-rules.ensures.sound c.rules-rules.ensures.rules)
 
 pub invariant_of-result : goal.invariant_of-result
 invariant_of-result c =
@@ -22,6 +23,7 @@ invariant_of-result c =
     record {
       sound = c.rules-own_rules.ensures.sound;
       made = made;
-      as_many = (let many = length-map u.heads.items head_view in let held = u.heads.ok.0 in let len = c.len.ensures in let count = c.in_ok-completed.ensures.count in omega (arith, symbols, many, held, len, count));
+      as_many = (let many = length-map u.heads.items head_view in let held = u.heads.ok.0 in let len = c.len.ensures in let count = c.in_ok-completed.ensures.count in
+          omega (arith, symbols, many, held, len, count));
       completed = λ k. c.in_ok-completed.ensures.listed k ∙ ap (numbers_needing k 1) (c.rules-rules.ensures.rules ∙ ap (λ z. z.rules) made.system);
     }

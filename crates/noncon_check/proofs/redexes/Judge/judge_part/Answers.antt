@@ -32,7 +32,8 @@ returns-in_err-next c =
     (c.loop-number.invariant (Err c.in_err-next.field-0.0) (rule_fails _ _ sys _ (part c.args.path.now u) _ _ _ c.loop-number-test.true refl _ _ c.in_err-next.ensures))
 
 pub loop-number-preserved : goal.loop-number-preserved
-loop-number-preserved c a h = c.loop-number.invariant a (next_rule _ _ c.args.self.now.sys.now _ (part c.args.path.now (view c.args.part.now)) _ _ _ c.loop-number-test.true refl _ _ a c.in_ok-next.ensures h)
+loop-number-preserved c a h = c.loop-number.invariant a (next_rule _ _ c.args.self.now.sys.now _ (part c.args.path.now (view c.args.part.now)) _ _ _ c.loop-number-test.true
+    refl _ _ a c.in_ok-next.ensures h)
 
 pub returns : goal.returns
 returns c = c.loop-number.invariant (Ok c.loop-number.next) (rules_end _ _ c.args.self.now.sys.now _ (part c.args.path.now (view c.args.part.now)) _ _ _ c.loop-number-test.false)

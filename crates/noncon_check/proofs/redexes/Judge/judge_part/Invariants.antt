@@ -10,5 +10,6 @@ use Rattle.noncon_check.proofs.redexes.Judge.judge_part.Given as goal
 
 abbrev pub invariant-loop-number : goal.invariant-loop-number
 invariant-loop-number l = (a : Result ℕ CheckError)
-    → PlacesAnswer (IsJudgedOn l.self.sys.now l.self.own (view l.part)) (map redex_view l.self.entries.now) l.next (places l.self.sys.now l.self.which (part l.path (view l.part)) (drop l.number-index l.numbers)) a
+    → PlacesAnswer (IsJudgedOn l.self.sys.now l.self.own (view l.part)) (map redex_view l.self.entries.now) l.next
+    (places l.self.sys.now l.self.which (part l.path (view l.part)) (drop l.number-index l.numbers)) a
     → PlacesAnswer (IsJudgedOn l.self.sys.now l.self.own (view l.part)) (map redex_view l.self.entries.now) l.at (part_redexes l.self.sys.now l.self.which (part l.path (view l.part))) a

@@ -17,7 +17,8 @@ returns-in_err-next c =
     let es = map redex_view c.args.self.now.entries.now in
     subst (λ a. PlacesAnswer (IsJudgedAt sys c.args.self.now.own t) es c.args.at (redexes sys c.args.self.now.which t) a) (sym (handed_on _ _ c.from_residual-in_err-next.ensures.1))
     (c.parts.invariant.rest (Err c.in_err-next.field-0.0)
-    (part_fails sys c.args.self.now.which c.args.self.now.own es t c.parts.walk.rest c.next.new.self.rest (part c.position.result.now (view c.in-Some.part.now)) (here _ _ _ _ _ _ c.in_ok-part.ensures c.in-Some.is c.position.ensures) c.parts.invariant.ahead c.parts.next c.in_err-next.field-0.0 c.in_err-next.ensures))
+    (part_fails sys c.args.self.now.which c.args.self.now.own es t c.parts.walk.rest c.next.new.self.rest (part c.position.result.now (view c.in-Some.part.now))
+    (here _ _ _ _ _ _ c.in_ok-part.ensures c.in-Some.is c.position.ensures) c.parts.invariant.ahead c.parts.next c.in_err-next.field-0.0 c.in_err-next.ensures))
 
 pub parts-preserved : goal.parts-preserved
 parts-preserved c =
@@ -27,5 +28,6 @@ parts-preserved c =
     let q = part c.position.result.now (view c.in-Some.part.now) in
     record {
       ahead = ahead_rest t c.parts.walk.rest c.next.new.self.rest q (here _ _ _ _ _ _ c.in_ok-part.ensures c.in-Some.is c.position.ensures) c.parts.invariant.ahead;
-      rest = λ a h. c.parts.invariant.rest a (next_part sys c.args.self.now.which c.args.self.now.own es t c.parts.walk.rest c.next.new.self.rest q (here _ _ _ _ _ _ c.in_ok-part.ensures c.in-Some.is c.position.ensures) c.parts.invariant.ahead c.parts.next c.in_ok-next.next a c.in_ok-next.ensures h);
+      rest = λ a h. c.parts.invariant.rest a (next_part sys c.args.self.now.which c.args.self.now.own es t c.parts.walk.rest c.next.new.self.rest q
+          (here _ _ _ _ _ _ c.in_ok-part.ensures c.in-Some.is c.position.ensures) c.parts.invariant.ahead c.parts.next c.in_ok-next.next a c.in_ok-next.ensures h);
     }

@@ -12,8 +12,13 @@ judge_entry-requires-clause-sound c = sound_is c.args.self.now.sys.now _ c.requi
 
 pub returns-in-Unmatched : goal.returns-in-Unmatched
 returns-in-Unmatched c =
-    unmatched_pass c.args.self.now.sys.now (view c.args.part.now) c.args.number _ (rule_is c.args.self.now.sys.now _ c.requires.ready.rules _ c.requires.number c.index-self-number.result) (IsJudgedOn c.args.self.now.sys.now c.args.self.now.own (view c.args.part.now)) c.args.path.now (map redex_view c.args.self.now.entries.now) c.args.self.now.which c.args.at (rw c.in-Unmatched.is at c.in_ok-match_term.ensures)
+    unmatched_pass c.args.self.now.sys.now (view c.args.part.now) c.args.number _
+    (rule_is c.args.self.now.sys.now _ c.requires.ready.rules _ c.requires.number c.index-self-number.result)
+    (IsJudgedOn c.args.self.now.sys.now c.args.self.now.own (view c.args.part.now)) c.args.path.now (map redex_view c.args.self.now.entries.now) c.args.self.now.which c.args.at
+    (rw c.in-Unmatched.is at c.in_ok-match_term.ensures)
 
 pub returns-in-Bound : goal.returns-in-Bound
 returns-in-Bound c =
-    matched_answers c.args.self.now.sys.now (view c.args.part.now) c.args.number _ (rule_is c.args.self.now.sys.now _ c.requires.ready.rules _ c.requires.number c.index-self-number.result) _ _ _ _ _ _ _ (rw c.in-Bound.is at c.in_ok-match_term.ensures) c.judge_entry.ensures
+    matched_answers c.args.self.now.sys.now (view c.args.part.now) c.args.number _
+    (rule_is c.args.self.now.sys.now _ c.requires.ready.rules _ c.requires.number c.index-self-number.result) _ _ _ _ _ _ _
+    (rw c.in-Bound.is at c.in_ok-match_term.ensures) c.judge_entry.ensures

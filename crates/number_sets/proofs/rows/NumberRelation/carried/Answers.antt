@@ -12,7 +12,8 @@ pub loop-left-preserved : goal.loop-left-preserved
 loop-left-preserved c =
     elim c.match-row.branch [
       | in-Some+in-Some-row+in_ok-numbers+in_ok-insert_each w ↦
-          carried_more c.args.self.now c.args.by.now c.loop-left.made c.match-row.made c.loop-left.left c.loop-left.invariant w.deref.result.now (members w.in-Some.row.now) w.insert_each.new.self w.made-is
+          carried_more c.args.self.now c.args.by.now c.loop-left.made c.match-row.made c.loop-left.left c.loop-left.invariant w.deref.result.now (members w.in-Some.row.now)
+          w.insert_each.new.self w.made-is
           (w.deref.ensures.value ∙ w.in_ok-numbers.ensures ∙ w.in-Some-row.ensures) w.in-Some.ensures w.in_ok-insert_each.ensures
       | in-Some+in_default-row w ↦
           carried_skip c.args.self.now c.args.by.now c.loop-left.made c.match-row.made c.loop-left.left c.loop-left.invariant w.made-is

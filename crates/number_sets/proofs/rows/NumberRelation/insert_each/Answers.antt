@@ -14,5 +14,6 @@ loop-left-preserved c =
 
 pub returns : goal.returns
 returns c = λ p q.
-    subst (λ (l : List ℕ). Relates c.loop-left.self p q ↔ (Relates c.args.self.now p q ⊎ (IsAmong p l × IsAmong q (members c.args.set.now)))) (take_all c.loop-left.left-index c.args.lefts.now (omega arith))
+    subst (λ (l : List ℕ). Relates c.loop-left.self p q ↔ (Relates c.args.self.now p q ⊎ (IsAmong p l × IsAmong q (members c.args.set.now))))
+    (take_all c.loop-left.left-index c.args.lefts.now (omega arith))
     (c.loop-left.invariant p q)

@@ -22,7 +22,8 @@ loop-place-preserved c =
     record {
       long = omega (arith, length-set {A = ℕ}, c.loop-place.invariant.long);
       joined =
-          joined_next c.args.self.now.words.items (both_words c.args.first.now.words.items c.args.second.now.words.items) c.loop-place.self.words.items place c.index_mut.result.now (bit_and c.index.result.now c.index-in-loop-place.result.now)
+          joined_next c.args.self.now.words.items (both_words c.args.first.now.words.items c.args.second.now.words.items) c.loop-place.self.words.items place c.index_mut.result.now
+          (bit_and c.index.result.now c.index-in-loop-place.result.now)
           (c.index_mut.ensures.value ∙ get_or_default_zero c.loop-place.self.words.items place c.index_mut.result.now inside)
           (ap₂ bit_and first second ∙ sym (both_at c.args.first.now.words.items c.args.second.now.words.items place one two)) inside c.loop-place.invariant.joined;
     }

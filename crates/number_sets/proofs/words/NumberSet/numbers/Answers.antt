@@ -13,5 +13,6 @@ loop-place-preserved c =
       | else-index-ne0 w ↦
           let inside : c.loop-place.place < length c.args.self.now.words.items = omega arith in
           let read = get_or_default_zero c.args.self.now.words.items c.loop-place.place c.index.result.now inside in
-          ap (λ (v : Vec ℕ Global). v.items) w.numbers-is ∙ c.loop-place.invariant ∙ sym (word_skipped c.args.self.now.words.items c.loop-place.place (sym read ∙ sym c.index.ensures ∙ w.if-index-ne0.false))
+          ap (λ (v : Vec ℕ Global). v.items) w.numbers-is ∙ c.loop-place.invariant
+          ∙ sym (word_skipped c.args.self.now.words.items c.loop-place.place (sym read ∙ sym c.index.ensures ∙ w.if-index-ne0.false))
     ]

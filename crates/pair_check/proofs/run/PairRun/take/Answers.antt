@@ -34,7 +34,10 @@ invariant_of-self-in_err-self-inside-in-None c =
     let e = pair_entry_view c.args.entry.now in
     let settles = subst (λ z. EntryAnswers (kind_view c.self.inside.kind) c.self.inside.sys.now c.self.inside.taken c.self.inside.next e (Ok z)) c.in-None.is c.in_ok-judged.ensures.answer in
     let same = c.in_ok-judged.ensures.settled c.in-None.is in
-    record { stands = λ _. keeps_on c.self.inside c.self.invariant none e settles c.next_overlap.new.search c.next_overlap.ensures.system c.in_err-self-inside-in-None.ensures.answer c.judge_entry.new.next same }
+    record {
+      stands = λ _. keeps_on c.self.inside c.self.invariant none e settles c.next_overlap.new.search c.next_overlap.ensures.system
+          c.in_err-self-inside-in-None.ensures.answer c.judge_entry.new.next same;
+    }
 
 pub overflow_add-self : goal.overflow_add-self
 overflow_add-self c =
@@ -46,7 +49,10 @@ invariant_of-self-in-None c =
     let none = not_failed c.self.inside.failed (sym c.if-is_some.ensures) in
     let e = pair_entry_view c.args.entry.now in
     let settles = subst (λ z. EntryAnswers (kind_view c.self.inside.kind) c.self.inside.sys.now c.self.inside.taken c.self.inside.next e (Ok z)) c.in-None.is c.in_ok-judged.ensures.answer in
-    record { stands = λ _. goes_on_to c.self.inside c.self.invariant none e settles c.next_overlap.new.search c.next_overlap.ensures.system c.in_ok-self-inside-in-None.field-0 c.in_ok-self-inside-in-None.ensures.answer }
+    record {
+      stands = λ _. goes_on_to c.self.inside c.self.invariant none e settles c.next_overlap.new.search c.next_overlap.ensures.system c.in_ok-self-inside-in-None.field-0
+          c.in_ok-self-inside-in-None.ensures.answer;
+    }
 
 pub returns-in_ok-self-inside-in-None-clause-taken : goal.returns-in_ok-self-inside-in-None-clause-taken
 returns-in_ok-self-inside-in-None-clause-taken c =

@@ -25,12 +25,14 @@ pub returns-clause-answer : goal.returns-clause-answer
 returns-clause-answer c = λ kind.
     let cond = condition_view c.args.cond.now in
     let a = c.in_ok-automaton.automaton in
-    let gives = gives_there c.args.sys.now c.system.result.now c.deref.result.now c.args.overlap.now.conds.items c.args.number cond a c.system.ensures c.deref.ensures.value c.requires.there c.in_ok-automaton.ensures in
+    let gives = gives_there c.args.sys.now c.system.result.now c.deref.result.now c.args.overlap.now.conds.items c.args.number cond a c.system.ensures c.deref.ensures.value
+    c.requires.there c.in_ok-automaton.ensures in
     item_answers kind c.args.sys.now (overlap_view c.args.overlap.now) c.args.number cond c.requires.there a gives (Ok c.in_ok-answer.answer) c.in_ok-answer.ensures
 
 pub returns-clause-knows : goal.returns-clause-knows
 returns-clause-knows c =
     let cond = condition_view c.args.cond.now in
     let a = c.in_ok-automaton.automaton in
-    let gives = gives_there c.args.sys.now c.system.result.now c.deref.result.now c.args.overlap.now.conds.items c.args.number cond a c.system.ensures c.deref.ensures.value c.requires.there c.in_ok-automaton.ensures in
+    let gives = gives_there c.args.sys.now c.system.result.now c.deref.result.now c.args.overlap.now.conds.items c.args.number cond a c.system.ensures c.deref.ensures.value
+    c.requires.there c.in_ok-automaton.ensures in
     subst (λ d. GrowthGives c.args.sys.now d (option_map automaton_view a)) (sym c.in_ok-copied_condition.ensures) gives

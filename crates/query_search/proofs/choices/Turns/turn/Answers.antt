@@ -18,7 +18,8 @@ places-preserved c =
       within = omega (arith, within);
       last = known.last;
       turned =
-          turned_back old.last old.numbers.items c.places.self.numbers.items c.places.place (c.places.place - 1) c.index_mut-number.result.now (let some = c.places-test.true in omega (arith, some)) within known.turned
+          turned_back old.last old.numbers.items c.places.self.numbers.items c.places.place (c.places.place - 1) c.index_mut-number.result.now
+          (let some = c.places-test.true in omega (arith, some)) within known.turned
           c.index_mut-number.ensures.value (let most = c.if-number-self.false in let same = known.last in omega (arith, most, same));
     }
 
@@ -26,7 +27,8 @@ pub returns-then-number-self-clause-next : goal.returns-then-number-self-clause-
 returns-then-number-self-clause-next c ts xs many as_many =
     let old = c.args.self.now in
     let known = c.places.invariant in
-    turned_up old.last old.numbers.items c.places.self.numbers.items c.places.place (c.places.place - 1) c.index_mut-number.result.now (let some = c.places-test.true in omega (arith, some)) known.within known.turned
+    turned_up old.last old.numbers.items c.places.self.numbers.items c.places.place (c.places.place - 1) c.index_mut-number.result.now
+    (let some = c.places-test.true in omega (arith, some)) known.within known.turned
     c.index_mut-number.ensures.value ts xs many as_many (let less = c.if-number-self.true in let same = known.last in omega (arith, less, same))
 
 pub returns-then-number-self-clause-count : goal.returns-then-number-self-clause-count
@@ -34,4 +36,5 @@ returns-then-number-self-clause-count c = length-set c.places.self.numbers.items
 
 pub returns-clause-next : goal.returns-clause-next
 returns-clause-next c ts xs many as_many =
-    all_turned c.args.self.now.last c.args.self.now.numbers.items c.places.self.numbers.items c.places.place (let none = c.places-test.false in omega (arith, none)) c.places.invariant.turned ts xs many as_many
+    all_turned c.args.self.now.last c.args.self.now.numbers.items c.places.self.numbers.items c.places.place (let none = c.places-test.false in omega (arith, none))
+    c.places.invariant.turned ts xs many as_many

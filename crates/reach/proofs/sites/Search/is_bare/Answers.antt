@@ -27,7 +27,8 @@ numbers-preserved c = λ later.
     let sys = c.args.self.now.sys.now in
     let ns = c.rules_at-numbers.result.now in
     let some = number_some sys (view c.args.part.now) _ _ c.rules_at-numbers.ensures c.numbers-test.true in
-    let bare = subst IsWithoutConditions (sym (rule_is sys c.args.self.now.rules.now c.requires.ready.rules_are _ some c.index-self-number.result)) (no_conditions (get_or c.args.self.now.rules.now (get_or ns c.numbers.number-index 0 - 1) c.index-self-number.result) (sym c.if-not-is_empty.ensures)) in
+    let bare = subst IsWithoutConditions (sym (rule_is sys c.args.self.now.rules.now c.requires.ready.rules_are _ some c.index-self-number.result))
+    (no_conditions (get_or c.args.self.now.rules.now (get_or ns c.numbers.number-index 0 - 1) c.index-self-number.result) (sym c.if-not-is_empty.ensures)) in
     c.numbers.invariant (subst (EachOf (λ i. IsWithoutConditions (rule_at sys i))) (sym (drop_number ns c.numbers.number-index _ c.numbers-test.true refl)) (bare, later))
 
 pub returns : goal.returns

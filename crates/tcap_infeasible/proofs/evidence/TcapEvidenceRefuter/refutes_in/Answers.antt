@@ -18,18 +18,23 @@ returns-in-Clash c =
     let cs = map condition_view c.args.conds.now in
     let l = subst (λ z. LeftsAnswer c.args.sys.now cs (Ok z)) c.in-Some.is c.in_ok-lefts.ensures in
     let a = subst (λ z. UnifyAnswers (views c.deref.result.now) (views c.deref-2.result.now) (Ok z)) c.in-Clash.is c.in_ok-unify.ensures in
-    judged_run c.args.sys.now cs l.0 (views c.deref.result.now) (views c.deref-2.result.now) clash l.1 (ap views c.deref.ensures.value ∙ l.2) (subst (λ z. HaveRow (right_sides cs) (views z)) (sym c.deref-2.ensures.value) c.in_ok-rights.ensures) a.0
+    judged_run c.args.sys.now cs l.0 (views c.deref.result.now) (views c.deref-2.result.now) clash l.1 (ap views c.deref.ensures.value ∙ l.2)
+    (subst (λ z. HaveRow (right_sides cs) (views z)) (sym c.deref-2.ensures.value) c.in_ok-rights.ensures) a.0
 
 pub returns-in-Mgu : goal.returns-in-Mgu
 returns-in-Mgu c =
     let cs = map condition_view c.args.conds.now in
     let l = subst (λ z. LeftsAnswer c.args.sys.now cs (Ok z)) c.in-Some.is c.in_ok-lefts.ensures in
-    let a = subst (λ z. UnifyAnswers (views c.deref.result.now) (views c.deref-2.result.now) (Ok z)) c.in-Mgu.is c.in_ok-unify.ensures in
-    (_, judged_run c.args.sys.now cs l.0 (views c.deref.result.now) (views c.deref-2.result.now) (unifier a.0.0) l.1 (ap views c.deref.ensures.value ∙ l.2) (subst (λ z. HaveRow (right_sides cs) (views z)) (sym c.deref-2.ensures.value) c.in_ok-rights.ensures) a.0.1)
+    let a = subst (λ z. UnifyAnswers (views c.deref.result.now) (views c.deref-2.result.now) (Ok z)) c.in-Mgu.is c.in_ok-unify.ensures in (
+      _,
+      judged_run c.args.sys.now cs l.0 (views c.deref.result.now) (views c.deref-2.result.now) (unifier a.0.0) l.1 (ap views c.deref.ensures.value ∙ l.2)
+          (subst (λ z. HaveRow (right_sides cs) (views z)) (sym c.deref-2.ensures.value) c.in_ok-rights.ensures) a.0.1,
+    )
 
 pub returns : goal.returns
 returns c =
     let cs = map condition_view c.args.conds.now in
     let l = subst (λ z. LeftsAnswer c.args.sys.now cs (Ok z)) c.in-Some.is c.in_ok-lefts.ensures in
     let a = subst (λ z. UnifyAnswers (views c.deref.result.now) (views c.deref-2.result.now) (Ok z)) c.in-TooLarge.is c.in_ok-unify.ensures in
-    inr (judged_run c.args.sys.now cs l.0 (views c.deref.result.now) (views c.deref-2.result.now) too_large l.1 (ap views c.deref.ensures.value ∙ l.2) (subst (λ z. HaveRow (right_sides cs) (views z)) (sym c.deref-2.ensures.value) c.in_ok-rights.ensures) a)
+    inr (judged_run c.args.sys.now cs l.0 (views c.deref.result.now) (views c.deref-2.result.now) too_large l.1 (ap views c.deref.ensures.value ∙ l.2)
+    (subst (λ z. HaveRow (right_sides cs) (views z)) (sym c.deref-2.ensures.value) c.in_ok-rights.ensures) a)

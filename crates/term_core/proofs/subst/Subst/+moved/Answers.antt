@@ -19,7 +19,8 @@ loop-arg-preserved t c =
     let moving = rw (views-drop items i c.arg-item.result c.loop-arg-test.true c.arg-item.is) at c.loop-arg.invariant.moving in
     let same = part_instance repeated whole part rest b c.loop-arg.self c.requires moving in
     record {
-      made = made_on (λ u. apply (values_of b) (view u)) items c.loop-arg.out.items c.push.new.self.items i c.arg-item.result c.in_ok-moved-in-Fun.field-0 c.loop-arg-test.true c.arg-item.is c.loop-arg.invariant.made c.in_ok-push-in-Fun.ensures.items (c.in_ok-moved-in-Fun.ensures.instance ∙ same);
+      made = made_on (λ u. apply (values_of b) (view u)) items c.loop-arg.out.items c.push.new.self.items i c.arg-item.result c.in_ok-moved-in-Fun.field-0 c.loop-arg-test.true
+          c.arg-item.is c.loop-arg.invariant.made c.in_ok-push-in-Fun.ensures.items (c.in_ok-moved-in-Fun.ensures.instance ∙ same);
       moving = moved_on repeated whole part rest b c.loop-arg.self c.requires moving c.moved.new.self c.in_ok-moved-in-Fun.ensures.kept;
     }
 

@@ -13,7 +13,8 @@ returns-clause-marks c =
     let a = automaton_view c.args.self.now in
     let t = view c.args.t.now in
     subst (λ (i : Indexed). (q : ℕ) → q < a.states → IsMarked c.mark_all.new.out q ↔ RunsFrom0 i.symbols a t q) c.in_ok-index.ensures
-    (marks_are a c.in_ok-index.index t c.in_ok-reached.reached c.mark_all.new.out (ap (λ (i : Indexed). i.automaton) c.in_ok-index.ensures) c.in_ok-reached.ensures c.mark_all.ensures.marked (c.mark_all.ensures.len ∙ c.requires.long))
+    (marks_are a c.in_ok-index.index t c.in_ok-reached.reached c.mark_all.new.out (ap (λ (i : Indexed). i.automaton) c.in_ok-index.ensures) c.in_ok-reached.ensures
+    c.mark_all.ensures.marked (c.mark_all.ensures.len ∙ c.requires.long))
 
 pub returns-clause-hit : goal.returns-clause-hit
 returns-clause-hit c =
