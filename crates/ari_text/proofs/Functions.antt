@@ -1,5 +1,5 @@
 -- Names that are looked up one by one.
-use Rattle.std.proofs.Common.{◌≡◌, ℕ, false, is_some, zero, suc, ◌+◌, ◌<◌, ◌≤◌, List, [], ◌∷◌, map, length, drop, get_or, slice_get, Option, None, Some, refl, sym, ap, subst, arith, add-one}
+use Rattle.std.proofs.Common.{◌≡◌, ℕ, false, is_some, zero, suc, ◌+◌, ◌<◌, List, [], ◌∷◌, length, drop, get_or, slice_get, Option, None, Some, refl, sym, ap, subst, arith, add-one}
 use Rattle.std.specs.Prelude.{option_map}
 use Rattle.cops_syntax.specs.declared.tree.Name.{Name}
 use Rattle.cops_syntax.specs.View.{name_view, names_view}

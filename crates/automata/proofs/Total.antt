@@ -4,7 +4,7 @@ use Rattle.std.proofs.Common.{ℕ, ◌≡◌, ◌<◌, ◌^◌, ◌⊎◌, inl, 
 use Rattle.std.proofs.lemmas.Option.{slice_get_within}
 use Rattle.std.proofs.lemmas.List.Elements.{All-nil, All-cons, All-head, All-tail}
 use native.Mathlib.Decide.{ℕ_discrete, dec_lt, map_dec}
-use Rattle.general_lemmas.proofs.Decisions.{dec_and, same_numbers}
+use Rattle.general_lemmas.proofs.Decisions.{dec_and, same_numbers, no_or_yes}
 use Rattle.rewriting.specs.Prelude.{Term, var, app, Terms, nil, cons, Rule, Condition, System, rule_at, variable_occurrences}
 use Rattle.rewriting.proofs.Search.{FirstBelow, search_below, FirstRule, search_rules, decided}
 use Rattle.certificates.specs.Prelude.{Transition, Automaton, hypothesis_at, EvidenceReason, auto_number, auto_any, auto_misses, auto_wide, auto_not_closed, auto_wide_right, auto_reaches}
@@ -139,12 +139,8 @@ module _ (sys : System) (a : Automaton) where
 
   -- widths
   widths : AreNarrow sys a ⊎ ((i : ℕ) × IsFirstWide sys a i)
-  widths = go (search_rules (λ i r. IsWide a r.left → ⊥) (λ i r. IsWide a r.left) sys (λ i r e. narrow_or (dec_lt 1000000 (a.states ^ length (variable_occurrences r.left)))))
+  widths = go (search_rules (λ i r. IsWide a r.left → ⊥) (λ i r. IsWide a r.left) sys (λ i r e. no_or_yes (dec_lt 1000000 (a.states ^ length (variable_occurrences r.left)))))
     where
-      narrow_or : {A : Type 0} → Dec A → (A → ⊥) ⊎ A
-      narrow_or (yes w) = inr w
-      narrow_or (no k) = inl k
-
       go : ((i : ℕ) (r : Rule) → rule_at sys i ≡ Some r → IsWide a r.left → ⊥) ⊎ FirstRule (λ i r. IsWide a r.left → ⊥) (λ i r. IsWide a r.left) sys → AreNarrow sys a ⊎ ((i : ℕ) × IsFirstWide sys a i)
       go (inl all) = inl all
       go (inr f) = inr (f.number, record { rule = f.found; is_rule = f.is_rule; wide = f.has; earlier = λ j r less e. f.before j r less e })

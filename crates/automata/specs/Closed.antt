@@ -2,6 +2,7 @@
 -- sets of descendants and sets of normal forms, 1998, and Felgenhauer and Thiemann, Reachability, confluence, and termination
 -- analysis with state-compatible automata, 2017). The conditions of rules play no part.
 use Rattle.std.specs.Prelude.{ℕ, ◌≡◌, ◌<◌, ◌⊎◌, ◌^◌, nat_eq, if◌then◌else◌, List, [], ◌∷◌, Option, None, Some, All, length, replicate, slice_get}
+use Rattle.automata.specs.declared.TheConstants.{MOST_CHOICES}
 use Rattle.rewriting.specs.Prelude.{Term, var, app, IsBefore, Rule, System, rule_at, variable_occurrences}
 use Rattle.certificates.specs.Evidence.{Automaton}
 use Rattle.automata.specs.Runs.{Moves, Symbols, Has, Reach, at, ReachBy, IsAccepting}
@@ -55,7 +56,7 @@ pub record IsFirstOpen (sys : System) (a : Automaton) (i : ℕ) (cs : List ℕ) 
 
 -- there are more than 1,000,000 choices for the term's variable occurrences
 abbrev pub IsWide : Automaton → Term → Type 0
-IsWide a t = 1000000 < a.states ^ length (variable_occurrences t)
+IsWide a t = MOST_CHOICES < a.states ^ length (variable_occurrences t)
 
 -- no left side is wide, and rule i is the first whose left side is
 abbrev pub AreNarrow : System → Automaton → Type 0

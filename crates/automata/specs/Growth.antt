@@ -1,6 +1,7 @@
 -- The least automaton that accepts a term and is closed under the rules of a system: states stand for the subterms of the
 -- term and of the right sides (after Genet 1998).
 use Rattle.std.specs.Prelude.{ℕ, zero, suc, ◌≡◌, ◌⊎◌, ◌+◌, ◌<◌, ◌^◌, List, [], ◌∷◌, ◌++◌, Option, None, Some, All, Contains, length, replicate, slice_get}
+use Rattle.automata.specs.declared.TheConstants.{MOST_GROWN_STATES, MOST_GROWTH_CHOICES, MOST_GROWN_TRANSITIONS}
 use Rattle.rewriting.specs.Prelude.{IsSorted, Term, var, app, Terms, nil, cons, IsBefore, Rule, System, rule_at, variable_occurrences}
 use Rattle.certificates.specs.Evidence.{Transition, Automaton}
 use Rattle.automata.specs.Runs.{Moves, IsHead, ReachBy}
@@ -111,13 +112,13 @@ pub record IsGrowthOf (sys : System) (s : Term) (a : Automaton) : Type 0 where
   pub accepting : a.accepting ≡ top (λ x. 0) 1 s ∷ []
   pub transitions : AreLeast sys s a.transitions
 
--- there are more than 64 states
+-- there are too many states
 abbrev pub AreStatesMany : System → Term → Type 0
-AreStatesMany sys s = 64 < state_count sys s
+AreStatesMany sys s = MOST_GROWN_STATES < state_count sys s
 
 -- there are more than 100,000 choices for the rule's left side
 abbrev pub IsTooWide : System → Term → Rule → Type 0
-IsTooWide sys s r = 100000 < state_count sys s ^ length (variable_occurrences r.left)
+IsTooWide sys s r = MOST_GROWTH_CHOICES < state_count sys s ^ length (variable_occurrences r.left)
 
 -- rule i is the first such rule
 pub record IsFirstTooWide (sys : System) (s : Term) (i : ℕ) : Type 0 where
@@ -129,6 +130,6 @@ pub record IsFirstTooWide (sys : System) (s : Term) (i : ℕ) : Type 0 where
 -- the least set has more than 5,000 transitions: so many different ones are asked for
 pub record AreTransitionsMany (sys : System) (s : Term) : Type 0 where
   pub some : List Transition
-  pub many : 5000 < length some
+  pub many : MOST_GROWN_TRANSITIONS < length some
   pub asked : (d : Transition) → Contains some d → IsAsked sys s d
   pub different : IsSorted IsTransitionBefore some

@@ -6,14 +6,10 @@ ghost use Rattle.automaton_grow.specs.Limits.{all_proper, CountAnswers, StatesAn
 
 use crate::GrowError;
 use crate::sides::{inner, proper};
+use automata::{MOST_GROWN_STATES as MOST_STATES, MOST_GROWTH_CHOICES as MOST_CHOICES};
 use automaton_runs::{has_more_choices, occurrences};
 use std::alloc::Global;
 use term_core::{NoMemory, Rule, System, Term};
-
-// The greatest number of states, and of choices for a left side.
-const MOST_STATES: u32 = 64;
-
-const MOST_CHOICES: u32 = 100_000;
 
 // The count with the states of these right sides, where there are not too many.
 fn count_from(rules: &[Rule], first: u32) -> Option<u32>

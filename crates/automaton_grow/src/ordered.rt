@@ -8,13 +8,11 @@ ghost use Rattle.automaton_grow.specs.Placing.{HeadAnswers, CompareAnswers, Plac
 ghost use Rattle.automata.specs.Growth.{IsTransitionBefore};
 
 use crate::GrowError;
+use automata::MOST_GROWN_TRANSITIONS as MOST_TRANSITIONS;
 use cert_model::Transition;
 use std::alloc::Global;
 use std::cmp::Ordering;
 use term_core::NoMemory;
-
-// The greatest number of transitions.
-const MOST_TRANSITIONS: usize = 5_000;
 
 fn compare_symbols(a: Option<u32>, b: Option<u32>) -> Ordering
     ensures { HeadAnswers a b result }

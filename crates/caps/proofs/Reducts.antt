@@ -1,8 +1,9 @@
 -- The laws of caps from what steps keep.
-use Rattle.std.proofs.Common.{ℕ, ◌≡◌, refl, sym, ap, ap₂, ◌∙◌, subst, List, [], ◌∷◌}
-use Rattle.rewriting.specs.Prelude.{Term, var, app, Terms, nil, cons, Substitution, apply, apply_all, values_of, Matches, even, odd, Condition, System, left_sides, right_sides, Reaches}
+use Rattle.std.proofs.Common.{ℕ, ◌≡◌, refl, sym, ap₂, ◌∙◌, subst, List, [], ◌∷◌}
+use Rattle.rewriting.specs.Prelude.{Term, var, Terms, nil, cons, Substitution, apply, apply_all, values_of, Matches, even, odd, Condition, System, left_sides, right_sides, Reaches}
 use Rattle.rewriting.specs.Prelude.{Meets, Steps, IsInfeasible}
 use Rattle.rewriting.proofs.Closures.{Star-mono}
+use Rattle.rewriting.proofs.Instances.{apply-var}
 use Rattle.rewriting.proofs.Unifiers.{both, apply-even, apply-odd}
 use Rattle.unifier_run.specs.Run.{clash}
 use Rattle.unifier_run.proofs.General.{no_unifier}
@@ -10,15 +11,6 @@ use Rattle.caps.specs.Caps.{Cap, Caps, any, filled, all_filled, IsCapOf, AreCaps
 use Rattle.caps.specs.Evidence.{IsCapOutcome}
 use Rattle.caps.proofs.Instances.{IsInstance, AreInstances, filling, fillings, apply-filled, apply_all-filled}
 use Rattle.caps.proofs.Steps.{cap_safe, cap_instance, cap_keeps, caps_keep, reaches_keeps}
-
-mutual
-  pub apply-var : (t : Term) → apply var t ≡ t
-  apply-var (var x) = refl
-  apply-var (app f ts) = ap (app f) (apply_all-var ts)
-
-  apply_all-var : (ts : Terms) → apply_all var ts ≡ ts
-  apply_all-var nil = refl
-  apply_all-var (cons t ts) = ap₂ cons (apply-var t) (apply_all-var ts)
 
 apply_all-even : (s r : Substitution) (ts : Terms) → apply_all (both s r) (apply_all even ts) ≡ apply_all s ts
 apply_all-even s r nil = refl

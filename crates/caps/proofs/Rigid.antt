@@ -9,7 +9,8 @@ use Rattle.caps.specs.Evidence.{past_both, IsPairOutcome, IsRigidOutcome}
 use Rattle.caps.specs.Laws.{IsReductOf}
 use Rattle.caps.proofs.Instances.{IsInstance, filling, apply-filled}
 use Rattle.caps.proofs.Steps.{HasNoRedex, freezing, cap_safe, cap_instance, cap_keeps, reaches_keeps}
-use Rattle.caps.proofs.Reducts.{apply-var, reduct_instance}
+use Rattle.rewriting.proofs.Instances.{apply-var}
+use Rattle.caps.proofs.Reducts.{reduct_instance}
 
 variable_pattern : (s : Substitution) (l : Term) (x : ℕ) → apply s l ≡ var x → IsVariable l
 variable_pattern s (var y) x e = tt

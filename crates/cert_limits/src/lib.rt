@@ -12,7 +12,7 @@ mod term_limits;
 mod whole_limits;
 
 use crate::whole_limits::{is_of_second, is_within};
-use cert_grammar::{MOST_SHARED, MOST_UNFOLDED};
+use cert_grammar::{MOST_BYTES, MOST_SHARED, MOST_UNFOLDED};
 use cert_model::Certificate;
 use cert_writing::{AutomatonTexts, text_len, unfolded_len};
 use cops_names::Names;
@@ -22,7 +22,7 @@ use term_core::NoMemory;
 /// Whether the certificate can be spelt with the names, in a text of the second version of at most 67,108,864 bytes. What its
 /// automata unfold to is asked before any text is made.
 pub fn has_text(alloc: Global, names: &Names, cert: &Certificate) -> Result<bool, NoMemory>
-    ensures { IfOk result (λ found. IsTrue found ↔ (CanBeSpelt second_version names.now (certificate_view cert.now) × (length (certificate_text second_version names.now (certificate_view cert.now)) ≤ 67108864))) }
+    ensures { IfOk result (λ found. IsTrue found ↔ (CanBeSpelt second_version names.now (certificate_view cert.now) × (length (certificate_text second_version names.now (certificate_view cert.now)) ≤ MOST_BYTES))) }
 {
     if !is_of_second(cert) || !is_within(names, cert) {
         return Ok(false);
@@ -34,5 +34,5 @@ pub fn has_text(alloc: Global, names: &Names, cert: &Certificate) -> Result<bool
     if texts.len() > MOST_SHARED as usize {
         return Ok(false);
     }
-    Ok(text_len(alloc, names, cert)? <= 67_108_864)
+    Ok(text_len(alloc, names, cert)? <= MOST_BYTES)
 }

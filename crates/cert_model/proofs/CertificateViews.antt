@@ -1,5 +1,5 @@
 -- What a certificate of each kind stands for.
-use Rattle.std.proofs.Common.{◌≡◌, List, map, Vec, Global, Box, rules}
+use Rattle.std.proofs.Common.{◌≡◌, map, Vec, Global, Box, rules}
 use Rattle.certificates.specs.Certificates.{ortho_certificate, quasi_certificate, peak_certificate, simplified_certificate}
 use Rattle.cert_model.specs.CertificateView.{pair_entry_view, measure_view, peak_view, simp_view, certificate_view}
 use Rattle.cert_model.specs.declared.model.PairEntry.{PairEntry}

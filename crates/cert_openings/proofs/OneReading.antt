@@ -1,10 +1,10 @@
 -- Two readings of a text up to one place are one.
-use Rattle.std.proofs.Common.{◌≡◌, ◌⊎◌, inl, inr, ℕ, suc, ◌+◌, Bool, true, List, [], ◌∷◌, ◌++◌, length, Option, Some, None, refl, sym, ap, ◌∙◌, subst, codes, arith}
+use Rattle.std.proofs.Common.{◌≡◌, ◌⊎◌, inl, inr, ℕ, suc, ◌+◌, Bool, List, [], ◌∷◌, ◌++◌, length, Option, Some, None, refl, sym, ap, ◌∙◌, subst, codes, arith}
 use Rattle.std.proofs.lemmas.List.{append_cancel_left, length-append}
 use Rattle.general_lemmas.proofs.Lists.{three_parts}
 use Rattle.certificates.specs.Prelude.{Automaton, PairEntry, Simplification, Certificate}
 use Rattle.cops_names.specs.NameTable.{NameTable}
-use Rattle.cert_grammar.specs.Prelude.{name_of, Version, first_version, second_version, Uses, version_of, IsOfVersion, automata_of, texts_of, shared_by, Mark, marks_text, certificate_marks}
+use Rattle.cert_grammar.specs.Prelude.{name_of, Version, first_version, second_version, Uses, version_of, IsOfVersion, automata_of, shared_by, marks_text, certificate_marks}
 use Rattle.cert_grammar.specs.Prelude.{heading_text, body_text, answer_line, HaveNames, Skeleton}
 use Rattle.cert_laws.proofs.AlikeWhole.{alike_skeletons}
 use Rattle.cert_laws.proofs.OneAnswer.{closes_all}

@@ -3,9 +3,9 @@ use Rattle.std.proofs.Common.{◌≡◌, ℕ, suc, ◌+◌, ◌≤◌, max, true
 use Rattle.rewriting.specs.Terms.{Term, var, app, Terms, nil, cons, count, size, size_all, depth, depth_all}
 use Rattle.certificates.specs.Evidence.{Transition, Automaton}
 use Rattle.cops_names.specs.NameTable.{NameTable}
-use Rattle.cert_grammar.specs.Prelude.{largest, name_of, IsSpelt, AreSpelt, AreStates, IsHead, AreTransitions, IsAutomaton, Counted, has_arity, is_few, Mark, fixed, word, symbol, behind}
-use Rattle.cert_grammar.specs.Prelude.{closed, is_node, number_for, term_marks, arguments_marks, further_marks, state, accepting_marks, states_marks, head_marks, transitions_marks}
-use Rattle.cert_grammar.specs.Prelude.{automaton_marks, HaveNames, Pass, Lead, text, check, at_once, keyword, numeral_lead, position_lead, variable_lead, name_lead, leads, is_there}
+use Rattle.cert_grammar.specs.Prelude.{largest, name_of, IsSpelt, AreSpelt, AreStates, IsHead, AreTransitions, IsAutomaton, Counted, has_arity, is_few, Mark, fixed, symbol, behind}
+use Rattle.cert_grammar.specs.Prelude.{is_node, number_for, term_marks, arguments_marks, further_marks, state, accepting_marks, states_marks, head_marks, transitions_marks}
+use Rattle.cert_grammar.specs.Prelude.{automaton_marks, HaveNames, Pass, Lead, name_lead, leads, is_there}
 use Rattle.cert_grammar.specs.Prelude.{mark_of, taken, Left}
 use Rattle.cert_grammar.proofs.Names.{found_is_named}
 use Rattle.cert_grammar.proofs.ScanWords.{name_is}

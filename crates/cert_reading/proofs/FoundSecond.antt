@@ -1,35 +1,29 @@
 -- A certificate that is read along its marks is that of its text, in either version.
-use Rattle.std.proofs.Common.{◌≡◌, ◌⊎◌, inl, inr, ◌≤◌, ℕ, zero, suc, Bool, true, false, List, [], ◌∷◌, ◌++◌, length, map, drop, Option, Some, None, codes, refl, sym, ap, ◌∙◌, subst, arith}
+use Rattle.std.proofs.Common.{◌≡◌, ◌⊎◌, inl, inr, ◌≤◌, ℕ, zero, suc, Bool, List, [], ◌∷◌, ◌++◌, length, drop, Option, Some, None, codes, refl, ap, ◌∙◌, subst, arith}
 use Rattle.std.proofs.lemmas.List.{append-nil}
-use Rattle.certificates.specs.Prelude.{Automaton, InfeasibilityEvidence, by_caps, by_automaton, PairEvidence, trivial_pair, infeasible_pair, conflicting_pair, joined_pair, unfeasible_pair}
-use Rattle.certificates.specs.Prelude.{PairEntry, Redex, Apartness, by_normal_forms, by_rigid_caps, Simplification, dropped, inlined, Certificate, ortho_certificate, quasi_certificate}
-use Rattle.certificates.specs.Prelude.{peak_certificate, simplified_certificate}
+use Rattle.certificates.specs.Prelude.{Automaton}
+use Rattle.certificates.specs.Prelude.{Certificate}
 use Rattle.cops_names.specs.NameTable.{NameTable}
-use Rattle.cert_grammar.specs.Prelude.{largest, name_of, Version, first_version, second_version, Uses, in_full, by_number, used_by, used_by_evidence, used_by_pairs, used_by_redexes}
-use Rattle.cert_grammar.specs.Prelude.{used_by_apart, used_by_steps, automata_of, automaton_text, texts_of, with_new, shared_by, place_among, number_in, unfolded_length, AllNew}
-use Rattle.cert_grammar.specs.Prelude.{AreAutomata, Pass, certificate_text, heading_text, body_text, answer_line, IsWithin, CanBeSpelt, IsVersionText, IsCertificateText, Naming, is_few}
-use Rattle.cert_grammar.specs.Prelude.{marks_text, automata_marks, heading_marks, body_marks, certificate_marks, closing, Shared, nothing_shared, PassShares, opening}
+use Rattle.cert_grammar.specs.Prelude.{name_of, Version, first_version, second_version, in_full, by_number}
+use Rattle.cert_grammar.specs.Prelude.{shared_by, number_in}
+use Rattle.cert_grammar.specs.Prelude.{Pass, certificate_text, heading_text, body_text, answer_line, IsVersionText, IsCertificateText, Naming}
+use Rattle.cert_grammar.specs.Prelude.{marks_text, heading_marks, body_marks, certificate_marks, closing, Shared, nothing_shared, PassShares, opening}
 use Rattle.cert_grammar.specs.Marks as marks
-use Rattle.cert_laws.proofs.PassTerms.{range_met, few_met}
-use Rattle.cert_laws.proofs.PassEvidence.{AllOf}
-use Rattle.cert_laws.proofs.SpeltWhole.{AreShort, spelt_alone, spelt_answered}
-use Rattle.cert_sharing.proofs.FirstUses.{greatest, InOrder, texts_length, pick, told_all}
-use Rattle.cert_sharing.proofs.UseMarks.{state, PassUses, marked_texts}
-use Rattle.cert_sharing.proofs.PassShares.{Met, shares_met, uses_order, uses_light, uses_range, pick_unfolds, InRange}
-use Rattle.cert_sharing.proofs.SpeltShares.{place_most, marked_are}
+use Rattle.cert_laws.proofs.SpeltWhole.{spelt_alone, spelt_answered}
+use Rattle.cert_sharing.proofs.UseMarks.{marked_texts}
+use Rattle.cert_sharing.proofs.PassShares.{shares_met}
 use Rattle.cert_openings.specs.Openings.{uses_with}
 use Rattle.cert_shares.specs.SharesView.{with_begun}
 use Rattle.cert_words.specs.declared.reading.Reading.{Reading}
 use Rattle.cert_words.specs.Walks.{Run}
 use Rattle.cert_words.proofs.Whole.{walks_text, walks_pass}
 use Rattle.cert_reading.specs.Shared.{ArePlainAutomata}
-use Rattle.cert_reading.specs.Plain.{IsUsed, HasUsed, EvidenceUses, PairsUse, RedexesUse, ApartUses, StepsUse, IsPlainBy}
+use Rattle.cert_reading.specs.Plain.{IsPlainBy}
 use Rattle.cert_reading.specs.Whole.{CanShare, ReadsCertificate}
 use Rattle.cert_reading.proofs.Stopping.{ran}
 use Rattle.cert_reading.proofs.Found.{walks_named}
 use Rattle.cert_reading.proofs.FoundWhole.{Along, split, plain_version, answered, certificate_found}
 use Rattle.cert_reading.proofs.FoundFront.{Front, second_front, behind_answer, body_along}
-use Rattle.cert_reading.proofs.UseReads.{number_there}
 
 -- ---- a text of the second version
 

@@ -1,5 +1,5 @@
 -- A certificate that passes along its marks, with symbols that are found, is within the limits, and the marks spell its text.
-use Rattle.std.proofs.Common.{◌≡◌, ◌⊎◌, inl, inr, ◌≤◌, ◌+◌, ◌-◌, ℕ, suc, Bool, true, false, List, [], ◌∷◌, ◌++◌, length, slice_get, Option, Some, None, codes, refl, sym, ap, ◌∙◌, subst, arith}
+use Rattle.std.proofs.Common.{◌≡◌, ◌⊎◌, inl, inr, ◌≤◌, ◌+◌, ◌-◌, ℕ, suc, Bool, true, false, List, [], ◌∷◌, ◌++◌, length, slice_get, Option, Some, None, codes, sym, ap, ◌∙◌, subst, arith}
 use Rattle.rewriting.specs.Unraveling.{Head, file, auxiliary}
 use Rattle.certificates.specs.Prelude.{Automaton, InfeasibilityEvidence, by_caps, by_automaton, PairEvidence, trivial_pair, infeasible_pair, conflicting_pair, joined_pair, unfeasible_pair}
 use Rattle.certificates.specs.Prelude.{PairEntry, LinearEntry, MeasureCertificate, linear_measure, precedence_measure, Redex, Apartness, by_normal_forms, by_rigid_caps, Simplification}
@@ -7,7 +7,7 @@ use Rattle.certificates.specs.Prelude.{dropped, inlined, Certificate, ortho_cert
 use Rattle.cops_names.specs.NameTable.{NameTable}
 use Rattle.cert_grammar.specs.Prelude.{largest, name_of, Version, first_version, second_version, Uses, in_full, IsOfVersion, IsAutomaton, IsInfeasibility, IsEvidence, ArePairs, AreAutomata}
 use Rattle.cert_grammar.specs.Prelude.{IsMeasured, AreEntries, AreHeads, IsMeasure, AreRedexEntries, IsApart, AreSimplifications, IsWithin, IsVersionText, answer_line, certificate_text}
-use Rattle.cert_grammar.specs.Prelude.{Naming, is_few, fits_answer, is_answer, Mark, fixed, marks_text, automaton_ends, shares, closed, number, term_marks, derivation_marks, use_marks}
+use Rattle.cert_grammar.specs.Prelude.{Naming, is_few, fits_answer, Mark, fixed, marks_text, automaton_ends, shares, closed, number, term_marks, derivation_marks, use_marks}
 use Rattle.cert_grammar.specs.Prelude.{automaton_marks, automata_marks, infeasibility_marks, evidence_marks, pairs_marks, redexes_marks, apart_marks, simplifications_marks, body_marks}
 use Rattle.cert_grammar.specs.Prelude.{coefficients_marks, measured_marks, entries_marks, heads_marks, measure_marks, answer_marks, heading_marks, closing, certificate_marks, HaveNames}
 use Rattle.cert_grammar.specs.Prelude.{Pass}

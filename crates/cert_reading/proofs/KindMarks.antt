@@ -1,6 +1,6 @@
 -- The marks of a body behind the line of its kind.
 use Rattle.std.proofs.Common.{◌≡◌, Bool, true, false, [], ◌∷◌, Option, Some, None, codes, ap}
-use Rattle.certificates.specs.Certificates.{Certificate, ortho_certificate, quasi_certificate, peak_certificate, simplified_certificate}
+use Rattle.certificates.specs.Certificates.{Certificate, simplified_certificate}
 use Rattle.cert_grammar.specs.Prelude.{Uses, IsUnsimplified, Naming, fixed, body_marks}
 use Rattle.cert_sharing.proofs.UseMarks.{AreStill}
 use Rattle.cert_reading.specs.declared.headings.Kind.{Kind}

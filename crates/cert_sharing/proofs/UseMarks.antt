@@ -2,17 +2,17 @@
 use Rattle.std.proofs.Common.{◌≡◌, ℕ, suc, ◌+◌, ◌-◌, ◌≤◌, max, nat_le, Bool, true, false, cond, not, ◌&&◌, List, [], ◌∷◌, ◌++◌, length, map, codes, Option, Some, None, refl, sym}
 use Rattle.std.proofs.Common.{ap, ◌∙◌, subst, append_assoc, append-nil, leb-true, le-leb}
 use Rattle.std.proofs.lemmas.Bool.{not-true, and_from, and_parts}
-use Rattle.rewriting.specs.Prelude.{Term, var, app, Terms, nil, cons, size, Position, Head, file, auxiliary}
-use Rattle.certificates.specs.Prelude.{Derivation, no_steps, first_step, Step, by_rule, by_hypothesis, Derivations, no_derivations, first_derivation, Transition, Automaton}
+use Rattle.rewriting.specs.Prelude.{Term, Position}
+use Rattle.certificates.specs.Prelude.{Derivation, Automaton}
 use Rattle.certificates.specs.Prelude.{InfeasibilityEvidence, by_caps, by_automaton, PairEvidence, trivial_pair, infeasible_pair, conflicting_pair, joined_pair, unfeasible_pair, PairEntry}
-use Rattle.certificates.specs.Prelude.{LinearEntry, MeasureCertificate, linear_measure, precedence_measure, Redex, Apartness, by_normal_forms, by_rigid_caps, Simplification, dropped}
+use Rattle.certificates.specs.Prelude.{MeasureCertificate, Redex, Apartness, by_normal_forms, by_rigid_caps, Simplification, dropped}
 use Rattle.certificates.specs.Prelude.{inlined, Certificate, ortho_certificate, quasi_certificate, peak_certificate, simplified_certificate}
 use Rattle.cert_grammar.specs.Prelude.{Uses, in_full, by_number, used_by, used_by_evidence, used_by_pairs, used_by_redexes, used_by_apart, used_by_steps, automata_of, largest, Naming}
-use Rattle.cert_grammar.specs.Prelude.{Counted, limit, unfolded, CertificateCause, bad_share, too_many, automaton_begins, automaton_ends, is_use, is_light, Demand, is_symbol, has_arity}
-use Rattle.cert_grammar.specs.Prelude.{in_range, is_few, is_shallow, fits_answer, shares, Mark, fixed, word, closed, mark_text, marks_text, demands_of, are_places, number, number_for}
-use Rattle.cert_grammar.specs.Prelude.{position, term_marks, arguments_marks, further_marks, steps_marks, step_marks, derivations_marks, derivation_marks, use_mark, accepting_marks}
-use Rattle.cert_grammar.specs.Prelude.{further_states_marks, states_marks, head_marks, transitions_marks, automaton_marks, automata_marks, infeasibility_marks, evidence_marks, pairs_marks}
-use Rattle.cert_grammar.specs.Prelude.{coefficients_marks, measured_marks, entries_marks, heads_marks, measure_marks, redexes_marks, apart_marks, simplifications_marks, body_marks}
+use Rattle.cert_grammar.specs.Prelude.{Counted, limit, unfolded, CertificateCause, bad_share, too_many, automaton_begins, automaton_ends, is_use, is_light, Demand}
+use Rattle.cert_grammar.specs.Prelude.{in_range, is_few, fits_answer, shares, Mark, fixed, word, closed, mark_text, marks_text, demands_of, are_places, number, number_for}
+use Rattle.cert_grammar.specs.Prelude.{position, term_marks, derivation_marks, use_mark, accepting_marks}
+use Rattle.cert_grammar.specs.Prelude.{transitions_marks, automaton_marks, automata_marks, infeasibility_marks, evidence_marks, pairs_marks}
+use Rattle.cert_grammar.specs.Prelude.{measure_marks, redexes_marks, apart_marks, simplifications_marks, body_marks}
 use Rattle.cert_grammar.specs.Prelude.{is_among, AllNew, Shared, text_at, holds, first_of, share_verdict, effects, behind_mark, behind_marks, PassShares}
 use Rattle.cert_grammar.specs.WordMarks.{numeral}
 use Rattle.cert_laws.proofs.Asking.{AllAsk, MarksAsk, term_asks, derivation_asks, measure_asks, behind_word_ask}

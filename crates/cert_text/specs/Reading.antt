@@ -1,7 +1,6 @@
 -- The text of a certificate that is read entry by entry, and what one call of `Pairs::next` says of it.
 use Rattle.std.specs.Prelude.{◌≡◌, ℕ, List, [], ◌∷◌, ◌++◌, Option, None, Some, Result, Ok, Err}
 use Rattle.certificates.specs.Certificates as math
-use Rattle.certificates.specs.Certificates.{Certificate}
 use Rattle.cops_names.specs.NameTable.{NameTable}
 use Rattle.cert_model.specs.declared.model.PairEntry.{PairEntry}
 use Rattle.cert_grammar.specs.CertificateText.{IsCertificateText}

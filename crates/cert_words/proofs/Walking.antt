@@ -2,7 +2,7 @@
 use Rattle.std.proofs.Common.{◌≡◌, ◌≤◌, ◌-◌, ℕ, List, [], ◌∷◌, ◌++◌, length, Option, Some, None, refl, sym, ap, ◌∙◌, subst, arith, append_assoc, length-drop}
 use Rattle.std.proofs.lemmas.List.{append-nil}
 use Rattle.cops_names.specs.NameTable.{NameTable}
-use Rattle.cert_grammar.specs.Prelude.{name_of, CertificateCause, Naming, Mark, fixed, word, symbol, behind, closed, demands_of, Item, Lead, taken, Left, goes_on, behind_lead, judged}
+use Rattle.cert_grammar.specs.Prelude.{name_of, CertificateCause, Naming, Mark, symbol, demands_of, Item, Lead, taken, Left, goes_on, behind_lead, judged}
 use Rattle.cert_grammar.specs.Prelude.{step_lead, step_items, Shared, share_verdict, behind_mark, behind_marks, PassShares, next_lead, further, shared_judged, behind_lead_shared}
 use Rattle.cert_grammar.specs.Prelude.{after_step, shared_step}
 use Rattle.cert_shares.specs.SharesView.{with_begun}

@@ -8,6 +8,7 @@ ghost use Rattle.cert_grammar.specs.Scans as scans;
 ghost use Rattle.cert_words.specs.Words.{counted_view};
 
 use crate::error::CertCount;
+pub use cert_grammar::LARGEST;
 use cert_grammar::{
     MOST_ENTRIES, MOST_NUMBERS, MOST_PAIRS, MOST_REDEXES, MOST_SHARED, MOST_STATES, MOST_STEPS,
     MOST_TRANSITIONS, MOST_UNFOLDED,
@@ -15,9 +16,6 @@ use cert_grammar::{
 use cops_names::Names;
 use std::str;
 use term_core::MAX_NODES;
-
-/// The greatest number.
-pub const LARGEST: u64 = 4_294_967_295;
 
 /// Each number is below it.
 pub const BOUND: u64 = LARGEST + 1;

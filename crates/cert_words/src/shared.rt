@@ -63,7 +63,7 @@ pub fn used(end: usize, at: &mut Reading) -> u32
         at.refused = Some(stuck(&[Lead::Number], at.left, end));
         return 0;
     };
-    let Some(n) = within(word, 0, 4_294_967_296) else {
+    let Some(n) = within(word, 0, BOUND) else {
         at.refused = Some(CertError::BadNumber { at: here });
         return 0;
     };

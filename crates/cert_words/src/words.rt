@@ -9,7 +9,7 @@ ghost use Rattle.cert_grammar.specs.Items as spec;
 ghost use Rattle.cert_words.specs.Words.{counted_view, told};
 ghost use Rattle.cert_words.specs.Walks.{Reads, IsStuckAt, IsWithin};
 
-use crate::demands::{limit, symbol, value};
+use crate::demands::{BOUND, limit, symbol, value};
 use crate::error::{CertCount, CertError};
 use crate::leads::{Lead, front, stuck};
 use crate::reading::Reading;
@@ -131,7 +131,7 @@ fn few(end: usize, at: &mut Reading, least: u32, what: CertCount, most: usize) -
         at.refused = Some(stuck(&[Lead::Number], at.left, end));
         return 0;
     };
-    let Some(n) = within(word, least, 4_294_967_296) else {
+    let Some(n) = within(word, least, BOUND) else {
         at.refused = Some(CertError::BadNumber {
             at: place(end, at.left),
         });
@@ -238,7 +238,7 @@ pub fn numbered(end: usize, at: &mut Reading, what: CertCount, n: usize) -> u32
         at.refused = Some(stuck(&[Lead::Number], at.left, end));
         return 0;
     };
-    let Some(k) = within(word, 0, 4_294_967_296) else {
+    let Some(k) = within(word, 0, BOUND) else {
         at.refused = Some(CertError::BadNumber {
             at: place(end, at.left),
         });

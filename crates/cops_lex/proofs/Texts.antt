@@ -1,10 +1,9 @@
 -- An identifier is ASCII, and so text.
-use Rattle.std.proofs.Common.{◌≡◌, ℕ, zero, suc, ◌+◌, ◌-◌, ◌<◌, Bool, true, false, cond, not, ◌&&◌, ◌||◌, List, [], ◌∷◌, length, get_or, take, drop, refl, sym, ap, ap₂, ◌∙◌, subst, arith}
+use Rattle.std.proofs.Common.{◌≡◌, ℕ, zero, suc, ◌+◌, ◌-◌, ◌<◌, Bool, true, false, cond, not, ◌&&◌, ◌||◌, List, [], ◌∷◌, get_or, take, drop, refl, ap, ap₂, ◌∙◌, subst, arith}
 use Rattle.std.specs.List.{AllByRecursion}
 use Rattle.std.specs.Str.{IsUtf8}
 use Rattle.std.proofs.lemmas.Str.{IsUtf8-from_ascii}
 use Rattle.file_text.specs.declared.Kind.{Kind}
-use Rattle.file_text.specs.declared.Kind.TheVariants.{Id}
 use Rattle.file_text.specs.Bytes.{is_id, begins_arrow, begins_equal, run_len}
 use Rattle.file_text.specs.Tokens.{len_at}
 use Rattle.file_text.proofs.Names.{id_small}

@@ -6,10 +6,9 @@ ghost use Rattle.cops_lex.specs.Answers.{FrontAnswers, NextAnswers, StaysWithout
 
 use crate::scan::{is_comment_at, kind_of, len_of, open_after, skip_comment, skip_white};
 use crate::{LexError, Token};
+use file_text::LONGEST;
 use std::alloc::Global;
 use std::marker::Model;
-
-const LONGEST: usize = 255;
 
 /// A text, read token by token. In contracts: the bytes, the place up to which they are read, and how many
 /// brackets are open there.

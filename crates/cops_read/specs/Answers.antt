@@ -1,5 +1,5 @@
 -- What a reader of a file answers, and laws of files.
-use Rattle.std.specs.Prelude.{◌≡◌, ◌≤◌, ◌⊎◌, ℕ, List, length, map, All, Result, Ok, Err}
+use Rattle.std.specs.Prelude.{◌≡◌, ◌≤◌, ◌⊎◌, ℕ, List, length, map, Result, Ok, Err}
 use Rattle.rewriting.specs.Prelude.{System, IsSystem}
 use Rattle.join_systems.specs.FileRelation.{IsFromFile}
 use Rattle.file_text.specs.Syntax.{has_type}

@@ -3,6 +3,9 @@ ghost use Rattle.std.specs.Prelude.{◌≡◌};
 ghost use Rattle.cops_read.specs.Counts.{most_of};
 ghost use Rattle.cops_read.specs.declared.errors.ReadError.TheVariants.{NoMemory as no_memory};
 
+use crate::limits::{
+    MOST_ARGUMENTS, MOST_CONDITIONS, MOST_NODES, MOST_RULES, MOST_SYMBOLS, MOST_VARIABLES,
+};
 use cops_syntax::{SyntaxError, SyntaxRefusal, TextError};
 use std::alloc::{AllocError, AllocFailed};
 use std::fmt;
@@ -32,10 +35,12 @@ impl Count {
         ensures { result ≡ most_of self }
     {
         match self {
-            Count::Rules | Count::Symbols => 1000,
-            Count::Conditions | Count::Arity => 20,
-            Count::Nodes => 2000,
-            Count::Variables => 100,
+            Count::Rules => MOST_RULES,
+            Count::Conditions => MOST_CONDITIONS,
+            Count::Arity => MOST_ARGUMENTS,
+            Count::Nodes => MOST_NODES,
+            Count::Variables => MOST_VARIABLES,
+            Count::Symbols => MOST_SYMBOLS,
         }
     }
 }

@@ -7,13 +7,11 @@ ghost use Rattle.cops_read.specs.Heads.{used_at, WithinAnswers, RoomAnswers, Cau
 
 use crate::block::Block;
 use crate::errors::{Count, ReadError};
+use crate::limits::MOST_DEPTH;
 use crate::read_names::ReadNames;
 use cops_names::NameSet;
 use cops_syntax::Node;
 use std::alloc::Global;
-
-/// No term of a file is deeper.
-pub const MOST_DEPTH: usize = 200;
 
 // What is known while rules are read: the variables' block, the names of symbols and of the rules
 // so far, and the variables of the rule that is read.

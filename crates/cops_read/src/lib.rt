@@ -7,6 +7,7 @@ mod block;
 mod errors;
 mod files;
 mod heads;
+mod limits;
 mod read_names;
 mod rules;
 mod terms;
@@ -15,7 +16,7 @@ pub use cops_names::{NameSet, Names};
 use cops_syntax::parse;
 pub use errors::{Count, ReadError};
 pub use files::read_file;
-pub use heads::MOST_DEPTH;
+pub use limits::{MOST_CONDITIONS, MOST_DEPTH, MOST_NODES, MOST_VARIABLES};
 use std::alloc::Global;
 use term_core::System;
 

@@ -1,7 +1,7 @@
 -- What a run of two rules of a system says, where they are renamed apart.
-use Rattle.std.proofs.Common.{ℕ, zero, suc, ◌≡◌, ◌-◌, List, [], ◌∷◌, map, get_or, slice_get, Some, None, IsSome, refl, sym, ap, ◌∙◌, subst, arith}
+use Rattle.std.proofs.Common.{ℕ, ◌≡◌, ◌-◌, List, map, get_or, Some, None, IsSome, refl, sym, ap, ◌∙◌, subst}
 use Rattle.std.proofs.lemmas.Option.{none-some, same_Some}
-use Rattle.rewriting.specs.Prelude.{Term, Position, subterm, apply, even, odd, Rule, System, rule_at}
+use Rattle.rewriting.specs.Prelude.{Term, Position, subterm, apply, even, odd, Rule, System}
 use Rattle.rewriting.proofs.Places.{subterm-apply}
 use Rattle.unifier_run.specs.Overlaps.{IsTooLargeAt}
 use Rattle.term_core.specs.Prelude.{view, rule_view}

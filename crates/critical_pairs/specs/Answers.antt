@@ -1,6 +1,7 @@
 -- What the list of overlaps answers.
 use Rattle.std.specs.Prelude.{◌≡◌, ◌≢◌, List, [], ◌∷◌, ◌++◌, map, length, Option, Some, None, Vec, Result, Ok, Err}
 use Rattle.std.specs.Global.{Global}
+use Rattle.unifier_run.specs.declared.TheConstants.{MOST_OVERLAPS}
 use Rattle.rewriting.specs.Rules as rules
 use Rattle.unifier_run.specs.Overlaps.{AreOverlaps, IsPairTooLarge, AreTooManyOverlaps}
 use Rattle.critical_pairs.specs.View.{overlap_view}
@@ -19,7 +20,7 @@ OverlapsAnswers sys (Err NoMemory) = Unit {0}
 abbrev pub PutAnswers : List Overlap → Option Overlap → List Overlap → Result (Unit {0}) OverlapError → Type 0
 PutAnswers before None after (Ok u) = after ≡ before
 PutAnswers before None after (Err e) = ⊥
-PutAnswers before (Some o) after (Ok u) = (after ≡ before ++ o ∷ []) × (length before ≢ 20000)
+PutAnswers before (Some o) after (Ok u) = (after ≡ before ++ o ∷ []) × (length before ≢ MOST_OVERLAPS)
 PutAnswers before (Some o) after (Err (PairTooLarge inner pos outer)) = ⊥
-PutAnswers before (Some o) after (Err TooManyPairs) = length before ≡ 20000
+PutAnswers before (Some o) after (Err TooManyPairs) = length before ≡ MOST_OVERLAPS
 PutAnswers before (Some o) after (Err NoMemory) = Unit {0}

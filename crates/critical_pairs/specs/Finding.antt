@@ -1,5 +1,6 @@
 -- What the next triple at which the run does not clash answers, and counting its overlap.
 use Rattle.std.specs.Prelude.{ℕ, suc, ◌≡◌, ◌≤◌, [], Option, None, Some, Result, Ok, Err}
+use Rattle.unifier_run.specs.declared.TheConstants.{MOST_OVERLAPS}
 use Rattle.rewriting.specs.Rules.{System}
 use Rattle.unifier_run.specs.Overlaps.{Triple, IsTooLargeAt}
 use Rattle.critical_pairs.specs.Cursors.{rest_of, StandsBefore}
@@ -39,9 +40,9 @@ pub record IsCounted (before : Cursor) (n : ℕ) (after : Cursor) (m : ℕ) : Ty
   pub place : after.place ≡ before.place
   pub candidate : after.candidate ≡ suc before.candidate
   pub counted : m ≡ suc n
-  pub few : m ≤ 20000
+  pub few : m ≤ MOST_OVERLAPS
 
 -- all is as it was where there are 20,000
 abbrev pub CountAnswers : Cursor → ℕ → Cursor → ℕ → Result (Unit {0}) OverlapError → Type 0
 CountAnswers before n after m (Ok u) = IsCounted before n after m
-CountAnswers before n after m (Err e) = (e ≡ TooManyPairs) × (n ≡ 20000) × (after ≡ before) × (m ≡ n)
+CountAnswers before n after m (Err e) = (e ≡ TooManyPairs) × (n ≡ MOST_OVERLAPS) × (after ≡ before) × (m ≡ n)

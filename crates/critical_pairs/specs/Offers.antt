@@ -1,5 +1,6 @@
 -- What a search for the overlaps of a system offers, one after the other.
 use Rattle.std.specs.Prelude.{ℕ, suc, ◌≡◌, ◌≤◌, List, [], ◌∷◌, ◌++◌, Bool, true, false, Option, None, Some, Result, Ok, Err}
+use Rattle.unifier_run.specs.declared.TheConstants.{MOST_OVERLAPS}
 use Rattle.rewriting.specs.Prelude.{IsAmong, System}
 use Rattle.unifier_run.specs.Overlaps as math
 use Rattle.unifier_run.specs.Overlaps.{Triple, triple, IsOverlapOf, IsTooLargeAt}
@@ -34,7 +35,7 @@ pub record IsOffered (before after : Search) (o : math.Overlap) : Type 0 where
   pub is_overlap : IsOverlapOf before.system o
   pub passes : DoesPass before.system before.rest (triple o ∷ after.rest)
   pub counted : after.offered ≡ suc before.offered
-  pub few : after.offered ≤ 20000
+  pub few : after.offered ≤ MOST_OVERLAPS
 
 -- there is no further overlap, and nothing is still to come
 pub record IsDone (before after : Search) : Type 0 where
@@ -47,7 +48,7 @@ pub record IsBeyond (before : Search) : Type 0 where
   pub further : math.Overlap
   pub is_overlap : IsOverlapOf before.system further
   pub is_next : IsNext before.system before.rest (triple further)
-  pub many : before.offered ≡ 20000
+  pub many : before.offered ≡ MOST_OVERLAPS
 
 -- nothing was offered, and no triple was lost but such at which the run clashes
 pub record DoesStay (before after : Search) : Type 0 where

@@ -1,6 +1,7 @@
 -- The search of the definitions that an `OverlapSearch` stands for.
 use Rattle.std.specs.Prelude.{ℕ, ◌≤◌, List, refl}
 use Rattle.std.specs.Coded.{Coded, code_by, coded×, coded_ℕ, coded_list}
+use Rattle.unifier_run.specs.declared.TheConstants.{MOST_OVERLAPS}
 use Rattle.rewriting.specs.Prelude.{System, IsSystem, coded_system}
 use Rattle.unifier_run.specs.Overlaps.{Triple}
 use Rattle.critical_pairs.specs.Offers.{Search}
@@ -14,7 +15,7 @@ search_view s = record { system = s.sys.now; rest = rest_of s.sys.now s.cursor; 
 pub record IsHeld (s : Inside) : Type 0 where
   pub sound : IsSystem s.sys.now
   pub cursor : IsCursor s.sys.now s.cursor
-  pub few : s.offered ≤ 20000
+  pub few : s.offered ≤ MOST_OVERLAPS
 
 -- a code, by which a program's type may have a search as its value
 abbrev pub coded_search : Coded Search

@@ -24,10 +24,10 @@ use cursor::Cursor;
 use kept::{Kept, overlap_at};
 use prepared_system::PreparedSystem;
 use rule_index::IndexedSystem;
-use search::MOST;
 pub use search::OverlapSearch;
 use std::alloc::{AllocError, AllocFailed, Global};
 use term_core::{Cond, NoMemory, System, Term};
+use unifier_run::MOST_OVERLAPS;
 
 /// Two rules whose left sides overlap at a position of the outer one, and the terms and conditions
 /// that this gives under the most general unifier of the run.
@@ -123,7 +123,7 @@ fn put(found: &mut Vec<Overlap>, overlap: Option<Overlap>) -> Result<(), Overlap
     let Some(overlap) = overlap else {
         return Ok(());
     };
-    if found.len() == MOST {
+    if found.len() == MOST_OVERLAPS {
         return Err(OverlapError::TooManyPairs);
     }
     found.push(overlap)?;

@@ -12,9 +12,7 @@ use prepared_system::PreparedSystem;
 use std::alloc::Global;
 use std::marker::Model;
 use term_core::Subst;
-
-/// The greatest number of overlaps.
-pub const MOST: usize = 20_000;
+use unifier_run::MOST_OVERLAPS;
 
 /// A search for the overlaps of a system. It offers or passes them one after the other, in order by the outer rule, the
 /// position and the inner rule, and keeps none: memory is taken for the positions of one left side.
@@ -73,7 +71,7 @@ fn count(here: &mut Cursor, offered: &mut usize) -> Result<(), OverlapError>
     requires few { offered.old ≤ 20000 }
     ensures { CountAnswers here.old offered.old here.new offered.new result }
 {
-    if *offered == MOST {
+    if *offered == MOST_OVERLAPS {
         return Err(OverlapError::TooManyPairs);
     }
     here.candidate += 1;

@@ -1,5 +1,6 @@
 -- The tokens of a text.
 use Rattle.std.specs.Prelude.{◌≡◌, ℕ, ◌+◌, ◌-◌, ◌<◌, ◌≤◌, Bool, true, false, List, [], ◌∷◌, length, drop, Option, Some, None, ◌==◌, ◌&&◌, if◌then◌else◌}
+use Rattle.file_text.specs.declared.TheConstants.{LONGEST}
 use Rattle.file_text.specs.declared.Kind.{Kind}
 use Rattle.file_text.specs.declared.Kind.TheVariants.{Id, LeftParen, RightParen, Comma, Bar, Arrow, Equal}
 use Rattle.file_text.specs.declared.Token.{Token}
@@ -28,7 +29,7 @@ len_at Equal bytes = 2
 
 -- no token is longer
 abbrev pub longest : ℕ
-longest = 255
+longest = LONGEST
 
 -- the count of open brackets behind a token
 abbrev pub open_after : ℕ → Kind → ℕ

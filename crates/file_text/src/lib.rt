@@ -3,6 +3,9 @@
 
 ghost use Rattle.file_text.specs.Laws.{OneTokenList, OneBadPlace, BadPlacesAreWithin, NeverBoth, TokensOrRefusal, OneTree, OneSyntaxRefusal, SyntaxRefusalsAreWithin, NeverTreeAndRefusal, TreeOrRefusal};
 
+/// Most bytes of an identifier.
+pub const LONGEST: usize = 255;
+
 /// What a token is.
 #[derive(Clone, Copy, Debug, PartialEq, Eq)]
 pub enum Kind {

@@ -1,5 +1,5 @@
 -- Lists of lists, and lists that are joined.
-use Rattle.std.proofs.Common.{◌≡◌, List, [], ◌∷◌, ◌++◌, flat_map, sym, ap, ap₂, refl, ◌∙◌, append_assoc, ℕ, ◌<◌, length, arith}
+use Rattle.std.proofs.Common.{◌≡◌, List, [], ◌∷◌, ◌++◌, flat_map, sym, ap, ap₂, refl, ◌∙◌, append_assoc, ℕ, zero, suc, ◌<◌, length, drop, arith}
 use Rattle.std.proofs.lemmas.List.Concat.{flat_map-append}
 
 pub flat_map_same : {X Y : Type 0} (f g : X → List Y) → ((x : X) → f x ≡ g x) → (xs : List X) → flat_map f xs ≡ flat_map g xs
@@ -16,3 +16,9 @@ three_parts {X} xs ys zs behind = ap (λ (w : List X). xs ++ w) (sym (append_ass
 
 pub not_nil : {X : Type 0} (xs : List X) → 0 < length xs → xs ≡ [] → ⊥
 not_nil xs h e = let none = ap length e in omega (arith, h, none)
+
+pub drop_whole : {X : Type 0} (xs : List X) (n : ℕ) → n ≡ length xs → drop n xs ≡ []
+drop_whole (x ∷ xs) zero e = absurd cc
+drop_whole (x ∷ xs) (suc n) e = drop_whole xs n (omega (arith, e))
+drop_whole [] zero e = refl
+drop_whole [] (suc n) e = refl

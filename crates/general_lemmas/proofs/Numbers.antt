@@ -1,5 +1,5 @@
 -- Numbers compared, and what a test counts.
-use Rattle.std.proofs.Common.{◌≡◌, ◌⊎◌, inl, inr, ℕ, zero, suc, ◌+◌, ◌<◌, ◌≤◌, Bool, true, false, cond, if◌then◌else◌, ◌||◌, refl, arith}
+use Rattle.std.proofs.Common.{◌≡◌, ◌⊎◌, inl, inr, ℕ, suc, ◌+◌, ◌<◌, ◌≤◌, Bool, true, false, if◌then◌else◌, not, ◌&&◌, ◌||◌, nat_eq, refl, arith, eqb-true}
 use Rattle.std.proofs.lemmas.Bool.{cases_lt, cases_eq}
 
 pub le_or_lt : (m n : ℕ) → (m ≤ n) ⊎ (n < m)
@@ -24,3 +24,22 @@ one_at_most false = omega arith
 pub first_only : (b : Bool) → (b || false) ≡ true → b ≡ true
 first_only true e = refl
 first_only false e = e
+
+pub lt_or_last : (m n : ℕ) → m < n + 1 → (m < n) ⊎ (m ≡ n)
+lt_or_last m n h = search arith
+
+-- what differs is not counted
+pub not_counted : (m n : ℕ) → (m ≡ n → ⊥) → ◌≡◌ {A = ℕ} (if nat_eq m n then 1 else 0) 0
+not_counted m n k = by (nat_eq m n) refl
+  where
+    by : (b : Bool) → nat_eq m n ≡ b → ◌≡◌ {A = ℕ} (if b then 1 else 0) 0
+    by true e = absurd (k (eqb-true m n e))
+    by false e = refl
+
+pub and_false : (b : Bool) → (b && false) ≡ false
+and_false true = refl
+and_false false = refl
+
+pub not_true : (b : Bool) → not b ≡ true → b ≡ true → ⊥
+not_true true e h = cc
+not_true false e h = cc

@@ -1,5 +1,5 @@
 -- What stands at a place of a list, and the list up to a place and from it on. `x ≡ get_or xs i x` is what an index says of the element that it gives.
-use Rattle.std.proofs.Common.{◌≡◌, ℕ, zero, suc, ◌+◌, ◌<◌, List, [], ◌∷◌, ◌++◌, length, take, drop, map, get_or, slice_get, option_map, Some, refl, sym, ap, ◌∙◌, arith}
+use Rattle.std.proofs.Common.{◌≡◌, ℕ, zero, suc, ◌+◌, ◌<◌, List, [], ◌∷◌, ◌++◌, length, take, drop, map, get_or, slice_get, option_map, unwrap_or, Some, refl, sym, ap, ap₂, ◌∙◌, arith}
 use Rattle.std.proofs.lemmas.List.{take_more, drop_more, map-append}
 use Rattle.std.proofs.lemmas.Option.{slice_get-map, slice_get_read}
 
@@ -43,3 +43,21 @@ drop_read {X} xs i x h e = drop_more xs i x h ∙ ap (λ (y : X). y ∷ drop (i 
 
 pub map-drop_read : {X Y : Type 0} (f : X → Y) (xs : List X) (i : ℕ) (x : X) → i < length xs → x ≡ get_or xs i x → map f (drop i xs) ≡ f x ∷ map f (drop (i + 1) xs)
 map-drop_read f xs i x h e = ap (map f) (drop_read xs i x h e)
+
+pub slice_get_inside : {X : Type 0} (xs : List X) (i : ℕ) (x : X) → slice_get xs i ≡ Some x → i < length xs
+slice_get_inside [] i x e = absurd (cc)
+slice_get_inside (y ∷ xs) zero x e = omega arith
+slice_get_inside (y ∷ xs) (suc i) x e = let h = slice_get_inside xs i x e in omega (arith, h)
+
+-- ---- lists with the same items at each place
+
+pub same_lists : {A : Type 0} (xs ys : List A) → length xs ≡ length ys → ((k : ℕ) → k < length xs → slice_get xs k ≡ slice_get ys k) → xs ≡ ys
+same_lists [] [] e h = refl
+same_lists [] (y ∷ ys) e h = absurd (omega (arith, e))
+same_lists (x ∷ xs) [] e h = absurd (omega (arith, e))
+same_lists (x ∷ xs) (y ∷ ys) e h =
+    ap₂ (λ z zs. z ∷ zs) (ap (λ o. unwrap_or o x) (h 0 (omega arith))) (same_lists xs ys (omega (arith, e)) (λ k less. h (suc k) (omega (arith, less))))
+
+-- two items at one place that a view does not tell apart
+pub same_there : {A B : Type 0} (v : A → B) (xs ys : List A) (k : ℕ) (x y : A) → slice_get xs k ≡ Some x → slice_get ys k ≡ Some y → v x ≡ v y → slice_get (map v xs) k ≡ slice_get (map v ys) k
+same_there v xs ys k x y a b e = slice_get-map v xs k ∙ (ap (option_map v) a ∙ (ap Some e ∙ sym (slice_get-map v ys k ∙ ap (option_map v) b)))

@@ -1,9 +1,9 @@
 -- Each part of the judgement of an interpretation is decided.
-use Rattle.std.proofs.Common.{◌≡◌, ℕ, zero, suc, ◌^◌, ◌<◌, ◌≤◌, ◌⊎◌, inl, inr, refl, ap, subst, List, [], ◌∷◌, length, slice_get, Option, Some, None, option_map, Bool, true, false}
-use Rattle.std.proofs.Common.{nat_eq, eqb-true, if◌then◌else◌, arith}
+use Rattle.std.proofs.Common.{◌≡◌, ℕ, zero, suc, ◌^◌, ◌<◌, ◌≤◌, ◌⊎◌, inl, inr, refl, ap, subst, List, [], ◌∷◌, length, slice_get, Option, Some, None, option_map}
+use Rattle.std.proofs.Common.{arith}
 use native.Mathlib.Decide.{ℕ_discrete}
 use Rattle.std.proofs.lemmas.Bool.{cases_lt}
-use Rattle.general_lemmas.proofs.Numbers.{le_or_lt}
+use Rattle.general_lemmas.proofs.Numbers.{le_or_lt, not_counted}
 use Rattle.rewriting.specs.Prelude.{Fits, unraveled, heads, Head, file, auxiliary, IsActive, DoSidesFit}
 use Rattle.rewriting.proofs.Common.{Term, var, app, Terms, nil, cons, Rule, System}
 use Rattle.rewriting.proofs.Decided.{IsDecided, at_most, as_other, both, either, asked, has_part}
@@ -86,11 +86,7 @@ pub data DoesNotFall (es : Interpretation) (r : Rule) : Type 0 where
 module _ (es : Interpretation) where
   mutual
     coefficient_above : (x : ℕ) (t : Term) → above t ≤ x → coefficient es x t ≡ 0
-    coefficient_above x (var y) le = go (nat_eq x y) refl
-      where
-        go : (b : Bool) → nat_eq x y ≡ b → ◌≡◌ {A = ℕ} (if b then 1 else 0) 0
-        go true e = absurd (let same = eqb-true x y e in omega (arith, le, same))
-        go false e = refl
+    coefficient_above x (var y) le = not_counted x y (λ same. omega (arith, le, same))
     coefficient_above x (app f ts) le = coefficient_above_all x f 1 ts le
 
     coefficient_above_all : (x f k : ℕ) (ts : Terms) → above_all ts ≤ x → coefficient_from es x f k ts ≡ 0

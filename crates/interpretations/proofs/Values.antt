@@ -1,6 +1,7 @@
 -- Values of terms: the constant and the coefficients give the value under every assignment.
 use Rattle.std.proofs.Common.{◌≡◌, ℕ, zero, suc, ◌+◌, ◌*◌, ◌<◌, ◌≤◌, Bool, true, false, refl, ap, ap₂, ◌∙◌, arith, nat_eq, eqb-true, eq-eqb, if◌then◌else◌}
 use Rattle.std.proofs.Math.Nat.{mul-le-mul_right}
+use Rattle.general_lemmas.proofs.Numbers.{not_counted}
 use Rattle.rewriting.proofs.Common.{Term, var, app, Terms, nil, cons, Substitution, apply, apply_all, Rule}
 use Rattle.interpretations.specs.Linear.{Interpretation, number_of, constant, constant_from, coefficient, coefficient_from, Falls}
 
@@ -49,11 +50,7 @@ one_same : (y : ℕ) → one y y ≡ 1
 one_same y = rw (eq-eqb y y refl) refl
 
 one_other : (x y : ℕ) → (x ≡ y → ⊥) → one y x ≡ 0
-one_other x y k = go (nat_eq x y) refl
-  where
-    go : (b : Bool) → nat_eq x y ≡ b → ◌≡◌ {A = ℕ} (if b then 1 else 0) 0
-    go true e = absurd (k (eqb-true x y e))
-    go false e = refl
+one_other x y k = not_counted x y k
 
 total-below : (n y : ℕ) (e : ℕ → ℕ) → n ≤ y → total n (one y) e ≡ 0
 total-below zero y e le = refl

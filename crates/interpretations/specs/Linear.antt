@@ -1,5 +1,6 @@
 -- Linear interpretations over the natural numbers (Baader and Nipkow, Term Rewriting and All That, chapter 5).
 use Rattle.std.specs.Prelude.{ℕ, suc, ◌≡◌, ◌+◌, ◌*◌, ◌^◌, ◌<◌, ◌≤◌, ◌⊎◌, List, [], nat_eq, if◌then◌else◌, Some, slice_get, option_map, unwrap_or, length}
+use Rattle.interpretations.specs.declared.TheConstants.{MOST_COEFFICIENT}
 use Rattle.rewriting.specs.Prelude.{Term, var, app, Terms, nil, cons, Position, subterm, Rule, System, EachRule, unraveled, heads, IsActive}
 use Rattle.certificates.specs.Certificates.{LinearEntry}
 
@@ -49,7 +50,7 @@ pub record HasShape (sys : System) (es : Interpretation) : Type 0 where
 
 -- the numbers of symbol f are at most 1,000,000; those of active arguments are at least 1, and so is the constant where there are arguments
 pub record AreNumbersGood (sys : System) (f : ℕ) (cs : List ℕ) : Type 0 where
-  pub small : (k c : ℕ) → slice_get cs k ≡ Some c → c ≤ 1000000
+  pub small : (k c : ℕ) → slice_get cs k ≡ Some c → c ≤ MOST_COEFFICIENT
   pub active : (k c : ℕ) → slice_get cs (suc k) ≡ Some c → IsActive sys f (suc k) → 1 ≤ c
   pub constant : (c : ℕ) → slice_get cs 0 ≡ Some c → 2 ≤ length cs → 1 ≤ c
 

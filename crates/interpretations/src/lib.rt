@@ -7,6 +7,9 @@ ghost use Rattle.interpretations.specs.Law.{
   InterpretationsHaveOneJudgement,
 };
 
+/// The greatest number of an entry.
+pub const MOST_COEFFICIENT: u32 = 1_000_000;
+
 /// A good linear interpretation bounds the descents from each term by the term's value with variables at 0. This is a
 /// law: the clause is the statement, and the call does nothing.
 pub fn good_interpretations_bound_descents()

@@ -1,9 +1,10 @@
 -- From sums to the judgement of a rule, and from rules to all rules.
-use Rattle.std.proofs.Common.{◌≡◌, ℕ, zero, suc, ◌+◌, ◌-◌, ◌*◌, ◌^◌, ◌<◌, ◌≤◌, ◌⊎◌, inl, inr, Bool, true, false, refl, sym, ap, subst, List, [], ◌∷◌, map, length, get_or}
-use Rattle.std.proofs.Common.{slice_get, Option, Some, None, Result, Ok, Err, Vec, Global, arith, nat_eq, if◌then◌else◌, eqb-true}
+use Rattle.std.proofs.Common.{◌≡◌, ℕ, zero, suc, ◌+◌, ◌-◌, ◌*◌, ◌^◌, ◌<◌, ◌≤◌, ◌⊎◌, inl, inr, refl, sym, ap, subst, List, [], ◌∷◌, map, length, get_or}
+use Rattle.std.proofs.Common.{slice_get, Option, Some, None, Result, Ok, Err, Vec, Global, arith}
 use Rattle.std.proofs.lemmas.List.{length-map}
 use Rattle.std.proofs.lemmas.Bool.{cases_lt}
 use Rattle.std.proofs.lemmas.Option.{slice_get_within}
+use Rattle.general_lemmas.proofs.Numbers.{not_counted}
 use Rattle.general_lemmas.proofs.Places.{slice_get-map_read}
 use Rattle.rewriting.specs.Terms.{Term, var, app, Terms, nil, cons}
 use Rattle.rewriting.specs.Rules as math
@@ -19,11 +20,7 @@ use Rattle.linear_interp.specs.Falling.{SmallerAnswers, SumsDecide, IsSideReady,
 -- a variable that is not below the number does not occur
 mutual
   beyond : (es : Interpretation) (n x : ℕ) (t : Term) → IsReady es n t → n ≤ suc x → coefficient es x t ≡ 0
-  beyond es n x (var y) h le = go (nat_eq x y) refl
-    where
-      go : (b : Bool) → nat_eq x y ≡ b → ◌≡◌ {A = ℕ} (if b then 1 else 0) 0
-      go true e = let same = eqb-true x y e in absurd (omega (arith, same, h, le))
-      go false e = refl
+  beyond es n x (var y) h le = not_counted x y (λ same. omega (arith, same, h, le))
   beyond es n x (app f ts) h le = beyond_from es n x f 1 ts h.3 le
 
   beyond_from : (es : Interpretation) (n x f k : ℕ) (ts : Terms) → AreReady es n ts → n ≤ suc x → coefficient_from es x f k ts ≡ 0

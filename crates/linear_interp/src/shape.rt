@@ -5,6 +5,7 @@ ghost use Rattle.cert_model.specs.CertificateView.{linear_entry_view};
 ghost use Rattle.linear_interp.specs.Entries.{IsEntryAt, is_wrong_at, MisshapenAnswers, IsNumberGood, AreGoodBelow, BadAnswers};
 
 use cert_model::LinearEntry;
+use interpretations::MOST_COEFFICIENT;
 use itertools::Itertools;
 use term_core::Head;
 
@@ -65,7 +66,7 @@ fn is_number_good(symbols: usize, symbol: usize, count: usize, k: usize, number:
     } else {
         symbol < symbols || k == 1
     };
-    number <= 1_000_000 && (number >= 1 || !is_active)
+    number <= MOST_COEFFICIENT && (number >= 1 || !is_active)
 }
 
 // Whether all numbers of a symbol are good.

@@ -16,7 +16,7 @@ use critical_pairs::Overlap;
 use flatterm::Work;
 use reach::{Entry, ReachStop, reach_in};
 use rule_index::IndexedSystem;
-use search_answers::{COND_DEPTH, STEPS};
+use search_spaces::{COND_DEPTH, STEPS};
 use std::alloc::Global;
 use term_core::{NoMemory, Rule, Term};
 use validity::Search;

@@ -10,7 +10,7 @@ use critical_pairs::Overlap;
 use flatterm::Work;
 use prepared_system::PreparedSystem;
 use reach::{Entry, ReachStop, reach_in};
-use search_answers::{COND_DEPTH, STEPS};
+use search_spaces::{COND_DEPTH, STEPS};
 use std::alloc::Global;
 use term_core::{NoMemory, Term};
 

@@ -1,5 +1,5 @@
 -- Listed terms of both sides of an overlap join them where they are one term.
-use Rattle.std.proofs.Common.{◌≡◌, inl, inr, [], None, sym, ◌∙◌, subst}
+use Rattle.std.proofs.Common.{◌≡◌, inl, inr, None, sym, ◌∙◌, subst}
 use Rattle.rewriting.specs.Rules.{System}
 use Rattle.unifier_run.specs.Overlaps.{Overlap}
 use Rattle.certificates.specs.Prelude.{joined_pair, Derives}

@@ -1,5 +1,6 @@
 -- Laws of the lists.
 use Rattle.std.specs.Prelude.{◌≡◌, ◌⊎◌, ◌≤◌, ◌<◌, ◌^◌, ℕ, suc, true, false, List, [], ◌∷◌, ◌++◌, length, flat_map, drop}
+use Rattle.reach_lists.specs.declared.TheConstants.{MOST_LISTED, MOST_LISTED_NODES}
 use Rattle.rewriting.specs.Prelude.{Term, size, Condition, System}
 use Rattle.certificates.specs.Prelude.{no_steps, Derives, IsShort}
 use Rattle.reach_lists.specs.Solutions.{Reached}
@@ -36,7 +37,7 @@ abbrev pub NoTermIsListedTwice : Type 0
 NoTermIsListedTwice = (sys : System) (hyps : List Condition) (d c : ℕ) (t : Term) → IsWithoutRepetition (reach_list sys hyps d c t)
 
 abbrev pub ListsAreShort : Type 0
-ListsAreShort = (sys : System) (hyps : List Condition) (d c : ℕ) (t : Term) → length (reach_list sys hyps d c t) ≤ 2000
+ListsAreShort = (sys : System) (hyps : List Condition) (d c : ℕ) (t : Term) → length (reach_list sys hyps d c t) ≤ MOST_LISTED
 
 -- a list costs at least one for each of its terms
 abbrev pub ListsCostTheirTerms : Type 0
@@ -57,9 +58,9 @@ RoundsExpandNewTerms =
     (flat_map (successors sys hyps (condition_list sys hyps c))
     (drop (length (expanded (successors sys hyps (condition_list sys hyps c)) d t)) (reach_list sys hyps d c t)))
 
--- a successor of a term of distance below d is listed, or has more than 200 nodes, or 2,000 terms are listed
+-- a successor of a term of distance below d is listed, or is too large, or the list is full
 abbrev pub IsSettled : List Reached → Reached → Type 0
-IsSettled l r = (is_listed r.term l ≡ true) ⊎ ((200 < size r.term) ⊎ (2000 ≤ length l))
+IsSettled l r = (is_listed r.term l ≡ true) ⊎ ((MOST_LISTED_NODES < size r.term) ⊎ (MOST_LISTED ≤ length l))
 
 abbrev pub SuccessorsAreSettled : Type 0
 SuccessorsAreSettled =

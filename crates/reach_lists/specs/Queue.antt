@@ -1,5 +1,6 @@
 -- The same list by a queue.
 use Rattle.std.specs.Prelude.{ℕ, zero, suc, nat_lt, if◌then◌else◌, List, [], ◌∷◌, ◌++◌, map, Option, None, Some, slice_get}
+use Rattle.reach_lists.specs.declared.TheConstants.{MOST_LISTED}
 use Rattle.rewriting.specs.Terms.{Term}
 use Rattle.certificates.specs.Derivations.{no_steps}
 use Rattle.reach_lists.specs.Solutions.{Reached}
@@ -36,4 +37,4 @@ queue_from next d at (suc n) q = queue_from next d (suc at) n (handled next d q 
 
 -- the queue that starts with t, of which all terms are handled, since it has at most 2,000
 abbrev pub queue : (Reached → List Reached) → ℕ → Term → List Queued
-queue next d t = queue_from next d 0 2000 (at_distance 0 (record { term = t; by = no_steps }) ∷ [])
+queue next d t = queue_from next d 0 MOST_LISTED (at_distance 0 (record { term = t; by = no_steps }) ∷ [])

@@ -5,6 +5,12 @@
 ghost use Rattle.reach_lists.specs.Laws.{StartsAre, ListedTermsAreDerived, ListedDerivationsAreShort, NoTermIsListedTwice, ListsAreShort, ListsCostTheirTerms, ListsGrow, RoundsExpandNewTerms, SuccessorsAreSettled, ListsAreThoseOfQueues};
 ghost use Rattle.reach_lists.specs.DepthFirst.{SolutionsAreFollowed, PathsCostTheSame};
 
+/// Most terms on a list.
+pub const MOST_LISTED: usize = 2_000;
+
+/// Most nodes of a term that is put on a list behind its start.
+pub const MOST_LISTED_NODES: usize = 200;
+
 /// A list begins with its start; each listed term is derived from the start by its derivation; no term is listed twice, and at
 /// most 2,000 are.
 pub fn laws_of_lists()

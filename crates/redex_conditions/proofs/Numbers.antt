@@ -7,7 +7,7 @@ use Rattle.std.specs.FinMap.{get, empty, entries, find, from_entries, get-entrie
 use Rattle.std.proofs.lemmas.Bool.{or_right, or_left}
 use Rattle.rewriting.specs.Prelude.{Solves, SolvesAll, IsLeastMatch, conditions_under, AreDistinct}
 use Rattle.rewriting.proofs.Common.{Term, Terms, var, app, nil, cons, Position, argument, subterm, Substitution, Bindings, apply, apply_all, compose, occurs, occurs_in, Condition, Rule, System}
-use Rattle.rewriting.proofs.Instances.{apply-apply, apply-agree, or_cases}
+use Rattle.rewriting.proofs.Instances.{apply-apply, apply-agree, or_cases, apply-var}
 use Rattle.rewriting.proofs.Positions.{within}
 use Rattle.rewriting.proofs.Places.{subterm-apply}
 use Rattle.certificates.specs.Prelude.{InfeasibilityEvidence, RuleMatches, EvidenceReason}
@@ -17,7 +17,6 @@ use Rattle.renumbering.specs.Spread.{spread, spreading}
 use Rattle.rewriting.proofs.Lists.{distinct_at}
 use Rattle.renumbering.specs.Rows.{naming}
 use Rattle.renumbering.proofs.Spreads.{spread_past, spread_one_to_one, odd_is_spread}
-use Rattle.valid_certificates.proofs.Ends.{unmoved}
 use Rattle.valid_certificates.specs.Peaks.{RedexPlace, MatchesAt, value_or_own, at_redex, AreConditionsAt, IsRedexJudged}
 use Rattle.redex_conditions.specs.Judged.{value_or_new, match_or_new, IsJudgedAt}
 use Rattle.redex_conditions.specs.Redexes.{AreRedexesOf}
@@ -202,7 +201,7 @@ module _ (row : List ℕ) (distinct : AreDistinct row) (t n : Term) (is : t ≡ 
   undone : apply (λ x. var (place_in row x)) t ≡ n
   undone =
       ap (apply (λ x. var (place_in row x))) is ∙ apply-apply (naming row) (λ x. var (place_in row x)) n
-      ∙ apply-agree (compose (naming row) (λ x. var (place_in row x))) var n (λ x o. ap var (first_place x (below x o))) ∙ unmoved n
+      ∙ apply-agree (compose (naming row) (λ x. var (place_in row x))) var n (λ x o. ap var (first_place x (below x o))) ∙ apply-var n
 
   match_there : (sys : System) (p : Position) (i : ℕ) → MatchesAt sys t p i → MatchesAt sys n p i
   match_there sys p i m = subst (λ z. MatchesAt sys z p i) undone (moved_match (λ x. var (place_in row x)) sys t p i m)

@@ -123,13 +123,13 @@ at_root P Q f ts q = record { position = []; part = app f ts; is_part = refl; ha
     before_root [] b = b
     before_root (k ∷ p) b = b
 
+no_argument : (ts : Terms) (s : Term) → argument ts zero ≡ Some s → ⊥
+no_argument nil s e = cc
+no_argument (cons t ts) s e = cc
+
 all_below : (P : Position → Term → Type 0) (f : ℕ) (ts : Terms) → P [] (app f ts) → AllInside P 1 ts → AllSubterms P (app f ts)
 all_below P f ts h all [] u e = subst (P []) (let same : app f ts ≡ u = cc in same) h
 all_below P f ts h all (zero ∷ p) u e = absurd (let w = within (app f ts) zero p u e in no_argument ts w.part w.here)
-  where
-    no_argument : (ts : Terms) (s : Term) → argument ts zero ≡ Some s → ⊥
-    no_argument nil s e = cc
-    no_argument (cons t ts) s e = cc
 all_below P f ts h all (suc k ∷ p) u e =
     let w = within (app f ts) (suc k) p u e in
     let number : 1 + k ≡ suc k = omega arith in
@@ -149,10 +149,6 @@ first_below P Q f ts h i =
     before : (p : Position) (u : Term) → IsBefore p (suc i.number ∷ i.rest) → subterm (app f ts) p ≡ Some u → P p u
     before [] u b e = subst (P []) (let same : app f ts ≡ u = cc in same) h
     before (zero ∷ p) u b e = absurd (let w = within (app f ts) zero p u e in no_argument ts w.part w.here)
-      where
-        no_argument : (ts : Terms) (s : Term) → argument ts zero ≡ Some s → ⊥
-        no_argument nil s e = cc
-        no_argument (cons t ts) s e = cc
     before (suc l ∷ p) u b e =
         let w = within (app f ts) (suc l) p u e in
         let number : 1 + l ≡ suc l = omega arith in

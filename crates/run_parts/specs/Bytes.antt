@@ -1,5 +1,6 @@
 -- What the bytes of files spell.
 use Rattle.std.specs.Prelude.{◌≡◌, ◌≤◌, ℕ, List, length, Option, Some, IfSome}
+use Rattle.run_parts.specs.declared.limits.TheConstants.{FILE_LIMIT, CERT_LIMIT, QUERY_LIMIT}
 use Rattle.rewriting.specs.Rules.{System}
 use Rattle.certificates.specs.Certificates.{Certificate}
 use Rattle.cops_names.specs.NameTable.{NameTable}
@@ -9,13 +10,13 @@ use Rattle.run_parts.specs.Devices.{ShelfRun}
 
 -- no file, no certificate and no query is longer
 abbrev pub most_file_bytes : ℕ
-most_file_bytes = 1048576
+most_file_bytes = FILE_LIMIT
 
 abbrev pub most_cert_bytes : ℕ
-most_cert_bytes = 67108864
+most_cert_bytes = CERT_LIMIT
 
 abbrev pub most_query_bytes : ℕ
-most_query_bytes = 1048576
+most_query_bytes = QUERY_LIMIT
 
 -- the bytes of a file: a set of lists, since a shelf may not tell which they are
 abbrev pub Bytes : Type 1

@@ -11,12 +11,6 @@ use prepared_system::PreparedSystem;
 use std::alloc::Global;
 use term_core::{NoMemory, System};
 
-/// A listing has terms of so many steps.
-pub const STEPS: u32 = 5;
-
-/// Its condition depth.
-pub const COND_DEPTH: u32 = 2;
-
 /// The overlaps of a system, or none where they are refused.
 pub fn overlaps_or_none(
     alloc: Global,

@@ -3,7 +3,6 @@ use Rattle.std.proofs.Common.{ℕ, zero, suc, ◌≡◌, List, [], ◌∷◌, ma
 use Rattle.std.proofs.lemmas.List.{take-map}
 use Rattle.rewriting.specs.Prelude.{System, Head, heads}
 use Rattle.rewriting.proofs.Members.{at_place, one_of_places}
-use Rattle.path_orders.specs.Precedences.{StandsAt}
 use Rattle.path_orders.specs.Dead.{IsPrefix}
 use Rattle.path_orders.proofs.Heads.{heads_distinct}
 use Rattle.term_core.specs.HeadView.{head_view}

@@ -4,6 +4,12 @@
 
 ghost use Rattle.search_spaces.specs.Laws.{OrthoSpacesAreSearchable, OrthoSpacesCostFewUnits, PeakSpacesAreSearchable, WholeSpacesAreSearchable};
 
+/// A listing has terms of so many steps.
+pub const STEPS: u32 = 5;
+
+/// Its condition depth.
+pub const COND_DEPTH: u32 = 2;
+
 /// What a space finds is valid, and nothing in it is valid where it finds nothing; it finds one certificate at most, at one
 /// price, which is at most the cost of the whole; it has one price at most, and there is no space without one. The same holds of the two, one behind the other.
 pub fn spaces_are_searchable()

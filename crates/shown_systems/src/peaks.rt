@@ -12,7 +12,7 @@ use noncon_search::search_peak_over;
 use prepared_system::PreparedSystem;
 use reach::{Entry, ReachStop, reach_in};
 use rule_index::IndexedSystem;
-use search_answers::{COND_DEPTH, STEPS};
+use search_spaces::{COND_DEPTH, STEPS};
 use term_core::{Cond, NoMemory, Term, fits};
 use validity::Search;
 

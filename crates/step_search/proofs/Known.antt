@@ -8,7 +8,6 @@ use Rattle.rewriting.proofs.Once.{same_some}
 use Rattle.rewriting.proofs.Systems.{is_rule_at}
 use Rattle.rewriting.proofs.Members.{at_place}
 use Rattle.certificates.specs.Prelude.{dropped, inlined, Automaton, InfeasibilityEvidence, by_automaton, hypothesis_at, DoConditionsFit}
-use Rattle.cert_model.specs.CertificateView.{simp_view}
 use Rattle.first_found.specs.Items.{GivesNothing}
 use Rattle.judged_evidence.specs.Evidence.{IsInfeasibilityJudged}
 use Rattle.evidence_offers.specs.Growth.{MayGive}

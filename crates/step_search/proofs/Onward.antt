@@ -1,21 +1,19 @@
 -- Round by round.
-use Rattle.std.proofs.Common.{ℕ, ◌≡◌, ◌+◌, ◌<◌, ◌≤◌, List, [], ◌∷◌, ◌++◌, map, refl, sym, ap, ◌∙◌, subst, Ok, Err, arith}
+use Rattle.std.proofs.Common.{ℕ, ◌≡◌, ◌+◌, ◌<◌, List, [], ◌∷◌, ◌++◌, map, refl, sym, ap, ◌∙◌, subst, Ok, Err, arith}
 use Rattle.std.proofs.lemmas.List.{map-append}
 use Rattle.rewriting.specs.Rules.{System}
 use Rattle.cc_count.specs.Counts.{Counts, Spends}
 use Rattle.cc_count.proofs.Spending.{spends_none, spends_both, spends_same}
 use Rattle.first_found.specs.Items.{cost_of, one}
-use Rattle.certificates.specs.Certificates.{Simplification}
 use Rattle.cert_model.specs.CertificateView.{simp_view}
 use Rattle.cert_model.specs.declared.model.Simp.{Simp}
 use Rattle.term_core.specs.declared.terms.NoMemory.{NoMemory}
-use Rattle.simplified_spaces.specs.Tries.{GivesStep, tries, all_tries}
-use Rattle.simplified_spaces.specs.Standard.{AreStandard}
+use Rattle.simplified_spaces.specs.Tries.{tries, all_tries}
 use Rattle.simplified_spaces.specs.Walks.{LeadsOn}
 use Rattle.simplified_spaces.proofs.Tries.{counted, steps_within}
 use Rattle.simplified_spaces.proofs.Walks.{one_more, paid_within, standard_at_end, stopped_short, within_standard}
-use Rattle.simplify.specs.Changes.{after, IsChangeOf}
-use Rattle.step_search.specs.Answers.{WalkAnswers, Finds, RunsOut, AreWithinTries, FindAnswers}
+use Rattle.simplify.specs.Changes.{after}
+use Rattle.step_search.specs.Answers.{WalkAnswers, Finds, RunsOut, AreWithinTries}
 use Rattle.step_search.specs.declared.tries.Made.{Made}
 use Rattle.cc_count.specs.declared.Sought.TheVariants.{Found, Nothing, Spent}
 

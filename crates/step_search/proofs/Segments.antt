@@ -1,11 +1,10 @@
 -- Walks over parts of a list of tries, one after the other.
-use Rattle.std.proofs.Common.{◌≡◌, ℕ, ◌+◌, ◌<◌, ◌≤◌, refl, sym, ap, ◌∙◌, subst, List, [], ◌∷◌, ◌++◌, Option, Some, None, Ok, Err, arith, append_assoc}
+use Rattle.std.proofs.Common.{◌≡◌, ◌+◌, refl, sym, ap, ◌∙◌, subst, List, [], ◌∷◌, ◌++◌, Some, None, Ok, Err, arith, append_assoc}
 use Rattle.rewriting.specs.Rules.{System}
 use Rattle.cc_count.specs.Counts.{Counts, Spends}
 use Rattle.cc_count.proofs.Spending.{spends_none, spends_both}
-use Rattle.first_found.specs.Items.{NoneGives, IsFirst, IsStopped, cost_of, one}
+use Rattle.first_found.specs.Items.{NoneGives, cost_of, one}
 use Rattle.first_found.proofs.Items.{cost_append, none_append}
-use Rattle.certificates.specs.Certificates.{Simplification}
 use Rattle.term_core.specs.declared.terms.NoMemory.{NoMemory}
 use Rattle.simplified_spaces.specs.Tries.{Try, GivesStep}
 use Rattle.step_search.specs.Answers.{TryAnswers, WalkAnswers}

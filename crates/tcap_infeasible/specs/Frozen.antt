@@ -1,7 +1,7 @@
 -- What the parts of a cap answer: holes are numbered from n on, and variables that stay are constants.
 use Rattle.std.specs.Prelude.{ℕ, ◌≡◌, ◌+◌, ◌<◌, ◌≤◌, ◌^◌, true, List, length, Result, Ok, Err}
 use Rattle.rewriting.specs.Terms as math
-use Rattle.rewriting.specs.Prelude.{Fits, Terms, var, nil, cons, Substitution, occurs, System}
+use Rattle.rewriting.specs.Prelude.{Fits, var, nil, cons, Substitution, occurs, System}
 use Rattle.rule_index.specs.Roots.{has_root}
 use Rattle.unifier_run.specs.Run.{Binding, unifier, clash, too_large, IsOutcome}
 use Rattle.unifier_run.specs.Irreducible.{DoRulesClash, IsFirstRule}

@@ -3,13 +3,8 @@ ghost use Rattle.std.specs.Prelude.{◌≡◌, ◌≤◌, ◌<◌, ◌+◌, ◌�
 ghost use Rattle.rewriting.specs.Terms as math;
 ghost use Rattle.term_core.specs.View.{view};
 
+pub use rewriting::{MAX_DEPTH, MAX_NODES};
 use std::alloc::{AllocError, AllocFailed, Global};
-
-/// The greatest number of nodes of a term that fits.
-pub const MAX_NODES: u32 = 10_000;
-
-/// The greatest depth of a term that fits.
-pub const MAX_DEPTH: u32 = 400;
 
 /// A term: a variable, or a symbol with its arguments, both by number.
 #[derive(Debug, Drop)]

@@ -3,14 +3,12 @@ ghost use Rattle.cert_model.specs.EvidenceView.{automaton_view};
 ghost use Rattle.refuter.specs.Answers.{RefutesAnswers};
 ghost use Rattle.tree_automata.specs.Open.{IsWidthJudged};
 
+pub(crate) use automata::MOST_CHOICES as MAX_CHOICES;
 use automaton_runs::{has_more_choices, occurrences};
 use cert_model::{Automaton, EvidenceReason};
 use refuter::Refusal;
 use std::alloc::Global;
 use term_core::System;
-
-/// The most choices of states for the variable occurrences of a term that are looked at.
-pub(crate) const MAX_CHOICES: u32 = 1_000_000;
 
 // Whether no left side is wide, or the first rule whose left side is.
 pub(crate) fn judge_widths(alloc: Global, sys: &System, a: &Automaton) -> Result<(), Refusal>

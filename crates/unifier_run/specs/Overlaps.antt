@@ -1,6 +1,7 @@
 -- The list of a system's overlaps: a set of triples, sorted, each with its conditional critical pair under the unifier of
 -- the run (after Ohlebusch, Advanced Topics in Term Rewriting, chapter 7).
 use Rattle.std.specs.Prelude.{ℕ, ◌≡◌, ◌≤◌, ◌⊎◌, List, length}
+use Rattle.unifier_run.specs.declared.TheConstants.{MOST_OVERLAPS}
 use Rattle.rewriting.specs.Prelude.{IsAmong, IsSorted, Term, nil, cons, Fits, Position, apply, even, odd, Rule, System, sides, Each, IsEarlierOverlap, IsPlace, CriticalPair, IsCriticalPair}
 use Rattle.unifier_run.specs.Run.{Binding, value, Outcome, unifier, clash, too_large, IsOutcome}
 
@@ -62,22 +63,22 @@ pub record AreOverlapsAt (sys : System) (Counts : Triple → Type 0) (os : List 
   pub whole : (i : ℕ) (p : Position) (j : ℕ) (inner outer : Rule) (part : Term) → IsPlace sys i p j inner outer part → Counts (i, (p, j))
       → IsOutcomeOf inner.left part clash ⊎ ((o : Overlap) × IsAmong o os × (triple o ≡ (i, (p, j))))
 
--- those at all triples, at most 20,000
+-- those at all triples, no more than may be
 pub record AreOverlaps (sys : System) (os : List Overlap) : Type 0 where
   pub are : AreOverlapsAt sys (λ t. Unit {0}) os
-  pub few : length os ≤ 20000
+  pub few : length os ≤ MOST_OVERLAPS
 
--- (i, p, j) is the first triple that is too large, and there are at most 20,000 overlaps before it
+-- (i, p, j) is the first triple that is too large, and no more overlaps before it than may be
 pub record IsPairTooLarge (sys : System) (i : ℕ) (p : Position) (j : ℕ) : Type 0 where
   pub is_large : IsTooLargeAt sys i p j
   pub before : List Overlap
   pub are_before : AreOverlapsAt sys (λ t. IsEarlierOverlap t (i, (p, j))) before
-  pub few : length before ≤ 20000
+  pub few : length before ≤ MOST_OVERLAPS
 
--- there is an overlap with 20,000 before it, and no triple before it is too large
+-- there is an overlap with as many before it as may be, and no triple before it is too large
 pub record AreTooManyOverlaps (sys : System) : Type 0 where
   pub next : Overlap
   pub is_overlap : IsOverlapOf sys next
   pub before : List Overlap
   pub are_before : AreOverlapsAt sys (λ t. IsEarlierOverlap t (triple next)) before
-  pub many : length before ≡ 20000
+  pub many : length before ≡ MOST_OVERLAPS

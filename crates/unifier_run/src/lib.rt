@@ -4,6 +4,9 @@
 ghost use Rattle.unifier_run.specs.Laws.{MapsHaveTheValues, OutcomesAreUnique, UnifiersAreMostGeneral, UnifiersAreIdempotent, ClashesHaveNoUnifier};
 ghost use Rattle.unifier_run.specs.Totality.{RunsHaveOutcomes, TermsAreJudged, OverlapsAreDefined};
 
+/// Most overlaps of a system.
+pub const MOST_OVERLAPS: usize = 20_000;
+
 /// A run has at most one outcome. Its unifier is most general and idempotent, and a clash means that
 /// there is none (Baader and Nipkow, Term Rewriting and All That, section 4.6).
 pub fn laws_of_runs()

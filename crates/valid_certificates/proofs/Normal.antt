@@ -4,7 +4,7 @@ use Rattle.std.specs.FinMap.{get, empty, get-empty}
 use Rattle.rewriting.specs.Prelude.{AreApart, IsInfeasible, IsIrreducible, conditions_under}
 use Rattle.rewriting.proofs.Common.{Relation, Star, done, more, Term, var, Position, subterm, Substitution, Bindings, apply, values_of, occurs, Condition, Rule, System, Meets}
 use Rattle.rewriting.proofs.Common.{Contraction, Step, Steps, Rewrites}
-use Rattle.rewriting.proofs.Instances.{apply-apply, apply-agree, apply-agree_back}
+use Rattle.rewriting.proofs.Instances.{apply-apply, apply-agree, apply-agree_back, apply-var}
 use Rattle.rewriting.proofs.Levels.{level, Meets-mono, levels_of_steps}
 use Rattle.rewriting.proofs.Conditions.{no_feasible}
 use Rattle.rewriting.proofs.Matching.{solved_instance}
@@ -12,7 +12,6 @@ use Rattle.rewriting.proofs.Unifiers.{both, apply-even, apply-odd, both_over}
 use Rattle.rewriting.proofs.LeastMatches.{least_needs}
 use Rattle.certificates.specs.Judging.{RuleMatches}
 use Rattle.valid_certificates.specs.Peaks.{MatchesAt, RedexPlace, value_or_own, at_redex, AreConditionsAt}
-use Rattle.valid_certificates.proofs.Ends.{unmoved}
 
 -- what meets conditions, met through r and d
 meets_through : (S : Relation Term) (r s d : Substitution) → ((u : Term) → apply s u ≡ apply d (apply r u)) → (cs : List Condition) → Meets S s cs → Meets S d (conditions_under r cs)
@@ -21,7 +20,7 @@ meets_through S r s d same (c ∷ cs) (h, hs) = (subst₂ S (same c.left) (same 
 
 -- the values of a step at the even variables, and the term's variables themselves at the odd ones, turn the values at a redex into those of the step
 value_there : (by : Substitution) (k : ℕ) (o : Option Term) → ((t : Term) → o ≡ Some t → t ≡ by k) → apply (both by var) (value_or_own k o) ≡ by k
-value_there by k (Some t) h = apply-odd by var t ∙ unmoved t ∙ h t refl
+value_there by k (Some t) h = apply-odd by var t ∙ apply-var t ∙ h t refl
 value_there by k None h = apply-even by var (var k)
 
 module _ (p : Term) (m : Bindings) (by : Substitution) (same : apply (values_of m) p ≡ apply by p) (within : (x : ℕ) (t : Term) → get m x ≡ Some t → occurs x p ≡ true) where

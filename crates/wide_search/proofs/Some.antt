@@ -8,7 +8,7 @@ use Rattle.reach_lists.specs.Lists.{is_listed}
 use Rattle.reach_lists.specs.Laws.{EachOf, IsWithoutRepetition}
 use Rattle.reach_lists.specs.Solutions.{Reached}
 use Rattle.noncon_search.specs.declared.ends.End.{End}
-use Rattle.noncon_search.specs.Ends.{end_view, ends_view, IsEnd, NeverClash, AreMet, AreEnds}
+use Rattle.noncon_search.specs.Ends.{end_view, ends_view, IsEnd, AreMet, AreEnds}
 
 each_without : {A : Type 0} (P : A → Type 0) (before : List A) (x : A) (rest : List A) → EachOf P (before ++ x ∷ rest) → EachOf P (before ++ rest)
 each_without P [] x rest (h, hs) = hs

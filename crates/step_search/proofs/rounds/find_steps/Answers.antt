@@ -1,4 +1,4 @@
-use Rattle.std.proofs.Common.{Ok, Err, sym, subst}
+use Rattle.std.proofs.Common.{Ok, subst}
 use Rattle.simplified_spaces.specs.Tries.{tries}
 use Rattle.step_search.specs.Answers.{WalkAnswers}
 use Rattle.step_search.proofs.Onward.{goes_on, finds, runs_out, fails, fails_found, walk_pays}

@@ -1,4 +1,4 @@
-use Rattle.std.proofs.Common.{◌≡◌, ◌+◌, ◌*◌, ◌<◌, ◌≤◌, suc, List, [], ◌∷◌, ◌++◌, map, take, drop, length, Ok, Err, refl, sym, ap, ◌∙◌, subst, arith}
+use Rattle.std.proofs.Common.{suc, [], ◌∷◌, map, take, drop, Ok, sym, ◌∙◌, subst, arith}
 use Rattle.term_core.specs.RuleView.{condition_view}
 use Rattle.simplifications.proofs.Rules.{split_at}
 use Rattle.simplified_spaces.specs.Tries.{tries_of}

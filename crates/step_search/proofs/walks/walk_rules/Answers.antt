@@ -1,7 +1,6 @@
-use Rattle.std.proofs.Common.{◌≡◌, ◌+◌, ◌*◌, ◌<◌, ◌≤◌, suc, List, [], ◌∷◌, ◌++◌, map, take, drop, length, slice_get, Some, add-one, Ok, Err, refl, sym, ap, ◌∙◌, subst, arith}
+use Rattle.std.proofs.Common.{◌≡◌, ◌+◌, suc, map, take, drop, slice_get, Some, add-one, Ok, sym, ap, ◌∙◌, subst, arith}
 use Rattle.std.proofs.lemmas.List.{take_all, length-map}
 use Rattle.general_lemmas.proofs.Places.{slice_get-map_read}
-use Rattle.rewriting.specs.Rules.{rule_at}
 use Rattle.term_core.specs.RuleView.{rule_view}
 use Rattle.simplified_spaces.specs.Tries.{tries, tries_of, tries_from}
 use Rattle.step_search.specs.Answers.{WalkAnswers}

@@ -1,4 +1,4 @@
-use Rattle.std.proofs.Common.{drop, subst}
+use Rattle.std.proofs.Common.{subst}
 use Rattle.reach.specs.Parts.{DoAllFit}
 use Rattle.reach.specs.EntryView.{entry_view}
 use Rattle.general_lemmas.proofs.Places.{map-drop_read}
