@@ -9,6 +9,7 @@ ghost use Rattle.cert_words.specs.declared.reading.Reading as read;
 ghost use Rattle.cert_words.specs.Words.{told};
 ghost use Rattle.cert_words.specs.Walks.{Reads, IsStuckAt, BeginsAnew, IsStuckBehind};
 
+use crate::demands::BOUND;
 use crate::error::{CertCount, CertError};
 use crate::leads::{Lead, front, stuck};
 use crate::reading::Reading;
