@@ -56,9 +56,6 @@ body_read old mid new n j e z = let i = subst (λ (k : ℕ). IsInside old mid k)
 pub record ArePassed (old new : List Sign) : Type 0 where
   pub goes_on : (k : List Sign) → IsBehindMetas new k → IsBehindMetas old k
 
-pub none_behind : (ws : List Sign) → IsBehindMetas ws ws
-none_behind ws = record { metas = []; matched = tt; words = refl }
-
 pub passed_more : (old mid opened named new : List Sign) (f : List ℕ) → ArePassed old mid → mid ≡ opening ∷ opened → opened ≡ name f ∷ named → f ≡ codes "meta-info"
     → IsBodyRead named new → ArePassed old new
 passed_more old mid opened named new f p e g t b = record {
@@ -69,6 +66,3 @@ passed_more old mid opened named new f p e g t b = record {
         (b.words ∙ ap (λ (ws : List Sign). b.inside ++ closing ∷ ws) h.words));
   };
 }
-
-pub end_read : (old mid : List Sign) → ArePassed old mid → mid ≡ [] → IsBehindMetas old []
-end_read old mid p e = p.goes_on [] (subst (λ (ws : List Sign). IsBehindMetas ws []) (sym e) (none_behind []))

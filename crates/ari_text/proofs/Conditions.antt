@@ -1,5 +1,5 @@
 -- Conditions of a rule, one after the other.
-use Rattle.std.proofs.Common.{◌≡◌, ℕ, List, [], ◌∷◌, ◌++◌, Option, Some, None, refl, sym, ap, ◌∙◌, subst, codes}
+use Rattle.std.proofs.Common.{◌≡◌, ℕ, List, [], ◌∷◌, ◌++◌, Option, Some, refl, sym, ap, ◌∙◌, subst, codes}
 use Rattle.std.specs.Prelude.{option_map, unwrap_or}
 use Rattle.file_text.specs.Syntax.{ConditionTree, Guard, guarded, flat}
 use Rattle.cops_syntax.specs.declared.tree.Node.{Node}
@@ -12,9 +12,6 @@ use Rattle.ari_text.specs.Reads.{IsTermRead, IsConditionRead, guard_of, AreCondi
 
 abbrev place_of : Option Guard → Option ℕ
 place_of g = option_map (λ (x : Guard). x.at) g
-
-pub no_conditions : (ws : List Sign) → AreConditionsSoFar ws ws None []
-no_conditions ws = record { at = 0; trees = []; words = refl; placed = refl; are = tt }
 
 are_more : (cs : List CondText) (ts : List ConditionTree) (c : CondText) (t : ConditionTree) → AreConditions cs ts → IsCondition c t → AreConditions (cs ++ c ∷ []) (ts ++ t ∷ [])
 are_more [] [] c t h i = (i, tt)
@@ -43,18 +40,6 @@ one_condition_more old mid opened new bar place cs c s e r =
       placed = p.1;
       are = are_more cs s.trees c r.tree s.are r.is;
     }
-
-pub conditions_read : (old mid new : List Sign) (bar : Option ℕ) (left right : List Node) (r : RuleText)
-    → AreConditionsSoFar old mid bar r.conditions.items → mid ≡ closing ∷ new → r.left.items ≡ left → r.right.items ≡ right → r.bar ≡ bar → AreConditionsRead old new left right r
-conditions_read old mid new bar left right r s e l m b = record {
-  at = s.at;
-  trees = s.trees;
-  words = s.words ∙ ap (conditions_signs s.trees) e;
-  left_is = l;
-  right_is = m;
-  placed = b ∙ s.placed;
-  are = s.are;
-}
 
 guarded_is : (at : ℕ) (ts : List ConditionTree) → guarded (guard_of at ts) ≡ ts
 guarded_is at [] = refl

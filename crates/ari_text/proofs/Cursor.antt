@@ -1,5 +1,5 @@
 -- The next word of a list.
-use Rattle.std.proofs.Common.{◌≡◌, ℕ, zero, suc, ◌+◌, ◌<◌, ◌≤◌, List, [], ◌∷◌, length, get_or, drop, refl, ap, arith, add-one, subst}
+use Rattle.std.proofs.Common.{◌≡◌, ℕ, zero, suc, ◌+◌, ◌<◌, List, [], ◌∷◌, length, get_or, drop, refl, ap, arith, add-one, subst}
 use Rattle.ari_text.specs.declared.words.Word.{Word}
 use Rattle.ari_text.specs.Signs.{sign_of, signs_of}
 
@@ -13,9 +13,3 @@ taken (x ∷ xs) (suc at) w lt e = taken xs at w (omega arith) e
 
 pub next_word : (ws vs : List Word) (at : ℕ) (w : Word) → vs ≡ ws → at < length vs → w ≡ get_or vs at w → drop at (signs_of ws) ≡ sign_of w ∷ drop (at + 1) (signs_of ws)
 next_word ws vs at w q lt e = subst (λ (us : List Word). drop at (signs_of us) ≡ sign_of w ∷ drop (at + 1) (signs_of us)) q (rw add-one (taken vs at w lt e))
-
-pub no_word : (ws : List Word) (at : ℕ) → length ws ≤ at → drop at (signs_of ws) ≡ []
-no_word [] zero le = refl
-no_word [] (suc at) le = refl
-no_word (x ∷ xs) zero le = absurd (omega arith)
-no_word (x ∷ xs) (suc at) le = no_word xs at (omega arith)

@@ -1,5 +1,5 @@
 -- Functions and rules, one after the other.
-use Rattle.std.proofs.Common.{◌≡◌, ℕ, List, [], ◌∷◌, ◌++◌, codes, refl, sym, ap, ◌∙◌, subst, append_assoc, append-nil}
+use Rattle.std.proofs.Common.{◌≡◌, ℕ, List, [], ◌∷◌, ◌++◌, codes, sym, ap, ◌∙◌, subst, append_assoc, append-nil}
 use Rattle.file_text.specs.Syntax.{RuleTree}
 use Rattle.cops_syntax.specs.declared.tree.RuleText.{RuleText}
 use Rattle.cops_syntax.specs.View.{IsRule, AreRules}
@@ -26,10 +26,6 @@ are_more (q ∷ qs) (u ∷ us) r t h i = (h.0, are_more qs us r t h.1 i)
 not_empty : (ts : List RuleTree) (t : RuleTree) → ts ++ t ∷ [] ≡ [] → ⊥
 not_empty [] t e = cc
 not_empty (u ∷ us) t e = cc
-
-no_trees : (ts : List RuleTree) → AreRules [] ts → ts ≡ []
-no_trees [] h = refl
-no_trees (t ∷ ts) h = absurd h
 
 pub one_rule_more : (ws mid named new : List Sign) (fs : Functions) (rs : List RuleText) (f : List ℕ) (r : RuleText)
     → ArePartsSoFar ws mid fs rs → IsBehindMetas mid (opening ∷ name f ∷ named) → f ≡ codes "rule" → IsRuleRead named new r → ArePartsSoFar ws new fs (rs ++ r ∷ [])

@@ -160,9 +160,6 @@ first_byte (x ∷ xs) behind lt q = ap (λ (ys : List ℕ). x ∷ ys) (sym q)
 
 -- ---- words so far
 
-pub pushed_none : (ws : List Word) → IsPushed ws ws None
-pushed_none ws = record { words = λ vs. refl }
-
 -- words up to a place, and what goes on with them
 pub record IsSpeltTo (bytes : List ℕ) (words : List Word) (at : ℕ) : Type 0 where
   pub within : at ≤ length bytes

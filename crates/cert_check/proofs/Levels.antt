@@ -38,18 +38,6 @@ pub record StandsBehind (sys : System) (c : Certificate) (last : System) (body :
   pub confluent : IsConfluent last → IsConfluent sys
   pub apart : IsPeakApart last body → IsPeakApart sys c
 
-pub none_before : (sys last : System) (c : Certificate) → last ≡ sys → IsSystem sys → CanBeJudged sys c → StandsBehind sys c last c
-none_before sys last c e good judged =
-    subst (λ s. StandsBehind sys c s c) (sym e) (record {
-      system = good;
-      judged = judged;
-      valid = λ h. h;
-      rejected = λ r h. h;
-      verdict = refl;
-      confluent = λ h. h;
-      apart = λ h. h;
-    })
-
 -- a peak behind good steps is one before them
 pub apart_before : (sys next : System) (steps : List Simplification) (body : Certificate) → IsSystem sys → AllSimplify sys steps next → IsPeakApart next body
     → IsPeakApart sys (simplified_certificate steps body)

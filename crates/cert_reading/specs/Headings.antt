@@ -28,10 +28,6 @@ item_by v Ortho = pairs_from v 1
 item_by v Quasi = measure v
 item_by v Peak = start_line v
 
--- the lines before the body
-abbrev pub heading_marks : Option Bool → Kind → List Mark
-heading_marks given kind = answer_marks given ++ (fixed (codes "concon 1\n") ∷ kind_mark given kind ∷ fixed (codes "\n") ∷ [])
-
 -- the number of the entry behind those of a measure
 abbrev pub entries_of : MeasureCertificate → ℕ
 entries_of (linear_measure es) = suc (length es)

@@ -1,5 +1,5 @@
 -- The words of the code as the definitions see them.
-use Rattle.std.specs.Prelude.{◌≡◌, ◌≤◌, ℕ, true, List, [], ◌∷◌, length, take, drop, Option, Some, None, Result, Ok, Err}
+use Rattle.std.specs.Prelude.{◌≡◌, ◌≤◌, ℕ, true, List, [], ◌∷◌, length, take, drop, Option, Some, None}
 use Rattle.cert_words.specs.declared.scans.Mode as mode
 use Rattle.cert_words.specs.declared.scans.Mode.TheVariants as reading
 use Rattle.cert_words.specs.declared.leads.Lead as lead
@@ -74,8 +74,3 @@ told refusing.NoMemory = None
 abbrev pub IsTold : Option (CertificateCause × ℕ) → Option (CertificateCause × ℕ) → Type 0
 IsTold wanted None = Unit {0}
 IsTold wanted (Some r) = wanted ≡ Some r
-
--- a word is let through, or refused
-abbrev pub Judges : {A : Type 0} → Option (CertificateCause × ℕ) → Result A errors.CertError → Type 0
-Judges wanted (Ok x) = wanted ≡ None
-Judges wanted (Err e) = IsTold wanted (told e)

@@ -84,16 +84,6 @@ unnamed names reason h = refl
 
 -- the answer to the bytes of a certificate is one to its file
 module _ (cert : Bytes) (failed : Type 0) (sys : System) (names : NameTable) (bytes : List ℕ) (f : cert bytes) (short : length bytes ≤ most_cert_bytes) where
-  pub cert_refused : (e : CertError) → BytesAnswers sys names bytes (Err (bytes_error.Cert e)) → CertificateAnswers cert failed sys names (Err (no_verdict.CertRefused e))
-  cert_refused (cert_causes.CertSyntax at) h = (bytes, f, (short, h.1))
-  cert_refused (cert_causes.UnknownName at) h = (bytes, f, (short, h.1))
-  cert_refused (cert_causes.WrongArity at) h = (bytes, f, (short, h.1))
-  cert_refused (cert_causes.BadNumber at) h = (bytes, f, (short, h.1))
-  cert_refused (cert_causes.BadShare at) h = (bytes, f, (short, h.1))
-  cert_refused (cert_causes.CertTooDeep at) h = (bytes, f, (short, h.1))
-  cert_refused (cert_causes.TooMany what at) h = (bytes, f, (short, h.1))
-  cert_refused cert_causes.NoMemory h = tt
-
   pub cert_rejected : (reason : reasons.Rejected) → BytesAnswers sys names bytes (Err (bytes_error.Rejected reason))
       → CertificateAnswers cert failed sys names (Err (no_verdict.Rejected (Some names) reason))
   cert_rejected reason h = (h.0, (bytes, f, short, h.1), h.2, named names h.0 (rejected_view reason) h.3)

@@ -102,12 +102,6 @@ module _ (m : Substitution) (p : Position) (inner outer : Rule) (pair : Critical
         conditions = subst (λ z. Each Fits (sides z)) (sym made.conditions) (fit_append _ _ cs ds);
       }
 
-  pub both_of : DoesPairFit pair → Fits (apply m outer.left) × Fits pair.left
-  both_of f = (subst Fits made.source f.source, f.left)
-
-  pub right_of : DoesPairFit pair → Fits (apply m outer.right)
-  right_of f = subst Fits made.right f.right
-
   pub inner_of : DoesPairFit pair → Each Fits (sides (conditions_under m inner.conditions))
   inner_of f = fit_left _ (conditions_under m outer.conditions) (subst (λ z. Each Fits (sides z)) made.conditions f.conditions)
 

@@ -1,5 +1,5 @@
 -- The numbers that the rules of an earlier system have now, one after the other.
-use Rattle.std.proofs.Common.{ℕ, zero, suc, ◌≡◌, ◌<◌, ◌≤◌, ◌-◌, ◌⊎◌, inl, inr, List, [], ◌∷◌, length, get_or, set, replicate, Option, Some, None, IfSome, refl, sym, ap, ◌∙◌, subst, arith}
+use Rattle.std.proofs.Common.{ℕ, zero, suc, ◌≡◌, ◌<◌, ◌≤◌, ◌-◌, ◌⊎◌, inl, inr, List, [], ◌∷◌, length, get_or, set, Option, Some, None, IfSome, refl, sym, ap, ◌∙◌, subst, arith}
 use Rattle.std.proofs.lemmas.List.{length-set, get_or-set_same, get_or-set_other}
 use Rattle.general_lemmas.proofs.Numbers.{le_or_next}
 use Rattle.rewriting.specs.Rules.{System}
@@ -10,23 +10,6 @@ use Rattle.critical_pairs.proofs.Origins.{in_order, rule_inside, one_number}
 pub record AreFirstNumbers (os now : List (Option ℕ)) (n : ℕ) : Type 0 where
   pub sound : (i m : ℕ) → number_at now m ≡ Some i → number_at os i ≡ Some m
   pub whole : (i m : ℕ) → i ≤ n → number_at os i ≡ Some m → number_at now m ≡ Some i
-
-no_item : (n k i : ℕ) → get_or (replicate n None) k None ≡ Some i → ⊥
-no_item zero k i e = cc
-no_item (suc n) zero i e = cc
-no_item (suc n) (suc k) i e = no_item n k i e
-
-no_number : (n m i : ℕ) → number_at (replicate n None) m ≡ Some i → ⊥
-no_number n zero i e = cc
-no_number n (suc k) i e = no_item n k i e
-
-pub none_yet : (os now : List (Option ℕ)) (n : ℕ) → now ≡ replicate n None → AreFirstNumbers os now 0
-none_yet os now n e =
-    record { sound = λ i m h. absurd (no_number n m i (subst (λ z. number_at z m ≡ Some i) e h)); whole = λ i m small h. absurd (zero_none i m small h) }
-  where
-    zero_none : (i m : ℕ) → i ≤ 0 → number_at os i ≡ Some m → ⊥
-    zero_none zero m small h = cc
-    zero_none (suc i) m small h = absurd (omega (arith, small))
 
 -- the next rule has no origin
 pub no_origin : (os now : List (Option ℕ)) (n : ℕ) → number_at os (suc n) ≡ None → AreFirstNumbers os now n → AreFirstNumbers os now (suc n)

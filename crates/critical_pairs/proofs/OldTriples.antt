@@ -198,16 +198,3 @@ module _ (sys : System) (os : List (Option ℕ)) where
         go [] h none (inr (q, m, e)) = absurd m
         go (o ∷ qs) h none (inr (q, inl s, e)) = absurd (none o qs refl (ap triple (sym s) ∙ e))
         go (o ∷ qs) h none (inr (q, inr m, e)) = absurd (behind o q (before_one ComesBefore o q qs h.sorted.0 m) e (none o qs refl) (h.each o (inl refl)).1.1)
-
-    -- the first triple is new
-    pub ahead_of_new : (IsOld os t → ⊥) → (qs : List Overlap) → Ahead sys os (t ∷ ts) qs → Ahead sys os ts qs
-    ahead_of_new new qs h =
-        record {
-          each = λ q m. (let is = h.each q m in (is.0, (is.1.0, later q is.1.0 is.1.1)));
-          sorted = h.sorted;
-          whole = λ i p j inner outer part place c. h.whole i p j inner outer part place (c.0, inr c.1);
-        }
-      where
-        later : (q : Overlap) → IsOld os (triple q) → (triple q ≡ t) ⊎ IsAmong (triple q) ts → IsAmong (triple q) ts
-        later q old (inl s) = absurd (new (subst (IsOld os) s old))
-        later q old (inr k) = k

@@ -12,7 +12,7 @@ use Rattle.critical_pairs.specs.Kept.{AreKnown, AreNumbersNow, renumbered, IsOld
 use Rattle.critical_pairs.specs.declared.Overlap as Made
 use Rattle.critical_pairs.specs.declared.kept.Kept.{Kept}
 use Rattle.critical_pairs.proofs.Passing.{pass_none, pass_one}
-use Rattle.critical_pairs.proofs.OldTriples.{Ahead, kept_overlaps, ahead_passed, ahead_taken, next_clashes, ahead_of_new}
+use Rattle.critical_pairs.proofs.OldTriples.{Ahead, kept_overlaps, ahead_passed, ahead_taken, next_clashes}
 use Rattle.critical_pairs.proofs.Whole.{one_last}
 
 -- one more of the earlier list
@@ -68,7 +68,3 @@ module _ (sys : System) (i : ℕ) (p : Position) (j : ℕ) (later : List Triple)
             (ahead_passed sys before.origins.now ((i, (p, j)) ∷ later) later (map overlap_view before.overlaps.items)
             (pass_one sys ((i, (p, j)) ∷ later) later (i, (p, j)) (pass_none sys ((i, (p, j)) ∷ later)) (none_there none)) h.overlaps));
       }
-
--- at a new one
-pub kept_at_new : (sys : System) (t : Triple) (later : List Triple) (k : Kept) → (IsOld k.origins.now t → ⊥) → AreKept sys (t ∷ later) k → AreKept sys later k
-kept_at_new sys t later k new h = record { order = h.order.1; overlaps = ahead_of_new sys k.origins.now t later h.order new (map overlap_view k.overlaps.items) h.overlaps }

@@ -18,4 +18,3 @@ pub mod Files
 pub mod Refused
 pub mod RefusedFiles
 pub mod TextLaws
-pub mod CodeSteps

@@ -161,7 +161,6 @@ pub oriented_name : IsName (codes "ORIENTED")
 unfolding run_len
 oriented_name = record { some = omega arith; whole = refl; short = omega arith }
 
-pub join_name : IsName (codes "JOIN")
 unfolding run_len
 join_name = record { some = omega arith; whole = refl; short = omega arith }
 

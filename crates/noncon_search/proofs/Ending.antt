@@ -20,22 +20,15 @@ use Rattle.cc_count.specs.Counts.{Counts, Spends}
 use Rattle.first_found.specs.Items.{cost_of}
 use Rattle.first_found.specs.Spaces.{spent, MayEndExactly}
 use Rattle.search_spaces.specs.PeakItems.{peak_item_cost, peak_items_of, peak_items}
-use Rattle.search_spaces.specs.Peak.{ArePeakItems, IsPeakCost, peak_space}
+use Rattle.search_spaces.specs.Peak.{ArePeakItems, peak_space}
 use Rattle.search_spaces.proofs.Peak.{peak_searched, peak_ends_found, peak_ends_none, peak_ends_spent}
 use Rattle.search_answers.specs.Given.{IsOverlapList}
-use Rattle.search_answers.specs.Answers.{Searches, ending_of, IfFound, IfNothing}
+use Rattle.search_answers.specs.Answers.{Searches, ending_of, IfNothing}
 use Rattle.noncon_search.specs.Answers.{WalkAnswers, StartsAnswer}
 use Rattle.noncon_search.proofs.Walking.{begins, goes_on, ends, last_part}
 use Rattle.noncon_search.proofs.Listed.{rule_starts, source_starts}
 
 module _ (names : NameTable) (sys : System) where
-  -- what is found is valid, and where nothing is, nothing in the space is
-  pub found_valid : (before after : Counts) (r : Result Search NoMemory) → Searches ending_of (MayEndExactly (peak_space names sys)) before after r → IfFound ending_of r (IsValid sys)
-  found_valid before after (Ok (Found c)) (n, s, f) = ((peak_searched names sys).held (certificate_view c) n f).1
-  found_valid before after (Ok Nothing) h = tt
-  found_valid before after (Ok Spent) h = tt
-  found_valid before after (Err e) h = tt
-
   pub nothing_valid : (before after : Counts) (r : Result Search NoMemory) → Searches ending_of (MayEndExactly (peak_space names sys)) before after r
       → IfNothing ending_of r ((c : Certificate) → (peak_space names sys).Holds c → IsValid sys c → ⊥)
   nothing_valid before after (Ok (Found c)) h = tt
@@ -53,18 +46,6 @@ module _ (names : NameTable) (sys : System) where
         let all : n ≡ before.left = omega (arith, units, end) in
         (n, s, subst (λ left. MayEndExactly (peak_space names sys) left n spent) all (peak_ends_spent names sys items are n stopped))
     walk_searched (Err e) h = tt
-
-    pub walk_paid : (r : Result Search NoMemory) → StartsAnswer names sys before after r → IfNothing ending_of r ((n : ℕ) × Spends before n after × IsPeakCost sys n)
-    walk_paid (Ok (Found c)) h = tt
-    walk_paid (Ok Nothing) (items, are, (s, none)) = (cost_of peak_item_cost items, s, (items, are, refl))
-    walk_paid (Ok Spent) h = tt
-    walk_paid (Err e) h = tt
-
-    pub walk_kept : (r : Result Search NoMemory) → StartsAnswer names sys before after r → (n : ℕ) × Spends before n after
-    walk_kept (Ok (Found c)) (items, are, (n, s, f)) = (n, s)
-    walk_kept (Ok Nothing) (items, are, (s, none)) = (cost_of peak_item_cost items, s)
-    walk_kept (Ok Spent) (items, are, (n, s, end, stopped)) = (n, s)
-    walk_kept (Err e) (items, are, h) = h
 
 -- the items of all starts
 module _ (sys : System) (rs : List Rule) (same : map rule_view rs ≡ sys.rules) where

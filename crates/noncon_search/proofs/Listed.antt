@@ -2,7 +2,7 @@
 use Rattle.std.proofs.Common.{ℕ, zero, suc, ◌≡◌, ◌+◌, ◌<◌, inl, inr, List, [], ◌∷◌, ◌++◌, map, length, get_or, take, drop, ◌-◌, length-drop, refl, sym, ap, ◌∙◌, subst, add-one, arith}
 use Rattle.std.specs.Prelude.{false, ◌||◌}
 use Rattle.std.proofs.lemmas.List.{take_all}
-use Rattle.std.proofs.lemmas.Bool.{false≢true, or_parts, or_from}
+use Rattle.std.proofs.lemmas.Bool.{false≢true, or_parts}
 use Rattle.rewriting.specs.Prelude.{IsAmong, Term, Fits, System, Signature, AreRules, is_same}
 use Rattle.rewriting.specs.Rules as math_rules
 use Rattle.rewriting.proofs.Tests.{equal_same}
@@ -65,17 +65,6 @@ pub first_of_rest : {A : Type 0} (P : A → Type 0) (xs : List A) (i : ℕ) (x :
 first_of_rest P xs i x h e each = subst (EachOf P) (rest_splits xs i x h e) each
 
 module _ (sys : System) (t : Term) where
-  -- an end with the next of the later ones, and with those behind that
-  pub next_two : (x y : End) (rest : List End) → AreEnds sys t (x ∷ y ∷ rest) → AreEnds sys t (x ∷ y ∷ [])
-  next_two x y rest h =
-      let no = or_parts (is_same (end_view y).term (end_view x).term) (is_listed (end_view x).term (ends_view rest)) h.once.0 in
-      record {
-        each = (h.each.0, (h.each.1.0, tt));
-        met = ((h.met.0.0, tt), (tt, tt));
-        derived = (h.derived.0, (h.derived.1.0, tt));
-        once = (or_from (is_same (end_view y).term (end_view x).term) false no.0 refl, (refl, tt));
-      }
-
   pub skip_next : (x y : End) (rest : List End) → AreEnds sys t (x ∷ y ∷ rest) → AreEnds sys t (x ∷ rest)
   skip_next x y rest h =
       let no = or_parts (is_same (end_view y).term (end_view x).term) (is_listed (end_view x).term (ends_view rest)) h.once.0 in

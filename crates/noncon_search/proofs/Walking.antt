@@ -12,7 +12,7 @@ use Rattle.validity.specs.declared.Search.TheVariants.{Found, Nothing, Spent}
 use Rattle.cc_count.specs.Counts.{Counts, Spends}
 use Rattle.reach_lists.specs.Solutions.{Reached}
 use Rattle.cc_count.proofs.Spending.{spends_none, spends_both, spends_same}
-use Rattle.first_found.specs.Items.{GivesNothing, NoneGives, cost_of, IsFirst, IsStopped}
+use Rattle.first_found.specs.Items.{NoneGives, cost_of, IsFirst, IsStopped}
 use Rattle.first_found.proofs.Items.{cost_append, none_append, first_left, first_right, stopped_left, stopped_right}
 use Rattle.search_spaces.specs.Listings.{listing, listing_cost}
 use Rattle.search_spaces.specs.PeakItems.{PeakItem, make_listing, try_ends, peak_item_cost, peak_items_of, GivesPeak}
@@ -97,9 +97,6 @@ module _ (names : NameTable) (sys : System) (t : Term) (x y : Reached) (a b : Co
   module _ (paid : Spends a 1 b) where
     pub pair_found : (c : Certificate) → GivesPeak names sys (try_ends t x y) (certificate_view c) → WalkAnswers names sys (try_ends t x y ∷ []) a b (Ok (Found c))
     pair_found c g = (1, paid, record { before = []; item = try_ends t x y; behind = []; split = refl; none = tt; gives = g; up_to = refl })
-
-    pub pair_bare : GivesNothing (GivesPeak names sys) (try_ends t x y) → WalkAnswers names sys (try_ends t x y ∷ []) a b (Ok Nothing)
-    pair_bare h = (paid, (h, tt))
 
 -- the listing of a start
 module _ (names : NameTable) (sys : System) (t : Term) (a b : Counts) where

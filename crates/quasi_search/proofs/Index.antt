@@ -1,5 +1,5 @@
 -- Listed terms are found by their keys.
-use Rattle.std.proofs.Common.{◌≡◌, ℕ, ◌≤◌, Bool, true, false, cond, List, [], ◌∷◌, ◌++◌, map, append-nil, append_assoc, Option, None, Some, Vec, Global, Bor, refl, sym, ap, ◌∙◌, subst}
+use Rattle.std.proofs.Common.{◌≡◌, ℕ, ◌≤◌, Bool, true, false, cond, List, [], ◌∷◌, ◌++◌, map, append_assoc, Option, None, Some, Vec, Global, Bor, refl, sym, ap, ◌∙◌, subst}
 use Rattle.std.proofs.lemmas.Bool.{false_from_ne_true, false≢true, or_from, or_left, or_right}
 use Rattle.std.proofs.lemmas.List.{map-append}
 use Rattle.std.specs.Str.{bytes_eq}
@@ -123,9 +123,6 @@ pub record Unshared (xs ys rest : List math.Reached) : Type 0 where
   pub none : ShareNone done ys
 
 module _ (xs ys : List math.Reached) where
-  pub unshared_begins : Unshared xs ys xs
-  unshared_begins = record { done = []; split = refl; none = tt }
-
   module _ (rest : List math.Reached) (x : math.Reached) (behind : List math.Reached) (so_far : Unshared xs ys rest) (e : rest ≡ x ∷ behind) where
     whole : xs ≡ so_far.done ++ x ∷ behind
     whole = so_far.split ∙ ap (λ z. so_far.done ++ z) e
@@ -140,6 +137,3 @@ module _ (xs ys : List math.Reached) where
 
     pub shared_here : (y : math.Reached) → IsFirstListed ys x.term y → IsFirstShared xs ys x y
     shared_here y h = record { earlier = so_far.done; later = behind; left = whole; none_earlier = so_far.none; right = h }
-
-  pub unshared_ends : (rest : List math.Reached) → Unshared xs ys rest → rest ≡ [] → ShareNone xs ys
-  unshared_ends rest so_far e = subst (λ z. ShareNone z ys) (sym (so_far.split ∙ ap (λ z. so_far.done ++ z) e ∙ append-nil so_far.done)) so_far.none

@@ -1,9 +1,9 @@
 -- Cells of instances that are not built, and the room that they leave.
-use Rattle.std.proofs.Common.{◌≡◌, ℕ, suc, ◌+◌, ◌-◌, ◌*◌, ◌<◌, ◌≤◌, ◌⊎◌, inl, inr, Result, OnOk, List, [], ◌∷◌, ◌++◌, length, append_assoc, Option, None, Some, IfSome, IfNone}
+use Rattle.std.proofs.Common.{◌≡◌, ℕ, suc, ◌+◌, ◌-◌, ◌*◌, ◌<◌, ◌⊎◌, inl, inr, Result, OnOk, List, [], ◌∷◌, ◌++◌, length, append_assoc, Option, None, Some, IfNone}
 use Rattle.std.proofs.Common.{refl, sym, ap, ◌∙◌, Vec, Global, arith}
 use Rattle.std.specs.FinMap.{get}
 use Rattle.rewriting.specs.Terms as math
-use Rattle.rewriting.specs.Prelude.{app, nil, cons, count, size, size_all, depth, Bindings, apply, apply_all, values_of}
+use Rattle.rewriting.specs.Prelude.{app, nil, cons, count, size, depth, Bindings, apply, apply_all, values_of}
 use Rattle.rewriting.proofs.Tests.{depth_small}
 use Rattle.term_core.specs.View.{view, views}
 use Rattle.term_core.specs.declared.terms.Term.{Term}
@@ -25,13 +25,6 @@ module _ (b : Bindings) (t : Term) (f : ℕ) (v : Vec Term Global) (is : t ≡ F
   whole : apply (values_of b) (view t) ≡ app f (apply_all (values_of b) (views v.items))
   whole = ap (λ z. apply (values_of b) z) (ap view is ∙ view-Fun f v)
 
-  size_is : size (apply (values_of b) (view t)) ≡ suc (size_all (apply_all (values_of b) (views v.items)))
-  size_is = ap size whole
-
-  -- the instances of a symbol's arguments are few where that of the whole is
-  pub instances_low : size (apply (values_of b) (view t)) ≤ 10000 → size_all (apply_all (values_of b) (views v.items)) ≤ 10000
-  instances_low low = let e = size_is in omega (arith, low, e)
-
   -- the cells of a symbol, and behind them those of its arguments
   pub symbol_cells : {T E : Type 0} (old one new : List ℕ) (n : ℕ) (r : Result T E) → n ≡ length v.items → one ≡ old ++ (65536 * f + n + 1) ∷ []
       → OnOk r (new ≡ one ++ all_cells (apply_all (values_of b) (views v.items))) → OnOk r (new ≡ old ++ cells (apply (values_of b) (view t)))
@@ -44,16 +37,6 @@ module _ (b : Bindings) (t : Term) (f : ℕ) (v : Vec Term Global) (is : t ≡ F
       on_ok r (new ≡ one ++ all_cells ts) (new ≡ old ++ cells (apply (values_of b) (view t)))
       (λ x. x ∙ ap (λ z. z ++ all_cells ts) e ∙ append_assoc old ((65536 * f + n + 1) ∷ []) (all_cells ts) ∙ ap (λ z. old ++ z) (sym all)) h
 
-  -- the room that a symbol's arguments leave
-  pub symbol_room : (room : ℕ) (o : Option ℕ) → (room ≡ 0 → ⊥) → IfSome o (λ left. left + size_all (apply_all (values_of b) (views v.items)) ≡ room - 1)
-      → IfSome o (λ left. left + size (apply (values_of b) (view t)) ≡ room)
-  symbol_room room None some h = h
-  symbol_room room (Some left) some h = let e = size_is in omega (arith, some, h, e)
-
-  pub symbol_none : (room : ℕ) (o : Option ℕ) → (room ≡ 0 → ⊥) → IfNone o (room - 1 < size_all (apply_all (values_of b) (views v.items))) → IfNone o (room < size (apply (values_of b) (view t)))
-  symbol_none room None some h = let e = size_is in omega (arith, some, h, e)
-  symbol_none room (Some left) some h = h
-
 -- a term of no more nodes has no more levels
 pub no_room : (t : math.Term) (room : ℕ) → (room < size t) ⊎ (room < depth t) → room < size t
 no_room t room (inl h) = h
@@ -62,8 +45,3 @@ no_room t room (inr h) = let d = depth_small t in omega (arith, h, d)
 pub value_none : (t u : math.Term) (room : ℕ) (o : Option ℕ) → t ≡ u → IfNone o ((room < size t) ⊎ (room < depth t)) → IfNone o (room < size u)
 value_none t u room None e h = let k = ap size e in let n = no_room t room h in omega (arith, n, k)
 value_none t u room (Some left) e h = h
-
-pub first_none : (b : Bindings) (t : math.Term) (ts all : math.Terms) (room left : ℕ) (o : Option ℕ) → all ≡ cons t ts → left + size (apply (values_of b) t) ≡ room
-    → IfNone o (left < size_all (apply_all (values_of b) ts)) → IfNone o (room < size_all (apply_all (values_of b) all))
-first_none b t ts all room left None e h k = let s = ap (λ z. size_all (apply_all (values_of b) z)) e in omega (arith, s, h, k)
-first_none b t ts all room left (Some n) e h k = k

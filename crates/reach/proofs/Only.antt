@@ -1,6 +1,6 @@
 -- A condition whose list is of its start alone.
 use Rattle.std.proofs.Common.{◌≡◌, ℕ, ◌+◌, ◌-◌, ◌≤◌, inl, inr, ◌&&◌, nat_eq, Bool, true, false, cond, List, [], ◌∷◌, ◌++◌, flat_map, option_to_list, option_map, None, Result, Ok}
-use Rattle.std.proofs.Common.{Vec, Global, eqb-true, refl, sym, ap, ◌∙◌, append-nil, subst, subst₂, arith}
+use Rattle.std.proofs.Common.{eqb-true, refl, sym, ap, append-nil, subst, arith}
 use Rattle.std.proofs.lemmas.Bool.{and_from, cond-true}
 use Rattle.rewriting.specs.Terms as math
 use Rattle.rewriting.specs.Prelude.{var, app, Covers, Bindings, apply, values_of, Condition, is_covered, is_fit, match_onto, match_all_onto}
@@ -11,10 +11,7 @@ use Rattle.reach_lists.specs.Solutions as lists
 use Rattle.reach_lists.specs.Solutions.{starts, extended}
 use Rattle.reach_lists.specs.Lists.{total, reach_list, reach_cost, started}
 use Rattle.reach_lists.specs.Paths.{followed, asked_on_paths}
-use Rattle.term_core.specs.View.{view}
 use Rattle.term_core.specs.declared.terms.Term.{Term}
-use Rattle.term_core.specs.declared.terms.Term.TheVariants.{Fun}
-use Rattle.term_core.proofs.Views.{view-Fun}
 use Rattle.reach.specs.declared.listed.ReachStop.{ReachStop}
 use Rattle.reach.specs.declared.sites.Search.{Search}
 use Rattle.reach.specs.Follows.{Follows, FollowsOne, gives_behind, asked_behind}
@@ -23,11 +20,6 @@ use Rattle.reach.specs.Ready.{IsReady, hyps_of, inner, price}
 use Rattle.reach.specs.PathView.{RootsDiffer, IsNothing}
 use Rattle.reach.proofs.Idle.{idle_list, idle_cost}
 use Rattle.reach.proofs.Following.{offered_same, nothing_paid, list_part, condition_followed, full_followed}
-
--- other symbols are other roots
-pub other_roots : (p t : Term) (f g : ℕ) (v w : Vec Term Global) → p ≡ Fun f v → t ≡ Fun g w → (f ≡ g → ⊥) → RootsDiffer (view p) (view t)
-other_roots p t f g v w is_p is_t other =
-    subst₂ RootsDiffer (sym (ap view is_p ∙ view-Fun f v)) (sym (ap view is_t ∙ view-Fun g w)) other
 
 -- where the roots differ, there is no match
 pub no_match_off : (b : Bindings) (p t : math.Term) → RootsDiffer p t → match_onto b p t ≡ None

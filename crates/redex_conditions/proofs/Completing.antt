@@ -6,7 +6,6 @@ use Rattle.std.proofs.lemmas.Bool.{cases_lt, or_right, or_left}
 use Rattle.std.proofs.lemmas.List.{length-map, drop_all}
 use Rattle.std.specs.Cmp.{nat_cmp_total}
 use Rattle.std.specs.FinMap.{get, insert, get-insert}
-use Rattle.general_lemmas.proofs.Places.{drop_read}
 use Rattle.rewriting.specs.Prelude.{terms_of_rule, rule_variables, conditions_under}
 use Rattle.rewriting.proofs.Common.{Term, var, Substitution, Bindings, values_of, occurs, occurs_in, Condition, System, sides, Signature}
 use Rattle.rewriting.proofs.Instances.{apply-agree}
@@ -102,11 +101,6 @@ module _ (arities : Signature) (r : program.Rule) (sound : IsSound arities r) wh
 
 -- one condition more, of which the instance is d
 module _ (s : Substitution) (conds : List program_cond.Cond) (i : ℕ) (c : program_cond.Cond) (low : i < length conds) (here : c ≡ get_or conds i c) where
-  abbrev rest : ℕ → List Condition
-  rest k = conditions_under s (map condition_view (drop k conds))
-
-  split : map condition_view (drop i conds) ≡ condition_view c ∷ map condition_view (drop (i + 1) conds)
-  split = ap (map condition_view) (drop_read conds i c low here)
 
 -- what is answered for conditions that fit
 pub judged_fitting : (sys : System) (ds : List program_cond.Cond) (cs : List Condition) (e : InfeasibilityEvidence) (a : Result (Unit {0}) Refusal) → map condition_view ds ≡ cs → DoConditionsFit cs

@@ -1,9 +1,9 @@
 -- Round by round.
-use Rattle.std.proofs.Common.{ℕ, ◌≡◌, ◌+◌, ◌<◌, List, [], ◌∷◌, ◌++◌, map, refl, sym, ap, ◌∙◌, subst, Ok, Err, arith}
+use Rattle.std.proofs.Common.{ℕ, ◌≡◌, ◌+◌, ◌<◌, List, [], ◌∷◌, ◌++◌, map, sym, ap, ◌∙◌, subst, Ok, Err, arith}
 use Rattle.std.proofs.lemmas.List.{map-append}
 use Rattle.rewriting.specs.Rules.{System}
 use Rattle.cc_count.specs.Counts.{Counts, Spends}
-use Rattle.cc_count.proofs.Spending.{spends_none, spends_both, spends_same}
+use Rattle.cc_count.proofs.Spending.{spends_both, spends_same}
 use Rattle.first_found.specs.Items.{cost_of, one}
 use Rattle.cert_model.specs.CertificateView.{simp_view}
 use Rattle.cert_model.specs.declared.model.Simp.{Simp}
@@ -23,10 +23,6 @@ pub record GoesOn (sys : System) (steps : List Simp) (here : System) (start now 
   pub paid : ℕ
   pub leads : LeadsOn sys (map simp_view steps) here tried paid
   pub spent : Spends start paid now
-
-pub begins : (sys here : System) (steps : List Simp) (start : Counts) → here ≡ sys → steps ≡ [] → GoesOn sys steps here start start
-begins sys here steps start e f =
-    record { tried = 0; paid = 0; leads = subst (λ z. LeadsOn sys (map simp_view z) here 0 0) (sym f) (e, refl, refl); spent = spends_none start }
 
 module _ (sys here : System) (steps : List Simp) (start now end : Counts) (g : GoesOn sys steps here start now) where
   -- one step more

@@ -44,9 +44,6 @@ module _ (a : Indexed) (t : Term) (P : List ℕ → ℕ → Type 0) where
           }
 
   module _ (c : Choices) (choices : AreChoices a t c) where
-    pub below_none : HoldsBelow a t P c 0
-    below_none j q front tail low at i reach = absurd (omega arith)
-
     -- where P holds in the batch with the next front
     module _ (n : ℕ) (first : List ℕ) (here : slice_get c.fronts n ≡ Some first) (before : HoldsBelow a t P c n) where
       same_front : (j : ℕ) (front : List ℕ) → j ≡ n → slice_get c.fronts j ≡ Some front → front ≡ first

@@ -1,5 +1,5 @@
 -- Numbers that are tried, as a list of them grows and changes, and that they are good.
-use Rattle.std.proofs.Common.{ℕ, zero, suc, ◌≡◌, ◌<◌, ◌≤◌, ◌⊎◌, inl, inr, List, [], ◌∷◌, ◌++◌, length, slice_get, Some, refl, sym, ap, subst, arith, set}
+use Rattle.std.proofs.Common.{ℕ, zero, suc, ◌≡◌, ◌<◌, ◌≤◌, ◌⊎◌, inl, inr, List, [], ◌∷◌, ◌++◌, length, slice_get, Some, refl, sym, ap, subst, arith}
 use Rattle.std.proofs.lemmas.Option.{slice_get_within}
 use Rattle.rewriting.specs.Prelude.{Signature, System, Head, file, auxiliary, file_heads, auxiliary_heads, heads, IsActive}
 use Rattle.interpretations.specs.Linear.{AreNumbersGood}
@@ -16,18 +16,6 @@ pushed_at (z ∷ xs) y x (suc k) e = further (pushed_at xs y x k e)
     further (inl h) = inl h
     further (inr (same, is)) = inr (ap suc same, is)
 
--- and of one that is changed at a place
-pub changed_at : {X : Type 0} (xs : List X) (i : ℕ) (y x : X) (k : ℕ) → slice_get (set xs i y) k ≡ Some x → (slice_get xs k ≡ Some x) ⊎ ((k ≡ i) × (x ≡ y))
-changed_at [] i y x k e = inl e
-changed_at (z ∷ xs) zero y x zero e = inr (refl, cc)
-changed_at (z ∷ xs) zero y x (suc k) e = inl e
-changed_at (z ∷ xs) (suc i) y x zero e = inl e
-changed_at (z ∷ xs) (suc i) y x (suc k) e = further (changed_at xs i y x k e)
-  where
-    further : (slice_get xs k ≡ Some x) ⊎ ((k ≡ i) × (x ≡ y)) → (slice_get xs k ≡ Some x) ⊎ ((suc k ≡ suc i) × (x ≡ y))
-    further (inl h) = inl h
-    further (inr (same, is)) = inr (ap suc same, is)
-
 module _ (head : Head) (count : ℕ) where
   at_place : (k i c n : ℕ) → k ≡ i → c ≡ n → IsTriedAt head count i n → IsTriedAt head count k c
   at_place k i c n same is h = subst (λ z. IsTriedAt head count z c) (sym same) (subst (λ z. IsTriedAt head count i z) (sym is) h)
@@ -38,13 +26,6 @@ module _ (head : Head) (count : ℕ) where
       by : (slice_get cs k ≡ Some c) ⊎ ((k ≡ length cs) × (c ≡ n)) → IsTriedAt head count k c
       by (inl at) = h k c at
       by (inr (same, is)) = at_place k (length cs) c n same is last
-
-  pub one_changed : (cs : List ℕ) (i n : ℕ) → AreTriedOf head count cs → IsTriedAt head count i n → AreTriedOf head count (set cs i n)
-  one_changed cs i n h new k c e = by (changed_at cs i n c k e)
-    where
-      by : (slice_get cs k ≡ Some c) ⊎ ((k ≡ i) × (c ≡ n)) → IsTriedAt head count k c
-      by (inl at) = h k c at
-      by (inr (same, is)) = at_place k i c n same is new
 
 -- the first symbols are the system's
 file_at : (f : ℕ) (ns : Signature) (rest : List Head) (k : ℕ) (head : Head) → k < length ns → slice_get (file_heads f ns ++ rest) k ≡ Some head → (g : ℕ) × (head ≡ file g)

@@ -7,8 +7,8 @@ use Rattle.certificates.specs.Certificates.{LinearEntry}
 use Rattle.interpretations.specs.Linear.{Interpretation, IsEntry}
 use Rattle.measure_grid.specs.Dead.{IsDead}
 use Rattle.general_lemmas.proofs.Places.{slice_get-append_left}
-use Rattle.grid_search.specs.Prefix.{IsPrefix, IsAliveBefore}
-use Rattle.grid_search.proofs.Extending.{prefix_start, next_prefix}
+use Rattle.grid_search.specs.Prefix.{IsPrefix}
+use Rattle.grid_search.proofs.Extending.{next_prefix}
 use Rattle.grid_search.proofs.Standing.{within_arities}
 use Rattle.term_core.specs.HeadView.{head_view}
 use Rattle.term_core.specs.declared.systems.Head as heads_of
@@ -46,16 +46,6 @@ has_first [] y = (y, [], refl)
 has_first (x ∷ xs) y = (x, xs ++ y ∷ [], refl)
 
 module _ (sys : System) where
-  pub start : IsNext sys []
-  start = record { prefix = prefix_start sys; tried = tt; alive = λ before last more e. absurd (none before last more e) }
-    where
-      none : (before : Interpretation) (last : LinearEntry) (more : Interpretation) → [] ≡ before ++ last ∷ more → ⊥
-      none [] last more e = cc
-      none (x ∷ before) last more e = cc
-
-  pub is_alive_before : (es : Interpretation) → IsNext sys es → IsAliveBefore sys es
-  is_alive_before es h before last e = h.alive before last [] e
-
   -- what is not dead is alive
   pub found_alive : (es : Interpretation) → IsNext sys es → (IsDead sys es → ⊥) → IsAlive sys es
   found_alive es h lives = record { prefix = h.prefix; tried = h.tried; alive = by }

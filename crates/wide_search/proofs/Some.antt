@@ -1,5 +1,5 @@
 -- Some of the ends of a list are ends.
-use Rattle.std.proofs.Common.{◌≡◌, ◌∙◌, List, [], ◌∷◌, ◌++◌, sym, ap, subst, append_assoc, append-nil}
+use Rattle.std.proofs.Common.{◌≡◌, List, [], ◌∷◌, ◌++◌}
 use Rattle.std.specs.Prelude.{false}
 use Rattle.std.proofs.lemmas.Bool.{or_parts, or_from}
 use Rattle.rewriting.specs.Prelude.{Term, System, is_same}
@@ -41,10 +41,3 @@ module _ (sys : System) where
     derived = derived_without (λ r. Derives sys [] t r.by r.term) before x rest h.derived;
     once = once_without before x rest h.once;
   }
-
-  -- one is passed
-  pub passed : (t : Term) (before : List End) (x : End) (rest : List End) → AreEnds sys t (before ++ x ∷ rest) → AreEnds sys t ((before ++ x ∷ []) ++ rest)
-  passed t before x rest h = subst (λ (z : List End). AreEnds sys t z) (sym (append_assoc before (x ∷ []) rest)) h
-
-  pub none_left : (t : Term) (all rest : List End) → rest ≡ [] → AreEnds sys t (all ++ rest) → AreEnds sys t all
-  none_left t all rest none h = subst (λ (z : List End). AreEnds sys t z) (ap (λ (z : List End). all ++ z) none ∙ append-nil all) h
