@@ -52,51 +52,43 @@ pub below_states : (sys : System) (s : Term) (k : ℕ) (ds : List Transition) (d
     → IsAskedBelow sys s k ds d → HasStates (state_count sys s) d
 below_states sys s k ds d all a = rule_states (state_count sys s) (first_state sys s a.number) a.rule ds d (omega arith) (room_at sys s a.number a.rule a.is_rule) all a.by_rule
 
+asked_after : (sys : System) (s : Term) (k : ℕ) (ds : List Transition) → IsPartial sys s ds → (d : Transition) → Contains ds d ⊎ IsAskedBelow sys s k ds d → IsAsked sys s d
+asked_after sys s k ds old d (inl h) = old.asked d h
+asked_after sys s k ds old d (inr h) = below_asked sys s k ds d old.asked h
+
+basic_after : (sys : System) (s : Term) (d : Transition) → Contains [] d ⊎ IsBasic sys s d → IsBasic sys s d
+basic_after sys s d (inl h) = absurd (contains_none d h)
+basic_after sys s d (inr h) = h
+
 -- what a round makes of such a set is such a set again
 pub next_partial : (sys : System) (s : Term) (k : ℕ) (ds es : List Transition) → IsPartial sys s ds → IsAdded (IsAskedBelow sys s k ds) ds es → length es ≤ 5000 → IsPartial sys s es
 next_partial sys s k ds es old new few = record {
-  asked = λ d h. asked d (new.part.only d h);
+  asked = λ d h. asked_after sys s k ds old d (new.part.only d h);
   states = λ d h. states d (new.part.only d h);
   basic = λ d h. new.kept d (old.basic d h);
   sorted = new.part.sorted;
   few = few;
 }
   where
-    asked : (d : Transition) → Contains ds d ⊎ IsAskedBelow sys s k ds d → IsAsked sys s d
-    asked d (inl h) = old.asked d h
-    asked d (inr h) = below_asked sys s k ds d old.asked h
-
     states : (d : Transition) → Contains ds d ⊎ IsAskedBelow sys s k ds d → HasStates (state_count sys s) d
     states d (inl h) = old.states d h
     states d (inr h) = below_states sys s k ds d old.states h
 
 pub next_many : (sys : System) (s : Term) (k : ℕ) (ds es : List Transition) → IsPartial sys s ds → IsPartOf (IsAskedBelow sys s k ds) ds es → 5000 < length es → AreTransitionsMany sys s
-next_many sys s k ds es old new many = record { some = es; many = many; asked = λ d h. asked d (new.only d h); different = new.sorted }
-  where
-    asked : (d : Transition) → Contains ds d ⊎ IsAskedBelow sys s k ds d → IsAsked sys s d
-    asked d (inl h) = old.asked d h
-    asked d (inr h) = below_asked sys s k ds d old.asked h
+next_many sys s k ds es old new many = record { some = es; many = many; asked = λ d h. asked_after sys s k ds old d (new.only d h); different = new.sorted }
 
 -- the first set
 pub first_partial : (sys : System) (s : Term) (ds : List Transition) → IsAdded (IsBasic sys s) [] ds → length ds ≤ 5000 → IsPartial sys s ds
 first_partial sys s ds new few = record {
-  asked = λ d h. basic_asked sys s d (basic d (new.part.only d h));
-  states = λ d h. basic_states sys s d (basic d (new.part.only d h));
+  asked = λ d h. basic_asked sys s d (basic_after sys s d (new.part.only d h));
+  states = λ d h. basic_states sys s d (basic_after sys s d (new.part.only d h));
   basic = new.every;
   sorted = new.part.sorted;
   few = few;
 }
-  where
-    basic : (d : Transition) → Contains [] d ⊎ IsBasic sys s d → IsBasic sys s d
-    basic d (inl h) = absurd (contains_none d h)
-    basic d (inr h) = h
 
 pub first_many : (sys : System) (s : Term) (ds : List Transition) → IsPartOf (IsBasic sys s) [] ds → 5000 < length ds → AreTransitionsMany sys s
-first_many sys s ds new many = record { some = ds; many = many; asked = λ d h. basic_asked sys s d (basic d (new.only d h)); different = new.sorted }
-  where
-    basic : (d : Transition) → Contains [] d ⊎ IsBasic sys s d → IsBasic sys s d
-    basic d (inl h) = absurd (contains_none d h)
-    basic d (inr h) = h
+first_many sys s ds new many = record { some = ds; many = many; asked = λ d h. basic_asked sys s d (basic_after sys s d (new.only d h)); different = new.sorted }
 
 -- a set that has what it asks for is the least one
 pub least_when_closed : (sys : System) (s : Term) (ds : List Transition) → IsPartial sys s ds → ((d : Transition) → IsAskedBelow sys s (length sys.rules) ds d → Contains ds d) → AreLeast sys s ds

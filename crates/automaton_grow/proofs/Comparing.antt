@@ -1,6 +1,5 @@
 -- Numbers, lists and transitions compared.
-use Rattle.std.proofs.Common.{◌≡◌, ℕ, zero, suc, ◌<◌, inl, inr, refl, sym, ap, ap₂, ◌∙◌, subst, List, [], ◌∷◌, map, length, get_or, Option, Some, arith}
-use Rattle.std.specs.Prelude.{slice_get}
+use Rattle.std.proofs.Common.{◌≡◌, ℕ, zero, suc, ◌<◌, inl, inr, refl, sym, ap, ap₂, ◌∙◌, subst, List, [], ◌∷◌, map, Option}
 use Rattle.std.specs.List.{insert}
 use Rattle.std.specs.Ordering.{nat_cmp, ordering_then, MatchOrdering}
 use Rattle.std.specs.Cmp.{ranks}
@@ -52,14 +51,6 @@ module _ (a : evidence.Transition) (f : Option ℕ) (qs : List ℕ) (q : ℕ) (h
       go Greater h = inr (sym head, inr (sym same, h))
 
 -- views of lists
-view_at : (ds : List Transition) (i : ℕ) (d : Transition) → i < length ds → d ≡ get_or ds i d → slice_get (map transition_view ds) i ≡ Some (transition_view d)
-view_at [] i d h e = absurd (omega arith)
-view_at (x ∷ ds) zero d h e = ap (λ z. Some (transition_view z)) (sym e)
-view_at (x ∷ ds) (suc i) d h e = view_at ds i d (omega arith) e
-
-pub viewed_at : (ds : List Transition) (i : ℕ) (d : Transition) → i < length ds → d ≡ get_or ds i d → slice_get (map transition_view ds) i ≡ Some (transition_view d)
-viewed_at = view_at
-
 map_insert : (xs : List Transition) (k : ℕ) (x : Transition) → map transition_view (insert xs k x) ≡ insert (map transition_view xs) k (transition_view x)
 map_insert xs zero x = refl
 map_insert [] (suc k) x = refl
@@ -68,7 +59,3 @@ map_insert (y ∷ xs) (suc k) x = ap (λ z. transition_view y ∷ z) (map_insert
 pub put_view : (old new : List Transition) (x : Transition) (d : evidence.Transition) (k : ℕ) → new ≡ insert old k x → transition_view x ≡ d
     → map transition_view new ≡ insert (map transition_view old) k d
 put_view old new x d k e same = ap (map transition_view) e ∙ map_insert old k x ∙ ap (insert (map transition_view old) k) same
-
-pub views_length : (xs : List Transition) → length (map transition_view xs) ≡ length xs
-views_length [] = refl
-views_length (x ∷ xs) = let h = views_length xs in omega arith

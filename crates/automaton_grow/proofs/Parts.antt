@@ -1,11 +1,13 @@
 -- What is wanted, part by part.
-use Rattle.std.proofs.Common.{◌≡◌, ℕ, zero, suc, ◌+◌, ◌<◌, ◌≤◌, ◌⊎◌, inl, inr, refl, sym, ap, ap₂, ◌∙◌, subst, List, [], ◌∷◌, ◌++◌, map, take, length, get_or, replicate, Some}
-use Rattle.std.proofs.Common.{None, Ok, Err, Result, Bool, true, false, add-one, arith}
+use Rattle.std.proofs.Common.{◌≡◌, ℕ, ◌+◌, ◌<◌, ◌≤◌, ◌⊎◌, inl, inr, refl, sym, ap, ap₂, ◌∙◌, subst, List, [], ◌∷◌, ◌++◌, map, take, drop, length, get_or, replicate, Some}
+use Rattle.std.proofs.Common.{None, Ok, Err, Result, Bool, true, false, arith}
 use Rattle.std.specs.Prelude.{slice_get, Contains, nat_eq, if◌then◌else◌}
 use Rattle.std.proofs.Common.{eqb-true, eq-eqb}
 use Rattle.std.proofs.lemmas.List.Elements.{Contains-append_left, Contains-append_right, Contains-append_cases}
 use Rattle.std.proofs.lemmas.Option.{slice_get_within}
-use Rattle.std.proofs.lemmas.List.{append-nil}
+use Rattle.std.proofs.lemmas.List.{append-nil, map-append, take-append-drop}
+use Rattle.general_lemmas.proofs.Numbers.{lt_or_last}
+use Rattle.general_lemmas.proofs.Places.{map-take_read, slice_get-map_read}
 use Rattle.rewriting.specs.Terms as terms
 use Rattle.rewriting.specs.Prelude.{var, app, Signature, variable_occurrences, IsSorted}
 use Rattle.rewriting.specs.Rules as math
@@ -24,33 +26,34 @@ use Rattle.automaton_grow.specs.Growing.{twins, twins_of, IsAskedAt, IsAskedByRu
 use Rattle.automaton_grow.specs.Rounds.{IsForSymbol, IsBasicOf, IsAskedByRows, PartialAnswers, RoundAnswers}
 use Rattle.automaton_grow.specs.declared.GrowError.{GrowError}
 use Rattle.automaton_grow.specs.declared.GrowError.TheVariants.{TooWide, TooManyStates, TooManyTransitions, NoMemory}
-use Rattle.automaton_grow.proofs.Adding.{contains_none, contains_cases, added_after, added_nothing, answers_renamed, answers_after_error}
+use Rattle.automaton_grow.proofs.Adding.{contains_none, contains_cases, contains_at, added_after, added_nothing, answers_renamed, answers_after_error}
 use Rattle.automaton_grow.proofs.Asking.{moves_had, first_many, next_many, next_partial, least_when_closed}
 use Rattle.automaton_grow.proofs.States.{twin_in, twin_from}
 
--- one more of a list
+-- members of a list, and of one with one more
 module _ {A B : Type 0} (f : A → B) where
-  pub one_more : (xs : List A) (i : ℕ) (x : A) → i < length xs → x ≡ get_or xs i x → map f (take (i + 1) xs) ≡ map f (take i xs) ++ f x ∷ []
-  one_more xs i x h e = rw add-one (go xs i h e)
-    where
-      go : (ys : List A) (k : ℕ) → k < length ys → x ≡ get_or ys k x → map f (take (suc k) ys) ≡ map f (take k ys) ++ f x ∷ []
-      go [] k h e = absurd (omega arith)
-      go (y ∷ ys) zero h e = ap (λ z. f z ∷ []) (sym e)
-      go (y ∷ ys) (suc k) h e = ap (λ zs. f y ∷ zs) (go ys k (omega arith) e)
-
   pub taken : (xs : List A) (i : ℕ) (y : B) → Contains (map f (take i xs)) y → Contains (map f xs) y
-  taken xs zero y h = absurd (contains_none y h)
-  taken [] (suc i) y h = absurd (contains_none y h)
-  taken (x ∷ xs) (suc i) y h = go (λ k. taken xs i y k) (contains_cases (f x) (map f (take i xs)) y h)
-    where
-      go : (Contains (map f (take i xs)) y → Contains (map f xs) y) → (y ≡ f x) ⊎ Contains (map f (take i xs)) y → Contains (map f (x ∷ xs)) y
-      go rest (inl e) = subst (Contains (f x ∷ map f xs)) (sym e) (contains_head (f x) (map f xs))
-      go rest (inr k) = Contains-append_right (f x ∷ []) (map f xs) y (rest k)
+  taken xs i y h =
+      subst (λ z. Contains z y) (sym (map-append f (take i xs) (drop i xs)) ∙ ap (map f) (take-append-drop i xs))
+      (Contains-append_left (map f (take i xs)) (map f (drop i xs)) y h)
 
   pub stands : (xs : List A) (i : ℕ) (x : A) → i < length xs → x ≡ get_or xs i x → Contains (map f xs) (f x)
-  stands [] i x h e = absurd (omega arith)
-  stands (y ∷ xs) zero x h e = subst (λ z. Contains (f y ∷ map f xs) (f z)) (sym e) (contains_head (f y) (map f xs))
-  stands (y ∷ xs) (suc i) x h e = Contains-append_right (f y ∷ []) (map f xs) (f x) (stands xs i x (omega arith) e)
+  stands xs i x h e = contains_at (map f xs) i (f x) (slice_get-map_read f xs i x h e)
+
+module _ {A : Type 0} (xs : List A) (x : A) where
+  there_last : Contains (xs ++ x ∷ []) x
+  there_last = Contains-append_right xs (x ∷ []) x (contains_head x [])
+
+  there_or_last : (y : A) → Contains (xs ++ x ∷ []) y → Contains xs y ⊎ (y ≡ x)
+  there_or_last y h = go (Contains-append_cases xs (x ∷ []) y h)
+    where
+      last : (y ≡ x) ⊎ Contains [] y → y ≡ x
+      last (inl e) = e
+      last (inr k) = absurd (contains_none y k)
+
+      go : Contains xs y ⊎ Contains (x ∷ []) y → Contains xs y ⊎ (y ≡ x)
+      go (inl k) = inl k
+      go (inr k) = inr (last (contains_cases x [] y k))
 
 -- the wanted so far, with more
 pub answers_next : (P Q R : evidence.Transition → Type 0) (a b c : List evidence.Transition) → ((d : evidence.Transition) → P d → R d) → ((d : evidence.Transition) → Q d → R d)
@@ -67,6 +70,14 @@ answers_first : (P : evidence.Transition → Type 0) (a : List evidence.Transiti
     → IsAdded P a a × (length a ≤ 5000)
 answers_first P a sorted few none = (added_nothing P a sorted none, few)
 
+-- one more wanted, behind a list of them
+listed_next : (ds es : List evidence.Transition) (x : evidence.Transition) (a b c : List evidence.Transition) → es ≡ ds ++ x ∷ [] → IsAdded (Contains ds) a b × (length b ≤ 5000)
+    → IsAdded (λ d. d ≡ x) b c × (length c ≤ 5000) → IsAdded (Contains es) a c × (length c ≤ 5000)
+listed_next ds es x a b c e = answers_next (Contains ds) (λ d. d ≡ x) (Contains es) a b c
+    (λ d k. subst (λ z. Contains z d) (sym e) (Contains-append_left ds (x ∷ []) d k))
+    (λ d k. subst (λ z. Contains z d) (sym e) (subst (Contains (ds ++ x ∷ [])) (sym k) (there_last ds x)))
+    (λ d k. there_or_last ds x d (subst (λ z. Contains z d) e k))
+
 -- the members of a list, one by one
 module _ {A : Type 0} (f : A → evidence.Transition) (xs : List A) where
   abbrev pub Upto : ℕ → evidence.Transition → Type 0
@@ -74,18 +85,7 @@ module _ {A : Type 0} (f : A → evidence.Transition) (xs : List A) where
 
   pub upto_next : (i : ℕ) (x : A) (a b c : List evidence.Transition) → i < length xs → x ≡ get_or xs i x → IsAdded (Upto i) a b × (length b ≤ 5000)
       → IsAdded (λ d. d ≡ f x) b c × (length c ≤ 5000) → IsAdded (Upto (i + 1)) a c × (length c ≤ 5000)
-  upto_next i x a b c h e = answers_next (Upto i) (λ d. d ≡ f x) (Upto (i + 1)) a b c
-      (λ d k. subst (λ z. Contains z d) (sym (one_more f xs i x h e)) (Contains-append_left (map f (take i xs)) (f x ∷ []) d k))
-      (λ d k. subst (λ z. Contains z d) (sym (one_more f xs i x h e)) (Contains-append_right (map f (take i xs)) (f x ∷ []) d (subst (Contains (f x ∷ [])) (sym k) (contains_head (f x) []))))
-      (λ d k. go d (Contains-append_cases (map f (take i xs)) (f x ∷ []) d (subst (λ z. Contains z d) (one_more f xs i x h e) k)))
-    where
-      last : (d : evidence.Transition) → (d ≡ f x) ⊎ Contains [] d → d ≡ f x
-      last d (inl e) = e
-      last d (inr k) = absurd (contains_none d k)
-
-      go : (d : evidence.Transition) → Upto i d ⊎ Contains (f x ∷ []) d → Upto i d ⊎ (d ≡ f x)
-      go d (inl k) = inl k
-      go d (inr k) = inr (last d (contains_cases (f x) [] d k))
+  upto_next i x a b c h e = listed_next (map f (take i xs)) (map f (take (i + 1) xs)) (f x) a b c (map-take_read f xs i x h e)
 
   pub upto_error : (i : ℕ) (x : A) (a b c : List evidence.Transition) (why : GrowError) → i < length xs → x ≡ get_or xs i x → IsAdded (Upto i) a b × (length b ≤ 5000)
       → AddAnswers (λ d. d ≡ f x) b c (Err why) → AddAnswers (Contains (map f xs)) a c (Err why)
@@ -106,7 +106,7 @@ module _ (p q : ℕ) (ds : List Transition) (i : ℕ) (d : Transition) (h : i < 
   So k = Contains (twins p q (map transition_view (take k ds)))
 
   next_twins : twins p q (map transition_view (take (i + 1) ds)) ≡ twins p q (map transition_view (take i ds)) ++ twins p q (transition_view d ∷ [])
-  next_twins = ap (twins p q) (one_more transition_view ds i d h at) ∙ twins_append p q (map transition_view (take i ds)) (transition_view d ∷ [])
+  next_twins = ap (twins p q) (map-take_read transition_view ds i d h at) ∙ twins_append p q (map transition_view (take i ds)) (transition_view d ∷ [])
 
   one_twin : d.target ≡ p → twins p q (transition_view d ∷ []) ≡ record (transition_view d) { target = q } ∷ []
   one_twin e = rw (eq-eqb d.target p e) refl
@@ -120,22 +120,9 @@ module _ (p q : ℕ) (ds : List Transition) (i : ℕ) (d : Transition) (h : i < 
 
   pub twins_next : (a b c : List evidence.Transition) → d.target ≡ p → IsAdded (So i) a b × (length b ≤ 5000)
       → IsAdded (λ x. x ≡ record (transition_view d) { target = q }) b c × (length c ≤ 5000) → IsAdded (So (i + 1)) a c × (length c ≤ 5000)
-  twins_next a b c e = answers_next (So i) (λ x. x ≡ record (transition_view d) { target = q }) (So (i + 1)) a b c
-      (λ x k. subst (λ z. Contains z x) (sym all) (Contains-append_left (twins p q (map transition_view (take i ds))) (record (transition_view d) { target = q } ∷ []) x k))
-      (λ x k. subst (λ z. Contains z x) (sym all) (Contains-append_right (twins p q (map transition_view (take i ds))) (record (transition_view d) { target = q } ∷ []) x
-      (subst (Contains (record (transition_view d) { target = q } ∷ [])) (sym k) (contains_head (record (transition_view d) { target = q }) []))))
-      (λ x k. go x (Contains-append_cases (twins p q (map transition_view (take i ds))) (record (transition_view d) { target = q } ∷ []) x (subst (λ z. Contains z x) all k)))
-    where
-      all : twins p q (map transition_view (take (i + 1) ds)) ≡ twins p q (map transition_view (take i ds)) ++ record (transition_view d) { target = q } ∷ []
-      all = next_twins ∙ ap (λ z. twins p q (map transition_view (take i ds)) ++ z) (one_twin e)
-
-      last : (x : evidence.Transition) → (x ≡ record (transition_view d) { target = q }) ⊎ Contains [] x → x ≡ record (transition_view d) { target = q }
-      last x (inl e) = e
-      last x (inr k) = absurd (contains_none x k)
-
-      go : (x : evidence.Transition) → So i x ⊎ Contains (record (transition_view d) { target = q } ∷ []) x → So i x ⊎ (x ≡ record (transition_view d) { target = q })
-      go x (inl k) = inl k
-      go x (inr k) = inr (last x (contains_cases (record (transition_view d) { target = q }) [] x k))
+  twins_next a b c e =
+      let before = twins p q (map transition_view (take i ds)) in
+      listed_next before (twins p q (map transition_view (take (i + 1) ds))) (record (transition_view d) { target = q }) a b c (next_twins ∙ ap (λ z. before ++ z) (one_twin e))
 
   pub twins_same : (a b : List evidence.Transition) → (d.target ≡ p → ⊥) → IsAdded (So i) a b × (length b ≤ 5000) → IsAdded (So (i + 1)) a b × (length b ≤ 5000)
   twins_same a b n k = subst (λ z. IsAdded (Contains z) a b × (length b ≤ 5000))
@@ -162,11 +149,8 @@ module _ (arities : Signature) (i n : ℕ) (h : i < length arities) (at : slice_
   this m d l e = record { symbol = i; arity = n; below = l; has = at; same = e }
 
   either : (d : evidence.Transition) → IsForSymbol arities (i + 1) d → IsForSymbol arities i d ⊎ (d ≡ record { symbol = Some i; arguments = replicate n 0; target = 0 })
-  either d s = go (split s.symbol i s.below)
+  either d s = go (lt_or_last s.symbol i s.below)
     where
-      split : (a b : ℕ) → a < b + 1 → (a < b) ⊎ (a ≡ b)
-      split a b l = search arith
-
       go : (s.symbol < i) ⊎ (s.symbol ≡ i) → IsForSymbol arities i d ⊎ (d ≡ record { symbol = Some i; arguments = replicate n 0; target = 0 })
       go (inl l) = inl (record { symbol = s.symbol; arity = s.arity; below = l; has = s.has; same = s.same })
       go (inr e) =
@@ -224,21 +208,17 @@ module _ (n : ℕ) (r : math.Rule) (ds : List evidence.Transition) (rows : List 
   module _ (i : ℕ) (row : Arrival) (h : i < length rows) (at : row ≡ get_or rows i row) where
     split_rows : (d : evidence.Transition) → IsAskedByRows n r ds (map arrival_view (take i rows) ++ arrival_view row ∷ []) d
         → IsAskedByRows n r ds (map arrival_view (take i rows)) d ⊎ IsAskedAt n r ds row.choice.items row.state d
-    split_rows d a = go (Contains-append_cases (map arrival_view (take i rows)) (arrival_view row ∷ []) (a.choice, a.state) a.row)
+    split_rows d a = go (there_or_last (map arrival_view (take i rows)) (arrival_view row) (a.choice, a.state) a.row)
       where
-        last : (let x : List ℕ × ℕ = (a.choice, a.state) in x ≡ arrival_view row) ⊎ Contains {X = List ℕ × ℕ} [] (a.choice, a.state) → IsAskedAt n r ds row.choice.items row.state d
-        last (inl e) = subst (λ (z : List ℕ × ℕ). IsAskedAt n r ds z.0 z.1 d) e a.asked
-        last (inr k) = absurd (contains_none (a.choice, a.state) k)
-
-        go : Contains {X = List ℕ × ℕ} (map arrival_view (take i rows)) (a.choice, a.state) ⊎ Contains {X = List ℕ × ℕ} (arrival_view row ∷ []) (a.choice, a.state)
+        go : Contains {X = List ℕ × ℕ} (map arrival_view (take i rows)) (a.choice, a.state) ⊎ (let x : List ℕ × ℕ = (a.choice, a.state) in x ≡ arrival_view row)
             → IsAskedByRows n r ds (map arrival_view (take i rows)) d ⊎ IsAskedAt n r ds row.choice.items row.state d
         go (inl k) = inl (record { choice = a.choice; state = a.state; row = k; asked = a.asked })
-        go (inr k) = inr (last (contains_cases (arrival_view row) [] (a.choice, a.state) k))
+        go (inr e) = inr (subst (λ (z : List ℕ × ℕ). IsAskedAt n r ds z.0 z.1 d) e a.asked)
 
     pub rows_next : (a b c : List evidence.Transition) → IsAdded (IsAskedByRows n r ds (map arrival_view (take i rows))) a b × (length b ≤ 5000)
         → IsAdded (IsAskedAt n r ds row.choice.items row.state) b c × (length c ≤ 5000)
         → IsAdded (IsAskedByRows n r ds (map arrival_view (take (i + 1) rows))) a c × (length c ≤ 5000)
-    rows_next a b c k m = subst (λ z. IsAdded (IsAskedByRows n r ds z) a c × (length c ≤ 5000)) (sym (one_more arrival_view rows i row h at))
+    rows_next a b c k m = subst (λ z. IsAdded (IsAskedByRows n r ds z) a c × (length c ≤ 5000)) (sym (map-take_read arrival_view rows i row h at))
         (answers_next (IsAskedByRows n r ds (map arrival_view (take i rows))) (IsAskedAt n r ds row.choice.items row.state)
         (IsAskedByRows n r ds (map arrival_view (take i rows) ++ arrival_view row ∷ [])) a b c
         (λ d x. more_rows (map arrival_view (take i rows)) (map arrival_view (take i rows) ++ arrival_view row ∷ []) d
@@ -246,8 +226,7 @@ module _ (n : ℕ) (r : math.Rule) (ds : List evidence.Transition) (rows : List 
         (λ d x. record {
           choice = row.choice.items;
           state = row.state;
-          row = Contains-append_right (map arrival_view (take i rows)) (arrival_view row ∷ []) (arrival_view row)
-              (contains_head (arrival_view row) []);
+          row = there_last (map arrival_view (take i rows)) (arrival_view row);
           asked = x;
         })
         split_rows k m)
@@ -289,11 +268,8 @@ module _ (sys : math.System) (s : terms.Term) (ds : List evidence.Transition) (i
   this_rule m d l a = record { number = i; rule = r; below = l; is_rule = at; by_rule = a }
 
   split_rules : (d : evidence.Transition) → IsAskedBelow sys s (i + 1) ds d → IsAskedBelow sys s i ds d ⊎ IsAskedByRule (state_count sys s) (first_state sys s i) r ds d
-  split_rules d a = go (split a.number i a.below)
+  split_rules d a = go (lt_or_last a.number i a.below)
     where
-      split : (a b : ℕ) → a < b + 1 → (a < b) ⊎ (a ≡ b)
-      split a b l = search arith
-
       go : (a.number < i) ⊎ (a.number ≡ i) → IsAskedBelow sys s i ds d ⊎ IsAskedByRule (state_count sys s) (first_state sys s i) r ds d
       go (inl l) = inl (record { number = a.number; rule = a.rule; below = l; is_rule = a.is_rule; by_rule = a.by_rule })
       go (inr e) =

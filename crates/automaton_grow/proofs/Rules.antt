@@ -1,9 +1,11 @@
 -- Rules one by one: their sizes, the states before them, and the choices for their left sides.
-use Rattle.std.proofs.Common.{◌≡◌, ℕ, zero, suc, ◌+◌, ◌<◌, ◌≤◌, ◌^◌, ◌⊎◌, inl, inr, refl, sym, ap, ◌∙◌, subst, List, [], ◌∷◌, map, drop, length, get_or, Some, add-one, arith}
+use Rattle.std.proofs.Common.{◌≡◌, ℕ, zero, suc, ◌+◌, ◌<◌, ◌≤◌, ◌^◌, ◌⊎◌, inl, inr, sym, ap, ◌∙◌, subst, List, [], ◌∷◌, map, drop, length, get_or, Some, add-one, arith}
 use Rattle.std.specs.Prelude.{slice_get}
 use Rattle.std.proofs.Common.{add_assoc}
 use Rattle.std.proofs.lemmas.Option.{slice_get_within}
-use Rattle.general_lemmas.proofs.Places.{slice_get-map_read}
+use Rattle.std.proofs.lemmas.List.{length-map}
+use Rattle.general_lemmas.proofs.Numbers.{lt_or_last}
+use Rattle.general_lemmas.proofs.Places.{map-drop_read, slice_get-map_read}
 use Rattle.rewriting.specs.Prelude.{Term, var, app, size, Fits, Signature, AreRules, IsSystem, condition_count, DoSidesFit, variable_occurrences}
 use Rattle.rewriting.specs.Rules as math
 use Rattle.automata.specs.Growth.{inner, proper, first_state, state_count}
@@ -13,20 +15,8 @@ use Rattle.automaton_grow.specs.Limits.{all_proper, IsWideFor, AreNarrowBelow, I
 use Rattle.automaton_grow.proofs.Sizes.{inner_in_size}
 use Rattle.automaton_grow.proofs.States.{proper_at, proper_none, room_at}
 
-pub rules_left : (rs : List Rule) (i : ℕ) (r : Rule) → i < length rs → r ≡ get_or rs i r → map rule_view (drop i rs) ≡ rule_view r ∷ map rule_view (drop (i + 1) rs)
-rules_left rs i r h e = rw add-one (go rs i h e)
-  where
-    go : (qs : List Rule) (k : ℕ) → k < length qs → r ≡ get_or qs k r → map rule_view (drop k qs) ≡ rule_view r ∷ map rule_view (drop (suc k) qs)
-    go [] k h e = absurd (omega arith)
-    go (q ∷ qs) zero h e = ap (λ z. rule_view z ∷ map rule_view qs) (sym e)
-    go (q ∷ qs) (suc k) h e = go qs k (omega arith) e
-
-views_length : (rs : List Rule) → length (map rule_view rs) ≡ length rs
-views_length [] = refl
-views_length (r ∷ rs) = let h = views_length rs in omega arith
-
 pub same_count : (rs : List Rule) (sys : math.System) → map rule_view rs ≡ sys.rules → length rs ≡ length sys.rules
-same_count rs sys e = sym (views_length rs) ∙ ap length e
+same_count rs sys e = sym (length-map rs rule_view) ∙ ap length e
 
 -- both sides fit
 do_fit : (arities : Signature) (rs : List math.Rule) → AreRules arities rs → DoSidesFit rs
@@ -48,10 +38,10 @@ proper_size (app f ts) = let h = inner_in_size ts in omega arith
 -- counting
 module _ (rs : List Rule) (i : ℕ) (r : Rule) (h : i < length rs) (at : r ≡ get_or rs i r) where
   pub fit_here : DoSidesFit (map rule_view (drop i rs)) → Fits (rule_view r).left × Fits (rule_view r).right × DoSidesFit (map rule_view (drop (i + 1) rs))
-  fit_here fit = subst DoSidesFit (rules_left rs i r h at) fit
+  fit_here fit = subst DoSidesFit (map-drop_read rule_view rs i r h at) fit
 
   pub count_here : all_proper (map rule_view (drop i rs)) ≡ proper (rule_view r).right + all_proper (map rule_view (drop (i + 1) rs))
-  count_here = ap all_proper (rules_left rs i r h at)
+  count_here = ap all_proper (map-drop_read rule_view rs i r h at)
 
   pub count_step : (n p all : ℕ) → p ≡ proper (rule_view r).right → n + all_proper (map rule_view (drop i rs)) ≡ all → n + p + all_proper (map rule_view (drop (i + 1) rs)) ≡ all
   count_step n p all e inv =
@@ -67,11 +57,8 @@ first_low sys s i r n first at e same = let h = room_at sys s i r at in omega ar
 -- widths
 pub narrow_next : (n : ℕ) (rs : List Rule) (i : ℕ) (r : Rule) → i < length rs → r ≡ get_or rs i r → AreNarrowBelow n (map rule_view rs) i → (IsWideFor n (rule_view r).left → ⊥)
     → AreNarrowBelow n (map rule_view rs) (i + 1)
-narrow_next n rs i r h at below here k q less is_rule wide = go (split k i (omega arith))
+narrow_next n rs i r h at below here k q less is_rule wide = go (lt_or_last k i less)
   where
-    split : (a b : ℕ) → a < b + 1 → (a < b) ⊎ (a ≡ b)
-    split a b l = search arith
-
     go : (k < i) ⊎ (k ≡ i) → ⊥
     go (inl l) = below k q l is_rule wide
     go (inr e) =

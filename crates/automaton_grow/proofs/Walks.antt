@@ -1,7 +1,5 @@
 -- Walks over the arguments of a term.
-use Rattle.std.proofs.Common.{◌≡◌, ℕ, zero, suc, ◌+◌, ◌<◌, ◌≤◌, refl, sym, ap, ap₂, ◌∙◌, List, [], ◌∷◌, ◌++◌, drop, length, get_or, Bool, true, false, append_assoc, add-one, min, arith}
-use Rattle.std.specs.Prelude.{nat_eq, if◌then◌else◌}
-use Rattle.std.proofs.Common.{eqb-true}
+use Rattle.std.proofs.Common.{◌≡◌, ℕ, zero, suc, ◌+◌, ◌<◌, ◌≤◌, refl, sym, ap, ap₂, ◌∙◌, List, [], ◌∷◌, ◌++◌, drop, length, get_or, append_assoc, add-one, min, arith}
 use Rattle.rewriting.specs.Terms as math
 use Rattle.rewriting.specs.Terms.{var, app, size, size_all}
 use Rattle.certificates.specs.Evidence as evidence
@@ -10,6 +8,7 @@ use Rattle.automata.specs.Growth.{inner, inner_in, top, tops, inside, inside_all
 use Rattle.term_core.specs.View.{view, views}
 use Rattle.term_core.specs.declared.terms.Term.{Term}
 use Rattle.term_core.proofs.Over.{views-drop}
+use Rattle.automaton_runs.proofs.BatchParts.{other_name}
 
 module _ (e : ℕ → ℕ) (ts : List Term) (i : ℕ) where
   pub tops_next : (t : Term) (qs more all : List ℕ) (n q k : ℕ) → i < length ts → t ≡ get_or ts i t → qs ++ tops e n (views (drop i ts)) ≡ all → more ≡ qs ++ q ∷ []
@@ -42,14 +41,10 @@ inner_left ts i t h e = ap inner_in (views-drop ts i t h e)
 pub state_later : (xs cs : List ℕ) (i x : ℕ) → i < length xs → i < length cs → (x ≡ get_or xs i 0 → ⊥) → state_of (drop i xs) (drop i cs) x ≡ state_of (drop (i + 1) xs) (drop (i + 1) cs) x
 state_later xs cs i x h k other = rw add-one (go xs cs i h k other)
   where
-    test : (y c : ℕ) (ys ds : List ℕ) (b : Bool) → nat_eq x y ≡ b → (x ≡ y → ⊥) → (if b then c else state_of ys ds x) ≡ state_of ys ds x
-    test y c ys ds true e n = absurd (n (eqb-true x y e))
-    test y c ys ds false e n = refl
-
     go : (ys ds : List ℕ) (j : ℕ) → j < length ys → j < length ds → (x ≡ get_or ys j 0 → ⊥) → state_of (drop j ys) (drop j ds) x ≡ state_of (drop (suc j) ys) (drop (suc j) ds) x
     go [] ds j h k n = absurd (omega arith)
     go (y ∷ ys) [] j h k n = absurd (omega arith)
-    go (y ∷ ys) (d ∷ ds) zero h k n = test y d ys ds (nat_eq x y) refl n
+    go (y ∷ ys) (d ∷ ds) zero h k n = other_name x y d (state_of ys ds x) (λ e. n (sym e))
     go (y ∷ ys) (d ∷ ds) (suc j) h k n = go ys ds j (omega arith) (omega arith) n
 
 pub state_none : (xs cs : List ℕ) (i x : ℕ) → min (length xs) (length cs) ≤ i → state_of (drop i xs) (drop i cs) x ≡ 0

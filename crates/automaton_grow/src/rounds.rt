@@ -12,7 +12,7 @@ ghost use Rattle.automaton_grow.specs.Rounds.{IsForSymbol, IsBasicOf, IsAskedByR
 
 use crate::GrowError;
 use crate::ordered::{add, add_all};
-use crate::sides::{inner, proper, push_grown, state_of};
+use crate::sides::{Assigned, inner, proper, push_grown, state_of};
 use automaton_runs::{Arrival, AutomatonIndex, arrivals, occurrences};
 use cert_model::{Automaton, Transition};
 use std::alloc::Global;
@@ -69,7 +69,11 @@ pub fn start(alloc: Global, sys: &System, s: &Term) -> Result<Vec<Transition>, G
     ensures { PartialAnswers sys.now (view s.now) result }
 {
     let mut inside = Vec::new(alloc);
-    push_grown(alloc, &[], &[], 2, s, 1, &mut inside)?;
+    let values = Assigned {
+        leaves: &[],
+        states: &[],
+    };
+    push_grown(alloc, values, 2, s, 1, &mut inside)?;
     let mut transitions = Vec::new(alloc);
     match add_basic(alloc, sys.arities(), &inside, &mut transitions) {
         Ok(()) => Ok(transitions),
@@ -119,29 +123,44 @@ fn add_moved(
     add_twins(alloc, current, from, to, next)
 }
 
+// A rule, and the first of the states that its right side's proper subterms have.
+#[derive(Clone, Copy)]
+struct Placed<'a> {
+    rule: &'a Rule,
+    first: u32,
+}
+
 // Adds what the rule asks for where its left side reaches a state by a choice for its leaves.
 fn add_asked(
     alloc: Global,
-    rule: &Rule,
-    first: u32,
-    leaves: &[u32],
-    current: &[Transition],
-    choice: &[u32],
+    placed: Placed<'_>,
+    values: Assigned<'_>,
     state: u32,
+    current: &[Transition],
     next: &mut Vec<Transition>,
 ) -> Result<(), GrowError>
     requires kept { HasAll (map transition_view current.now) (map transition_view next.old.items) }
-    requires leaves { leaves.now ≡ variable_occurrences (view rule.now.left) }
-    requires room { first + size (view rule.now.right) < 2 ^ 32 }
+    requires leaves { values.leaves.now ≡ variable_occurrences (view placed.rule.now.left) }
+    requires room { placed.first + size (view placed.rule.now.right) < 2 ^ 32 }
     requires sorted { IsSorted IsTransitionBefore (map transition_view next.old.items) }
     requires few { length (map transition_view next.old.items) ≤ 5000 }
-    ensures { AddAnswers (IsAskedAt first (rule_view rule.now) (map transition_view current.now) choice.now state) (map transition_view next.old.items) (map transition_view next.new.items) result }
+    ensures { AddAnswers (IsAskedAt placed.entry.first (rule_view placed.entry.rule.now) (map transition_view current.now) values.entry.states.now state) (map transition_view next.old.items) (map transition_view next.new.items) result }
 {
-    match &rule.right {
-        Term::Var(x) => add_moved(alloc, current, state_of(leaves, choice, *x), state, next),
+    match &placed.rule.right {
+        Term::Var(x) => {
+            let from = state_of(values.leaves, values.states, *x);
+            add_moved(alloc, current, from, state, next)
+        }
         Term::Fun(_, _) => {
             let mut grown = Vec::new(alloc);
-            push_grown(alloc, leaves, choice, first, &rule.right, state, &mut grown)?;
+            push_grown(
+                alloc,
+                values,
+                placed.first,
+                &placed.rule.right,
+                state,
+                &mut grown,
+            )?;
             add_all(alloc, &grown, next)
         }
     }
@@ -150,30 +169,24 @@ fn add_asked(
 // Adds what the rule asks for at these arrivals of its left side.
 fn add_rule(
     alloc: Global,
-    rule: &Rule,
-    first: u32,
+    placed: Placed<'_>,
     current: &[Transition],
     rows: &[Arrival],
     next: &mut Vec<Transition>,
 ) -> Result<(), GrowError>
     requires kept { HasAll (map transition_view current.now) (map transition_view next.old.items) }
-    requires room { first + size (view rule.now.right) < 2 ^ 32 }
+    requires room { placed.first + size (view placed.rule.now.right) < 2 ^ 32 }
     requires sorted { IsSorted IsTransitionBefore (map transition_view next.old.items) }
     requires few { length (map transition_view next.old.items) ≤ 5000 }
-    ensures { AddAnswers (IsAskedByRows first (rule_view rule.now) (map transition_view current.now) (map arrival_view rows.now)) (map transition_view next.old.items) (map transition_view next.new.items) result }
+    ensures { AddAnswers (IsAskedByRows placed.entry.first (rule_view placed.entry.rule.now) (map transition_view current.now) (map arrival_view rows.now)) (map transition_view next.old.items) (map transition_view next.new.items) result }
 {
-    let leaves = occurrences(alloc, &rule.left)?;
+    let leaves = occurrences(alloc, &placed.rule.left)?;
     for row in rows {
-        match add_asked(
-            alloc,
-            rule,
-            first,
-            &leaves,
-            current,
-            &row.choice,
-            row.state,
-            next,
-        ) {
+        let values = Assigned {
+            leaves: &leaves,
+            states: &row.choice,
+        };
+        match add_asked(alloc, placed, values, row.state, current, next) {
             Ok(()) => {}
             Err(e) => return Err(e),
         }
@@ -201,7 +214,13 @@ fn grow_rule(
     ensures { AddAnswers (IsAskedByRule current.now.states first (rule_view rule.now) (map transition_view current.now.transitions.items)) (map transition_view next.old.items) (map transition_view next.new.items) result }
 {
     let rows = arrivals(alloc, index, &rule.left)?;
-    add_rule(alloc, rule, first, &current.transitions, &rows, next)
+    add_rule(
+        alloc,
+        Placed { rule, first },
+        &current.transitions,
+        &rows,
+        next,
+    )
 }
 
 // Adds what the rules ask for in the automaton.

@@ -62,6 +62,13 @@ pub fn top(leaves: &[u32], states: &[u32], n: u32, t: &Term) -> u32
     }
 }
 
+/// Variables with their states: a variable has the state of its first occurrence, 0 where it has none.
+#[derive(Clone, Copy)]
+pub struct Assigned<'a> {
+    pub leaves: &'a [u32],
+    pub states: &'a [u32],
+}
+
 // The states of some terms.
 fn tops(
     alloc: Global,
@@ -86,27 +93,26 @@ fn tops(
 /// `n`, `n + 1`, .. in preorder.
 pub fn push_grown(
     alloc: Global,
-    leaves: &[u32],
-    states: &[u32],
+    values: Assigned<'_>,
     n: u32,
     t: &Term,
     q: u32,
     out: &mut Vec<Transition>,
 ) -> Result<(), NoMemory>
     requires { n + size (view t.now) < 2 ^ 32 }
-    ensures { OnOk result (map transition_view out.new.items ≡ map transition_view out.old.items ++ growth.grown (closed.state_of leaves.now states.now) n (view t.now) q) }
+    ensures { OnOk result (map transition_view out.new.items ≡ map transition_view out.old.items ++ growth.grown (closed.state_of values.entry.leaves.now values.entry.states.now) n (view t.now) q) }
 {
     match t {
         Term::Var(_) => Ok(()),
         Term::Fun(f, args) => {
             out.push(Transition {
                 symbol: Some(*f),
-                args: tops(alloc, leaves, states, n, args)?,
+                args: tops(alloc, values.leaves, values.states, n, args)?,
                 target: q,
             })?;
             let mut next = n;
             for arg in args {
-                push_grown(alloc, leaves, states, next + 1, arg, next, out)?;
+                push_grown(alloc, values, next + 1, arg, next, out)?;
                 next += inner(arg);
             }
             Ok(())

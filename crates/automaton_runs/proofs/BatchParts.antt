@@ -1,10 +1,10 @@
 -- Batches of choices: what their parts say of the choices.
 use Rattle.std.proofs.Common.{◌≡◌, ◌≢◌, ◌↔◌, ◌⊎◌, inl, inr, ⊎_elim, ℕ, zero, suc, ◌+◌, ◌<◌, ◌≤◌, Bool, true, false, nat_eq, if◌then◌else◌, List, [], ◌∷◌, ◌++◌, length, get_or}
 use Rattle.std.proofs.Common.{take, ltb, None, Some, slice_get, Vec, Global, refl, ap, sym, subst, ◌∙◌, arith, eq-eqb}
-use Rattle.std.proofs.lemmas.Bool.{cases_lt, eqb-true, ltb-true, ltb-false}
+use Rattle.std.proofs.lemmas.Bool.{cases_lt, ne_eqb, ltb-true, ltb-false}
 use Rattle.std.proofs.lemmas.List.{take_more, take_all}
 use Rattle.std.proofs.lemmas.Option.{same_Some, get_or_from_slice_get, slice_get-get_or, slice_get_read, slice_get_within}
-use Rattle.general_lemmas.proofs.Places.{slice_get-append_left, slice_get-append_right, map-take_read}
+use Rattle.general_lemmas.proofs.Places.{slice_get-append_left, slice_get-append_right, slice_get-map_read, map-take_read}
 use Rattle.automata.specs.Closed.{state_of}
 use Rattle.rewriting.specs.Lists.{IsAmong}
 use Rattle.rewriting.proofs.Lists.{among_either}
@@ -82,12 +82,10 @@ not_got xs i outside = ltb-false i (length xs) (sym outside)
 
 -- the list that a vector has, and the first of some lists
 pub list_at : (vs : List (Vec ℕ Global)) (i : ℕ) (v : Vec ℕ Global) → i < length vs → v ≡ get_or vs i v → slice_get (as_lists vs) i ≡ Some v.items
-list_at [] i v h e = absurd (omega arith)
-list_at (w ∷ vs) zero v h e = ap (λ (u : Vec ℕ Global). Some u.items) (sym e)
-list_at (w ∷ vs) (suc i) v h e = list_at vs i v (omega arith) e
+list_at = slice_get-map_read (λ (u : Vec ℕ Global). u.items)
 
 pub lists_more : (vs : List (Vec ℕ Global)) (i : ℕ) (v : Vec ℕ Global) → i < length vs → v ≡ get_or vs i v → as_lists (take (i + 1) vs) ≡ as_lists (take i vs) ++ v.items ∷ []
-lists_more vs i v h e = map-take_read (λ (u : Vec ℕ Global). u.items) vs i v h e
+lists_more = map-take_read (λ (u : Vec ℕ Global). u.items)
 
 -- zeros up to a place
 pub zeros_more : (list : List ℕ) (i : ℕ) → i < length list → get_or list i 0 ≡ 0 → AreZeros (take i list) → AreZeros (take (i + 1) list)
@@ -118,11 +116,7 @@ states_behind b place r is q k =
     )
 
 pub other_name : (x y c r : ℕ) → (y ≡ x → ⊥) → (if nat_eq x y then c else r) ≡ r
-other_name x y c r ne = go (nat_eq x y) refl
-  where
-    go : (b : Bool) → nat_eq x y ≡ b → (if b then c else r) ≡ r
-    go true e = absurd (ne (sym (eqb-true x y e)))
-    go false e = refl
+other_name x y c r ne = rw (ne_eqb x y (λ e. ne (sym e))) refl
 
 same_name : (x y c r : ℕ) → y ≡ x → (if nat_eq x y then c else r) ≡ c
 same_name x y c r e = rw (eq-eqb x y (sym e)) refl

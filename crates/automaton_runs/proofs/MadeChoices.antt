@@ -2,7 +2,7 @@
 use Rattle.std.proofs.Common.{◌≡◌, ℕ, zero, suc, ◌-◌, ◌<◌, ◌≤◌, inl, inr, ⊎_elim, List, [], ◌∷◌, ◌++◌, length, take, drop, replicate, All, AllPairs, refl, ap, ap₂, sym, subst, ◌∙◌}
 use Rattle.std.proofs.Common.{length-append, length-drop, length-take-le, take-append-drop, arith}
 use Rattle.std.proofs.lemmas.List.{length-replicate}
-use Rattle.std.proofs.lemmas.List.Elements.{All-nil, All-cons, All-head, All-tail}
+use Rattle.std.proofs.lemmas.List.Elements.{All-nil, All-cons, All-head, All-tail, All-replicate}
 use Rattle.rewriting.specs.Prelude.{Term, IsAmong, IsBefore, variable_occurrences}
 use Rattle.rewriting.proofs.Lists.{among_left, among_right}
 use Rattle.automata.specs.Runs.{ReachBy}
@@ -78,10 +78,6 @@ module _ (a : Indexed) (t : Term) (pools : List (List ℕ)) (is : pools ≡ pool
       }
 
 -- where there is one state
-all_zeros : (m : ℕ) → All (λ q. q < 1) (replicate m 0)
-all_zeros zero = All-nil (λ q. q < 1)
-all_zeros (suc m) = All-cons (λ q. q < 1) 0 (replicate m 0) (omega arith) (all_zeros m)
-
 zeros_only : (m : ℕ) (cs : List ℕ) → length cs ≡ m → All (λ q. q < 1) cs → cs ≡ replicate m 0
 zeros_only zero [] long all = refl
 zeros_only zero (c ∷ cs) long all = absurd (omega arith)
@@ -103,4 +99,4 @@ zeros_are a t m one long = record {
 }
   where
     zero_choice : IsChoice a.automaton.states t (replicate m 0)
-    zero_choice = record { each = length-replicate m 0 ∙ long; states = subst (λ (n : ℕ). All (λ q. q < n) (replicate m 0)) (sym one) (all_zeros m) }
+    zero_choice = record { each = length-replicate m 0 ∙ long; states = subst (λ (n : ℕ). All (λ q. q < n) (replicate m 0)) (sym one) (All-replicate (λ q. q < 1) m 0 (omega arith)) }

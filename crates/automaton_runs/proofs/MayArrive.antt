@@ -35,13 +35,6 @@ anywhere_more all qs q more old new is front put p k i n =
     (put p k).1
     (⊎_elim (λ h. inl (front p k h n)) (λ h. inr (⊎_elim (λ e. e) (λ f. absurd f) h, n)) (among_either p qs (q ∷ []) (subst (IsAmong p) is i)))
 
--- one more pool
-pub all_anywhere : {X Y : Type 0} (R : X → Y → Type 0) (xs : List X) (x : X) (ys : List Y) (y : Y) → AllZip R xs ys → R x y → AllZip R (xs ++ x ∷ []) (ys ++ y ∷ [])
-all_anywhere R [] x [] y z h = (h, tt)
-all_anywhere R [] x (d ∷ ys) y z h = absurd z
-all_anywhere R (u ∷ xs) x [] y z h = absurd z
-all_anywhere R (u ∷ xs) x (d ∷ ys) y z h = (z.0, all_anywhere R xs x ys y z.1 h)
-
 -- what the rows up to one have
 pub rights_more : (r : NumberRelation) (left : ℕ) (row old new : List ℕ) → row ≡ row_of r left → ((q : ℕ) → IsAmong q new ↔ (IsAmong q old ⊎ IsAmong q row))
     → ((p q : ℕ) → p < left → Relates r p q → IsAmong q old) → (p q : ℕ) → p < left + 1 → Relates r p q → IsAmong q new

@@ -1,50 +1,30 @@
 -- A term with its variable occurrences numbered: a state for each number is a choice.
-use Rattle.std.proofs.Common.{◌≡◌, ◌↔◌, ℕ, zero, suc, ◌+◌, ◌<◌, Bool, false, nat_eq, if◌then◌else◌, List, [], ◌∷◌, ◌++◌, length, get_or, take, drop, refl, ap, sym, subst, ◌∙◌}
+use Rattle.std.proofs.Common.{◌≡◌, ◌≢◌, ◌↔◌, ℕ, ◌+◌, ◌<◌, List, [], ◌∷◌, ◌++◌, length, get_or, take, drop, refl, ap, sym, subst, ◌∙◌}
 use Rattle.std.proofs.Common.{arith, length-append, length-drop}
 use Rattle.std.proofs.lemmas.List.{get_or_append_left, get_or-append-add, take-append-drop}
-use Rattle.std.proofs.lemmas.Bool.{eq-eqb, ne_eqb}
+use Rattle.std.proofs.lemmas.Option.{get_or_from_slice_get}
 use Rattle.std.proofs.Math.Seq.{length-take-le}
 use Rattle.rewriting.specs.Prelude.{Term, Terms, var, app, nil, cons, variable_occurrences, variable_occurrences_of}
 use Rattle.automata.specs.Runs.{Moves, Reach, ReachAll, at, ReachBy, ReachAllBy}
 use Rattle.automata.specs.Closed.{state_of}
 use Rattle.number_sets.specs.Sets.{below}
+use Rattle.number_sets.proofs.Members.{length-below, get_or-below}
 use Rattle.automaton_runs.specs.Linear.{linear, linear_all}
 use Rattle.automaton_runs.proofs.Arguments.{choice_length}
-
--- n numbers from i on
-abbrev run : ℕ → ℕ → List ℕ
-run i zero = []
-run i (suc n) = i ∷ run (suc i) n
-
-run_push : (n i : ℕ) → run i (suc n) ≡ run i n ++ (i + n) ∷ []
-run_push zero i = let e : i ≡ i + zero = omega arith in ap (λ (k : ℕ). k ∷ []) e
-run_push (suc n) i =
-    let e : suc i + n ≡ i + suc n = omega arith in
-    ap (λ (l : List ℕ). i ∷ l) (run_push n (suc i)) ∙ ap (λ (k : ℕ). i ∷ (run (suc i) n ++ k ∷ [])) e
-
-below_run : (n : ℕ) → below n ≡ run 0 n
-below_run zero = refl
-below_run (suc n) =
-    let e : n ≡ 0 + n = omega arith in
-    ap (λ (l : List ℕ). l ++ n ∷ []) (below_run n) ∙ ap (λ (k : ℕ). run 0 n ++ k ∷ []) e ∙ sym (run_push n 0)
-
-run_state : (cs : List ℕ) (i k : ℕ) → k < length cs → state_of (run i (length cs)) cs (i + k) ≡ get_or cs k 0
-run_state [] i k h = absurd (omega arith)
-run_state (c ∷ cs) i zero h =
-    let same : i + zero ≡ i = omega arith in
-    ap (λ (b : Bool). if b then c else state_of (run (suc i) (length cs)) cs (i + zero)) (eq-eqb (i + zero) i same)
-run_state (c ∷ cs) i (suc k) h =
-    let other : nat_eq (i + suc k) i ≡ false = ne_eqb (i + suc k) i (λ e. omega arith) in
-    let place : i + suc k ≡ suc i + k = omega arith in
-    ap (λ (b : Bool). if b then c else state_of (run (suc i) (length cs)) cs (i + suc k)) other
-    ∙ ap (state_of (run (suc i) (length cs)) cs) place ∙ run_state cs (suc i) k (omega arith)
+use Rattle.automaton_runs.proofs.BatchParts.{found_state}
 
 -- the variables from the number i on may have the states of a choice
 abbrev pub AreGiven : (ℕ → ℕ → Type 0) → ℕ → List ℕ → Type 0
 AreGiven At i cs = (k : ℕ) → k < length cs → At (i + k) (get_or cs k 0)
 
 given_below : (cs : List ℕ) → AreGiven (at (state_of (below (length cs)) cs)) 0 cs
-given_below cs k h = sym (ap (λ (l : List ℕ). state_of l cs (0 + k)) (below_run (length cs)) ∙ run_state cs 0 k h)
+given_below cs k h =
+    let n = length cs in
+    let low : k < length (below (length cs)) = omega (arith, h, length-below (length cs)) in
+    let earlier : (j : ℕ) → j < k → get_or (below (length cs)) j 0 ≢ k = λ j l e. let same = get_or-below (length cs) j (omega (arith, h, l)) in omega (arith, l, same, e) in
+    let found = found_state (below n) cs k k h low (get_or-below n k h) earlier in
+    let place : k ≡ 0 + k = omega arith in
+    get_or_from_slice_get cs k (state_of (below n) cs k) 0 found ∙ ap (state_of (below n) cs) place
 
 module _ (At : ℕ → ℕ → Type 0) where
   given_left : (i : ℕ) (cs ds : List ℕ) → AreGiven At i (cs ++ ds) → AreGiven At i cs

@@ -28,7 +28,7 @@ zip_all {X = X} {Y = Y} R xs ys i h k =
     subst (λ (l : List X). AllZip R l (take i ys) ↔ AllZip R xs ys) (sym (take_all i xs h))
     (subst (λ (l : List Y). AllZip R xs l ↔ AllZip R xs ys) (sym (take_all i ys k)) (λ z. z, λ z. z))
 
-zip_push : {X Y : Type 0} (R : X → Y → Type 0) (xs : List X) (ys : List Y) (x : X) (y : Y) → AllZip R xs ys → R x y → AllZip R (xs ++ x ∷ []) (ys ++ y ∷ [])
+pub zip_push : {X Y : Type 0} (R : X → Y → Type 0) (xs : List X) (ys : List Y) (x : X) (y : Y) → AllZip R xs ys → R x y → AllZip R (xs ++ x ∷ []) (ys ++ y ∷ [])
 zip_push R [] [] x y z h = (h, tt)
 zip_push R [] (d ∷ ys) x y z h = absurd z
 zip_push R (u ∷ xs) [] x y z h = absurd z

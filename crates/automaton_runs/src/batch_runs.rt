@@ -25,22 +25,28 @@ use number_sets::{NumberRelation, NumberSet};
 use std::alloc::Global;
 use term_core::{NoMemory, Term};
 
+// A symbol over evaluated arguments, with the numbers by which it leads on where it has none.
+#[derive(Clone, Copy)]
+struct Applied<'a> {
+    f: u32,
+    all: &'a NumberSet,
+    args: &'a [Evaluated<'a>],
+}
+
 // Relates the target of a transition to the numbers by which the symbol leads to it.
 fn put_transition<'a>(
     alloc: Global,
     transition: &'a Transition,
-    f: u32,
-    all: &'a NumberSet,
-    args: &'a [Evaluated<'_>],
+    applied: Applied<'a>,
     shared: &mut Shared<'a>,
     made: &mut NumberRelation,
 ) -> Result<(), NoMemory>
-    requires { IsShared (members all.now) (relations args.now) shared.old }
-    ensures shared { OnOk result (IsShared (members all.now) (relations args.now) shared.new) }
-    ensures made { OnOk result ((q k : ℕ) → Relates made.new q k ↔ (Relates made.old q k ⊎ Leads f (members all.now) (relations args.now) (transition_view transition.now) q k)) }
+    requires { IsShared (members applied.all.now) (relations applied.args.now) shared.old }
+    ensures shared { OnOk result (IsShared (members applied.entry.all.now) (relations applied.entry.args.now) shared.new) }
+    ensures made { OnOk result ((q k : ℕ) → Relates made.new q k ↔ (Relates made.old q k ⊎ Leads applied.entry.f (members applied.entry.all.now) (relations applied.entry.args.now) (transition_view transition.now) q k)) }
 {
-    if transition.symbol == Some(f) {
-        shared.move_to(alloc, all, args, &transition.args)?;
+    if transition.symbol == Some(applied.f) {
+        shared.move_to(alloc, applied.all, applied.args, &transition.args)?;
         shared.put(alloc, transition.target, made)?;
     }
     Ok(())
@@ -50,16 +56,14 @@ fn put_transition<'a>(
 fn put_transitions<'a>(
     alloc: Global,
     transitions: &'a [&'a Transition],
-    f: u32,
-    all: &'a NumberSet,
-    args: &'a [Evaluated<'_>],
+    applied: Applied<'a>,
     made: &mut NumberRelation,
 ) -> Result<(), NoMemory>
-    ensures { OnOk result ((q k : ℕ) → Relates made.new q k ↔ (Relates made.old q k ⊎ HaveLeads f (members all.now) (relations args.now) (pointed transitions.now) q k)) }
+    ensures { OnOk result ((q k : ℕ) → Relates made.new q k ↔ (Relates made.old q k ⊎ HaveLeads applied.entry.f (members applied.entry.all.now) (relations applied.entry.args.now) (pointed transitions.now) q k)) }
 {
-    let mut shared = Shared::new(alloc, all, args);
+    let mut shared = Shared::new(alloc, applied.all, applied.args);
     for transition in transitions {
-        put_transition(alloc, transition, f, all, args, &mut shared, made)?;
+        put_transition(alloc, transition, applied, &mut shared, made)?;
     }
     Ok(())
 }
@@ -69,17 +73,15 @@ fn put_by_first(
     alloc: Global,
     index: &AutomatonIndex<'_>,
     first: &NumberRelation,
-    f: u32,
-    all: &NumberSet,
-    args: &[Evaluated<'_>],
+    applied: Applied<'_>,
     made: &mut NumberRelation,
 ) -> Result<(), NoMemory>
-    ensures { OnOk result ((q k : ℕ) → Relates made.new q k ↔ (Relates made.old q k ⊎ HaveLeadsByFirst index.now first.now f (members all.now) (relations args.now) q k)) }
+    ensures { OnOk result ((q k : ℕ) → Relates made.new q k ↔ (Relates made.old q k ⊎ HaveLeadsByFirst index.now first.now applied.entry.f (members applied.entry.all.now) (relations applied.entry.args.now) q k)) }
 {
     for state in 0..first.lefts() {
         let state = state as u32;
         if first.has_left(state) {
-            put_transitions(alloc, index.with_first(state), f, &*all, &*args, made)?;
+            put_transitions(alloc, index.with_first(state), applied, made)?;
         }
     }
     Ok(())
@@ -112,11 +114,12 @@ pub(crate) fn reached_from(
 {
     let mut made = NumberRelation::new(alloc);
     let transitions = index.with_symbol(f);
+    let applied = Applied { f, all, args };
     match args.first() {
         Some(first) if has_few_lefts(first.relation(), transitions.len()) => {
-            put_by_first(alloc, index, first.relation(), f, all, args, &mut made)?;
+            put_by_first(alloc, index, first.relation(), applied, &mut made)?;
         }
-        _ => put_transitions(alloc, transitions, f, &*all, &*args, &mut made)?,
+        _ => put_transitions(alloc, transitions, applied, &mut made)?,
     }
     Ok(made)
 }

@@ -1,16 +1,19 @@
 -- Loops over the steps of a derivation and over conditions, item by item.
-use Rattle.std.proofs.Common.{◌≡◌, ℕ, suc, ◌+◌, ◌<◌, List, ◌∷◌, map, drop, length, get_or, sym, ap, subst, subst₂, arith}
+use Rattle.std.proofs.Common.{◌≡◌, ℕ, suc, ◌+◌, ◌<◌, List, ◌∷◌, map, drop, length, get_or, Err, sym, ap, subst, subst₂, arith}
 use Rattle.general_lemmas.proofs.Places.{map-drop_read}
 use Rattle.rewriting.specs.Terms as math
 use Rattle.rewriting.specs.Prelude.{Bindings, Condition, System}
 use Rattle.certificates.specs.Derivations as plain
-use Rattle.certificates.specs.Prelude.{derivation_of, derivations_of, first_step, first_derivation, StepsTo, StepFails, FailsFrom, FailFrom, StepReason, AreStepsShort, AreShort}
+use Rattle.certificates.specs.Prelude.{derivation_of, derivations_of, first_step, first_derivation, StepsTo, StepFails, AreMet, FailsFrom, FailFrom, StepReason, AreStepsShort, AreShort}
 use Rattle.certificates.specs.Prelude.{DoConditionsFit}
 use Rattle.term_core.specs.RuleView.{condition_view}
 use Rattle.term_core.specs.declared.systems.Cond.{Cond}
 use Rattle.cert_model.specs.DerivationView.{derivation_view, step_view}
 use Rattle.cert_model.specs.declared.derivations.Step.{Step}
 use Rattle.cert_model.specs.declared.derivations.Derivation.{Derivation}
+use Rattle.derivation.specs.Errors.{Judged, IsBelow}
+use Rattle.derivation.specs.declared.errors.ReplayError.{ReplayError}
+use Rattle.derivation.proofs.Judging.{judged_below}
 use Rattle.derivation.proofs.Loops.{Running, run_goes_on, run_fails, Meeting, meeting_goes_on, meeting_fails, Fulfils, Misses}
 
 module _ (xs : List Step) (i : ℕ) (x : Step) (low : i < length xs) (is : x ≡ get_or xs i x) where
@@ -63,7 +66,15 @@ module _ (cs : List Cond) (ds : List Derivation) (k : ℕ) (c : Cond) (d : Deriv
         (meeting_goes_on sys hyps (k + 1) b (condition_view c) (map condition_view (drop (k + 1) cs)) (derivation_view d) (derivations_of (map derivation_view (drop (k + 1) ds)))
         start all whole after opened_meeting h)
 
-    pub failing_condition : (path : List ℕ) (reason : StepReason) → Misses sys hyps (derivation_view d) b (condition_view c) path reason → FailFrom sys hyps 1 start all whole ((k + 1) ∷ path) reason
+    failing_condition : (path : List ℕ) (reason : StepReason) → Misses sys hyps (derivation_view d) b (condition_view c) path reason → FailFrom sys hyps 1 start all whole ((k + 1) ∷ path) reason
     failing_condition path reason h =
         meeting_fails sys hyps (k + 1) b (condition_view c) (map condition_view (drop (k + 1) cs)) (derivation_view d) (derivations_of (map derivation_view (drop (k + 1) ds)))
         start all whole path reason opened_meeting h
+
+    -- an error of the condition's, with its number before the path
+    pub failing_below : {T : Type 0} (Good : T → Type 0) (Fails : List ℕ → StepReason → Type 0) (e r : ReplayError) → IsBelow (k + 1) e r
+        → ((path : List ℕ) (reason : StepReason) → Fails path reason → Misses sys hyps (derivation_view d) b (condition_view c) path reason) → Judged Good Fails (Err e)
+        → Judged (λ after. AreMet sys hyps start all whole after) (FailFrom sys hyps 1 start all whole) (Err r)
+    failing_below Good Fails e r is f h =
+        judged_below Good Fails (λ after. AreMet sys hyps start all whole after) (FailFrom sys hyps 1 start all whole) (k + 1) e r is
+        (λ path reason g. failing_condition path reason (f path reason g)) h

@@ -86,27 +86,6 @@ impl JudgeByKind {
     }
 
     // Judges an automaton, and remembers the condition that it shows to be never met.
-    fn judge_anew(
-        &mut self,
-        alloc: Global,
-        sys: &IndexedSystem,
-        conds: &[Cond],
-        evidence: &AutoEvidence<'_>,
-    ) -> Result<(), Refusal>
-        requires few { length conds.now ≤ 200 }
-        requires fit { DoConditionsFit (map condition_view conds.now) }
-        requires knows { IsKnown self.old sys.now }
-        ensures judged { RefutesAnswers (JudgedByAutomaton sys.now (map condition_view conds.now) evidence.now.cond (automaton_view evidence.now.automaton.now)) result }
-        ensures knows { IsKnown self.new sys.now }
-    {
-        evidence.refutes_in(alloc, sys, conds)?;
-        if let Some(cond) = condition(conds, evidence.cond) {
-            self.last = Some(copied(alloc, cond, evidence.automaton)?);
-        }
-        Ok(())
-    }
-
-    // Judges an automaton.
     fn judge_automaton(
         &mut self,
         alloc: Global,
@@ -122,10 +101,15 @@ impl JudgeByKind {
     {
         match &self.last {
             Some(known) if is_same(&known.automaton, evidence.automaton) => {
-                judge_again(alloc, sys, conds, evidence, known)
+                return judge_again(alloc, sys, conds, evidence, known);
             }
-            _ => self.judge_anew(alloc, sys, conds, evidence),
+            _ => {}
         }
+        evidence.refutes_in(alloc, sys, conds)?;
+        if let Some(cond) = condition(conds, evidence.cond) {
+            self.last = Some(copied(alloc, cond, evidence.automaton)?);
+        }
+        Ok(())
     }
 
     /// Judges evidence for conditions of a system: valid, or the first reason why not. What is remembered stays so of the system.

@@ -2,7 +2,7 @@
 use Rattle.std.proofs.Common.{◌≡◌, ◌≢◌, inl, inr, ℕ, zero, suc, ◌+◌, ◌<◌, ◌≤◌, List, [], ◌∷◌, ◌++◌, length, drop, slice_get, Option, None, Some, Result, Ok, Err, OnOk, refl, sym}
 use Rattle.std.proofs.Common.{ap, ap₂, ◌∙◌, subst, arith}
 use Rattle.std.proofs.lemmas.Option.{slice_get_within, get_or_from_slice_get}
-use Rattle.std.proofs.lemmas.List.{drop_more}
+use Rattle.std.proofs.lemmas.List.{drop_more, drop_all}
 use Rattle.rewriting.specs.Prelude.{IsOver, IsSystem, IsWellFormed, IsAmong, AreDistinct}
 use Rattle.rewriting.proofs.Common.{Term, System, apply}
 use Rattle.rewriting.proofs.Laws.{well_formed}
@@ -48,12 +48,6 @@ drop_some es at e h =
     let one : at + 1 ≡ suc at = omega arith in
     drop_more es at e (slice_get_within es at e h) ∙ ap₂ (λ (x : Redex) (xs : List Redex). x ∷ xs) (get_or_from_slice_get es at e e h) (ap (λ k. drop k es) one)
 
-drop_past : (es : List Redex) (at : ℕ) → length es ≤ at → drop at es ≡ []
-drop_past [] zero h = refl
-drop_past [] (suc at) h = refl
-drop_past (e ∷ es) zero h = absurd (omega (arith, h))
-drop_past (e ∷ es) (suc at) h = drop_past es at (omega (arith, h))
-
 none_past : (es : List Redex) (at : ℕ) → slice_get es at ≡ None → length es ≤ at
 none_past [] at e = omega arith
 none_past (d ∷ es) zero e = cc
@@ -74,7 +68,7 @@ module _ (sys : System) (u v : Term) where
   refuted_step es at r rs h k = subst (AreRefuted sys u v (r ∷ rs)) (sym (drop_some es at h.entry h.stands)) (h.place, h.judged, k)
 
   pub all_refuted : (es : List Redex) (at : ℕ) (rs : List RedexPlace) (after : ℕ) → Pass J es at rs after → length es ≤ after → AreRefuted sys u v rs (drop at es)
-  all_refuted es at [] after h long = subst (AreRefuted sys u v []) (sym (drop_past es at (omega (arith, h, long)))) tt
+  all_refuted es at [] after h long = subst (AreRefuted sys u v []) (sym (drop_all at es (omega (arith, h, long)))) tt
   all_refuted es at (r ∷ rs) after (e, h) long = refuted_step es at r rs e (all_refuted es (suc at) rs after h long)
 
   next_fails : (es : List Redex) (at : ℕ) (r : RedexPlace) (rs : List RedexPlace) (reason : Rejection) → IsEntry J es at r None → AreNotRefuted sys u v (suc (suc at)) rs (drop (suc at) es) reason
@@ -91,7 +85,7 @@ module _ (sys : System) (u v : Term) where
 
   missed : (es : List Redex) (at : ℕ) (r : RedexPlace) (rs : List RedexPlace) (reason : Rejection) → IsAbsent es at r → IsMissed r reason → (o : Option Redex) → slice_get es at ≡ o
       → AreNotRefuted sys u v (suc at) (r ∷ rs) (drop at es) reason
-  missed es at r rs reason none h None e = subst (λ z. AreNotRefuted sys u v (suc at) (r ∷ rs) z reason) (sym (drop_past es at (none_past es at e))) h
+  missed es at r rs reason none h None e = subst (λ z. AreNotRefuted sys u v (suc at) (r ∷ rs) z reason) (sym (drop_all at es (none_past es at e))) h
   missed es at r rs reason none h (Some d) e = subst (λ z. AreNotRefuted sys u v (suc at) (r ∷ rs) z reason) (sym (drop_some es at d e)) (inl (none d e, h))
 
   pub one_fails : (es : List Redex) (at : ℕ) (rs : List RedexPlace) (reason : Rejection) → Fail J es at rs reason → AreNotRefuted sys u v (suc at) rs (drop at es) reason

@@ -31,30 +31,41 @@ pub(crate) struct Judge<'a> {
     pub(crate) own: u32,
 }
 
+// A redex of an end: the position, and the rule's number.
+#[derive(Clone, Copy)]
+struct Spot<'a> {
+    path: &'a [u32],
+    rule: u32,
+}
+
 // A redex that has no entry where one should stand.
-fn missed(alloc: Global, which: u32, path: &[u32], rule: u32) -> CheckError
-    ensures { MissedAnswers (place which path.now rule) result }
+fn missed(alloc: Global, which: u32, spot: Spot<'_>) -> CheckError
+    ensures { MissedAnswers (place which spot.entry.path.now spot.entry.rule) result }
 {
-    match copy_numbers(alloc, path) {
-        Ok(pos) => CheckError::Rejected(Rejected::NotNormal { which, pos, rule }),
+    match copy_numbers(alloc, spot.path) {
+        Ok(pos) => CheckError::Rejected(Rejected::NotNormal {
+            which,
+            pos,
+            rule: spot.rule,
+        }),
         Err(_) => CheckError::NoMemory,
     }
 }
 
 // Whether the entry is for this redex.
-fn is_for(entry: &Redex, which: u32, path: &[u32], rule: u32) -> bool
-    ensures { IsTrue result ↔ (entry_place (redex_view entry.now) ≡ place which path.now rule) }
+fn is_for(entry: &Redex, which: u32, spot: Spot<'_>) -> bool
+    ensures { IsTrue result ↔ (entry_place (redex_view entry.now) ≡ place which spot.entry.path.now spot.entry.rule) }
 {
-    entry.which == which && entry.rule == rule && entry.pos.as_slice() == path
+    entry.which == which && entry.rule == spot.rule && entry.pos.as_slice() == spot.path
 }
 
 impl<'a> Judge<'a> {
     // The entry with this number, from 0, where it is for the redex.
-    fn entry_for(&self, at: usize, path: &[u32], rule: u32) -> Option<&'a Redex>
-        ensures { MatchOption result (IsAbsent (map redex_view self.now.entries.now) at (place self.now.which path.now rule)) (λ e. (slice_get (map redex_view self.now.entries.now) at ≡ Some (redex_view e.now)) × (entry_place (redex_view e.now) ≡ place self.now.which path.now rule)) }
+    fn entry_for(&self, at: usize, spot: Spot<'_>) -> Option<&'a Redex>
+        ensures { MatchOption result (IsAbsent (map redex_view self.now.entries.now) at (place self.now.which spot.entry.path.now spot.entry.rule)) (λ e. (slice_get (map redex_view self.now.entries.now) at ≡ Some (redex_view e.now)) × (entry_place (redex_view e.now) ≡ place self.now.which spot.entry.path.now spot.entry.rule)) }
     {
         let entry = self.entries.get(at)?;
-        if is_for(entry, self.which, path, rule) {
+        if is_for(entry, self.which, spot) {
             Some(entry)
         } else {
             None
@@ -66,17 +77,16 @@ impl<'a> Judge<'a> {
         &self,
         alloc: Global,
         rule: &Rule,
-        number: u32,
         values: Subst,
-        path: &[u32],
+        spot: Spot<'_>,
         at: usize,
     ) -> Result<usize, CheckError>
         requires ready { IsReady self.now.sys.now self.now.rules.now self.now.entries.now self.now.own }
         requires sound { IsSound self.now.sys.now.arities rule.now }
-        ensures { PlacesAnswer (λ r evidence o. AreJudged self.now.sys.now (conditions_under (match_or_new self.now.own values) (map condition_view rule.now.conds.items)) evidence o) (map redex_view self.now.entries.now) at (place self.now.which path.now number ∷ []) result }
+        ensures { PlacesAnswer (λ r evidence o. AreJudged self.now.sys.now (conditions_under (match_or_new self.now.own values) (map condition_view rule.now.conds.items)) evidence o) (map redex_view self.now.entries.now) at (place self.now.which spot.entry.path.now spot.entry.rule ∷ []) result }
     {
-        let Some(entry) = self.entry_for(at, path, number) else {
-            return Err(missed(alloc, self.which, path, number));
+        let Some(entry) = self.entry_for(at, spot) else {
+            return Err(missed(alloc, self.which, spot));
         };
         match judge_conditions(alloc, self.sys, rule, values, self.own, &entry.evidence) {
             Ok(()) => Ok(at + 1),
@@ -104,7 +114,10 @@ impl<'a> Judge<'a> {
         let rule = &self.rules[number as usize - 1];
         match match_term(alloc, &rule.left, part)? {
             Match::Unmatched => Ok(at),
-            Match::Bound(values) => self.judge_entry(alloc, rule, number, values, path, at),
+            Match::Bound(values) => {
+                let spot = Spot { path, rule: number };
+                self.judge_entry(alloc, rule, values, spot, at)
+            }
         }
     }
 

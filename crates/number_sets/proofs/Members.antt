@@ -45,7 +45,7 @@ pub length-below : (n : ℕ) → length (below n) ≡ n
 length-below zero = refl
 length-below (suc n) = omega (arith, length-append (below n) (n ∷ []), length-below n)
 
-get_or-below : (n k : ℕ) → k < n → get_or (below n) k 0 ≡ k
+pub get_or-below : (n k : ℕ) → k < n → get_or (below n) k 0 ≡ k
 get_or-below zero k h = absurd (omega arith)
 get_or-below (suc n) k h =
     ⊎_elim (λ (l : k < n). get_or_append_left (below n) (n ∷ []) 0 k (omega (arith, length-below n)) ∙ get_or-below n k l)

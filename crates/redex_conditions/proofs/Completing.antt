@@ -1,5 +1,5 @@
 -- Values for the variables without one, and the instances of conditions.
-use Rattle.std.proofs.Common.{ℕ, ◌≡◌, ◌⊎◌, inl, inr, ◌+◌, ◌<◌, ◌≤◌, Bool, true, false, cond, Option, None, Some, unwrap_or, option_map, List, [], ◌∷◌, map, length, drop, get_or}
+use Rattle.std.proofs.Common.{ℕ, ◌≡◌, ◌⊎◌, inl, inr, ◌+◌, ◌<◌, ◌≤◌, Bool, true, false, cond, Option, None, Some, unwrap_or, option_map, List, [], ◌∷◌, map, length, drop}
 use Rattle.std.proofs.Common.{nat_cmp, refl, sym, ap, ap₂, ◌∙◌, subst, arith, Result, Ok, Err, OnOk}
 use Rattle.std.specs.Ordering.{eq_by_cmp}
 use Rattle.std.proofs.lemmas.Bool.{cases_lt, or_right, or_left}
@@ -98,9 +98,6 @@ module _ (arities : Signature) (r : program.Rule) (sound : IsSound arities r) wh
       → conditions_under (values_of after) (map condition_view r.conds.items) ≡ conditions_under (match_or_new n before) (map condition_view r.conds.items)
   completed_conditions n before after h =
       conditions_agree (values_of after) (match_or_new n before) (map condition_view r.conds.items) (λ x o. ap (λ q. unwrap_or q (var x)) (h x (side_below x o)))
-
--- one condition more, of which the instance is d
-module _ (s : Substitution) (conds : List program_cond.Cond) (i : ℕ) (c : program_cond.Cond) (low : i < length conds) (here : c ≡ get_or conds i c) where
 
 -- what is answered for conditions that fit
 pub judged_fitting : (sys : System) (ds : List program_cond.Cond) (cs : List Condition) (e : InfeasibilityEvidence) (a : Result (Unit {0}) Refusal) → map condition_view ds ≡ cs → DoConditionsFit cs

@@ -1,11 +1,11 @@
 -- Evidence judged for a redex of a numbered end is judged for the redex of the end.
 use Rattle.std.proofs.Common.{ℕ, suc, ◌≡◌, ◌⊎◌, inl, inr, ◌+◌, ◌-◌, ◌*◌, ◌<◌, true, List, [], ◌∷◌, map, length, Option, None, Some, option_map, cond, Bool, false, nat_cmp, refl}
-use Rattle.std.proofs.Common.{sym, ap, ap₂, ◌∙◌, subst, arith, eqb-true, eq-eqb, nat_eq, if◌then◌else◌, zero, get_or}
+use Rattle.std.proofs.Common.{sym, ap, ap₂, ◌∙◌, subst, arith, eqb-true, zero}
 use Rattle.std.specs.Ordering.{eq_by_cmp}
 use Rattle.std.specs.Cmp.{nat_cmp_total}
 use Rattle.std.specs.FinMap.{get, empty, entries, find, from_entries, get-entries, get-from_entries}
 use Rattle.std.proofs.lemmas.Bool.{or_right, or_left}
-use Rattle.rewriting.specs.Prelude.{Solves, SolvesAll, IsLeastMatch, conditions_under, AreDistinct}
+use Rattle.rewriting.specs.Prelude.{Solves, SolvesAll, IsLeastMatch, conditions_under, AreDistinct, index_in}
 use Rattle.rewriting.proofs.Common.{Term, Terms, var, app, nil, cons, Position, argument, subterm, Substitution, Bindings, apply, apply_all, compose, occurs, occurs_in, Condition, Rule, System}
 use Rattle.rewriting.proofs.Instances.{apply-apply, apply-agree, or_cases, apply-var}
 use Rattle.rewriting.proofs.Positions.{within}
@@ -14,8 +14,8 @@ use Rattle.certificates.specs.Prelude.{InfeasibilityEvidence, RuleMatches, Evide
 use Rattle.rewriting.proofs.LeastMatches.{least_needs}
 use Rattle.matching.proofs.Least.{values_have, Inherits, nothing_bound}
 use Rattle.renumbering.specs.Spread.{spread, spreading}
-use Rattle.rewriting.proofs.Lists.{distinct_at}
 use Rattle.renumbering.specs.Rows.{naming}
+use Rattle.renumbering.proofs.Rows.{index_at}
 use Rattle.renumbering.proofs.Spreads.{spread_past, spread_one_to_one, odd_is_spread}
 use Rattle.valid_certificates.specs.Peaks.{RedexPlace, MatchesAt, value_or_own, at_redex, AreConditionsAt, IsRedexJudged}
 use Rattle.redex_conditions.specs.Judged.{value_or_new, match_or_new, IsJudgedAt}
@@ -127,29 +127,6 @@ part_below n t [] u e h = subst (AreBelow n) (let same : t ≡ u = cc in same) h
 part_below n (var y) (k ∷ p) u e h = cc
 part_below n (app f ts) (k ∷ p) u e h = let w = within (app f ts) k p u e in part_below n w.part p u w.inside (below_inherits n f ts k w.part h w.here)
 
--- the first place of a number in a row
-abbrev place_in : List ℕ → ℕ → ℕ
-place_in [] x = 0
-place_in (y ∷ ys) x = if nat_eq x y then 0 else suc (place_in ys x)
-
--- a number that stands in a row stands at its first place
-abbrev StandsFirst : List ℕ → ℕ → Type 0
-StandsFirst ys x = (place_in ys x < length ys) × (get_or ys (place_in ys x) 0 ≡ x)
-
-first_here : (y x : ℕ) (ys : List ℕ) (b : Bool) → nat_eq x y ≡ b → (b ≡ false → StandsFirst ys x) → StandsFirst (y ∷ ys) x
-first_here y x ys true e h =
-    let at : place_in (y ∷ ys) x ≡ 0 = rw e refl in
-    (omega (arith, at), ap (λ k. get_or (y ∷ ys) k 0) at ∙ sym (eqb-true x y e))
-first_here y x ys false e h =
-    let at : place_in (y ∷ ys) x ≡ suc (place_in ys x) = rw e refl in
-    let low = (h refl).0 in
-    (omega (arith, at, low), ap (λ k. get_or (y ∷ ys) k 0) at ∙ (h refl).1)
-
-stands_first : (ys : List ℕ) (x k : ℕ) → k < length ys → get_or ys k 0 ≡ x → StandsFirst ys x
-stands_first [] x k l e = absurd (omega (arith, l))
-stands_first (y ∷ ys) x zero l e = first_here y x ys (nat_eq x y) refl (λ f. absurd (let t : nat_eq x y ≡ true = eq-eqb x y (sym e) in cc))
-stands_first (y ∷ ys) x (suc k) l e = first_here y x ys (nat_eq x y) refl (λ f. stands_first ys x k (omega (arith, l)) e)
-
 module _ (row : List ℕ) (distinct : AreDistinct row) (t n : Term) (is : t ≡ apply (naming row) n) (below : AreBelow (length row) n) where
   -- the values at the redex are those at the numbered one, spread
   value_spread : (m : Bindings) (k : ℕ) (o : Option Term) → get m k ≡ o → ((u : Term) → get m k ≡ Some u → AreBelow (length row) u)
@@ -194,17 +171,14 @@ module _ (row : List ℕ) (distinct : AreDistinct row) (t n : Term) (is : t ≡ 
   match_back : (sys : System) (p : Position) (i : ℕ) → MatchesAt sys n p i → MatchesAt sys t p i
   match_back sys p i m = subst (λ z. MatchesAt sys z p i) (sym is) (moved_match (naming row) sys n p i m)
 
-  first_place : (k : ℕ) → k < length row → place_in row (get_or row k 0) ≡ k
-  first_place k l = let f = stands_first row (get_or row k 0) k l refl in distinct_at row distinct (place_in row (get_or row k 0)) k f.0 l f.1
-
   -- and the other way round, since a renaming can be undone
-  undone : apply (λ x. var (place_in row x)) t ≡ n
+  undone : apply (λ x. var (index_in row x)) t ≡ n
   undone =
-      ap (apply (λ x. var (place_in row x))) is ∙ apply-apply (naming row) (λ x. var (place_in row x)) n
-      ∙ apply-agree (compose (naming row) (λ x. var (place_in row x))) var n (λ x o. ap var (first_place x (below x o))) ∙ apply-var n
+      ap (apply (λ x. var (index_in row x))) is ∙ apply-apply (naming row) (λ x. var (index_in row x)) n
+      ∙ apply-agree (compose (naming row) (λ x. var (index_in row x))) var n (λ x o. ap var (index_at row distinct x (below x o))) ∙ apply-var n
 
   match_there : (sys : System) (p : Position) (i : ℕ) → MatchesAt sys t p i → MatchesAt sys n p i
-  match_there sys p i m = subst (λ z. MatchesAt sys z p i) undone (moved_match (λ x. var (place_in row x)) sys t p i m)
+  match_there sys p i m = subst (λ z. MatchesAt sys z p i) undone (moved_match (λ x. var (index_in row x)) sys t p i m)
 
   pub same_redexes : (sys : System) (w : ℕ) (rs : List RedexPlace) → AreRedexesOf sys w n rs → AreRedexesOf sys w t rs
   same_redexes sys w rs h =

@@ -1,3 +1,4 @@
+pub mod Parted
 pub mod Rows
 pub mod Spreads
 pub mod Numbered

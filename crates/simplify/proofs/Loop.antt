@@ -1,6 +1,7 @@
 -- Steps made one after the other.
-use Rattle.std.proofs.Common.{◌≡◌, ℕ, zero, suc, ◌+◌, ◌<◌, ◌≤◌, inl, inr, refl, sym, ap, ◌∙◌, subst, List, [], ◌∷◌, map, drop, length, get_or, arith, add-one}
-use Rattle.std.proofs.lemmas.List.{length-map}
+use Rattle.std.proofs.Common.{◌≡◌, ℕ, suc, ◌+◌, ◌<◌, ◌≤◌, inl, inr, refl, sym, ap, ◌∙◌, subst, List, ◌∷◌, map, drop, length, get_or, arith}
+use Rattle.std.proofs.lemmas.List.{length-map, get_or-map, drop_all}
+use Rattle.general_lemmas.proofs.Places.{drop_read}
 use Rattle.rewriting.specs.Rules.{System}
 use Rattle.simplifications.specs.Laws.{parts}
 use Rattle.simplifications.proofs.Systems.{shrink}
@@ -14,17 +15,9 @@ pub record Onward (sys : System) (ss : List Simplification) (i : ℕ) (here : Sy
   -- each step leaves fewer rules and conditions
   pub falls : i + parts here ≤ parts sys
 
-next_is : (ss : List Simplification) (i : ℕ) (d : Simplification) → i < length ss → drop i ss ≡ get_or ss i d ∷ drop (i + 1) ss
-next_is ss i d h = rw add-one (go ss i h)
-  where
-    go : (xs : List Simplification) (k : ℕ) → k < length xs → drop k xs ≡ get_or xs k d ∷ drop (suc k) xs
-    go [] k h = absurd (omega (arith, h))
-    go (x ∷ xs) zero h = refl
-    go (x ∷ xs) (suc k) h = go xs k (omega (arith, h))
-
 module _ (sys here : System) (ss : List Simplification) (i : ℕ) (s : Simplification) (lt : i < length ss) (at : s ≡ get_or ss i s) (o : Onward sys ss i here) where
   split : drop i ss ≡ s ∷ drop (i + 1) ss
-  split = next_is ss i s lt ∙ ap (λ z. z ∷ drop (i + 1) ss) (sym at)
+  split = drop_read ss i s lt at
 
   pub next_step : (next : System) → Simplifies here s next → Onward sys ss (i + 1) next
   next_step next h =
@@ -39,13 +32,7 @@ module _ (sys here : System) (ss : List Simplification) (i : ℕ) (s : Simplific
   refused_step why h = o.bad (i + 1) why (subst (λ z. FailsFrom (i + 1) here z (i + 1) why) (sym split) (inl (h, refl)))
 
 pub at_end : (sys here : System) (ss : List Simplification) (i : ℕ) → length ss ≤ i → Onward sys ss i here → AllSimplify sys ss here
-at_end sys here ss i h o = o.good here (subst (λ z. AllSimplify here z here) (sym (none ss i h)) refl)
-  where
-    none : (xs : List Simplification) (k : ℕ) → length xs ≤ k → drop k xs ≡ []
-    none [] zero l = refl
-    none [] (suc k) l = refl
-    none (x ∷ xs) zero l = absurd (omega (arith, l))
-    none (x ∷ xs) (suc k) l = none xs k (omega (arith, l))
+at_end sys here ss i h o = o.good here (subst (λ z. AllSimplify here z here) (sym (drop_all i ss h)) refl)
 
 -- the views of a list
 pub more_length : {X Y : Type 0} (f : X → Y) (xs : List X) (i : ℕ) → i < length xs → i < length (map f xs)
@@ -55,9 +42,4 @@ pub less_length : {X Y : Type 0} (f : X → Y) (xs : List X) (i : ℕ) → lengt
 less_length f xs i h = let e = length-map xs f in omega (arith, h, e)
 
 pub step_at : {X Y : Type 0} (f : X → Y) (xs : List X) (i : ℕ) (x : X) → i < length xs → x ≡ get_or xs i x → f x ≡ get_or (map f xs) i (f x)
-step_at {X} f xs i x h e = go xs i h e
-  where
-    go : (ys : List X) (k : ℕ) → k < length ys → x ≡ get_or ys k x → f x ≡ get_or (map f ys) k (f x)
-    go [] k l q = absurd (omega (arith, l))
-    go (y ∷ ys) zero l q = ap f q
-    go (y ∷ ys) (suc k) l q = go ys k (omega (arith, l)) q
+step_at f xs i x h e = ap f e ∙ sym (get_or-map f xs i x (f x) h)

@@ -1,33 +1,19 @@
 -- Variables by their places in a row that grows.
-use Rattle.std.proofs.Common.{◌≡◌, ℕ, zero, suc, ◌<◌, ◌⊎◌, inl, inr, Bool, true, false, refl, sym, ap, ap₂, ◌∙◌, subst, List, [], ◌∷◌, ◌++◌, length, get_or, nat_eq, eqb-true}
+use Rattle.std.proofs.Common.{◌≡◌, ℕ, suc, ◌<◌, ◌⊎◌, inl, inr, Bool, true, false, refl, sym, ap, ap₂, ◌∙◌, subst, List, [], ◌∷◌, ◌++◌, length, nat_eq}
 use Rattle.std.proofs.Common.{eq-eqb, append-nil, append_assoc, arith}
 use Rattle.std.proofs.lemmas.List.{length-map}
 use Rattle.rewriting.specs.Prelude.{IsAmong, AreDistinct, IsFront, conditions_under, terms_of_rule, rule_variables, index_in}
-use Rattle.rewriting.proofs.Common.{Term, Terms, var, app, nil, cons, apply, apply_all, compose, occurs, with_variables, with_variables_of, variables_of, Condition, Rule, sides}
-use Rattle.rewriting.proofs.Instances.{apply-apply, apply-agree}
+use Rattle.rewriting.proofs.Common.{Term, var, apply, compose, occurs, with_variables, with_variables_of, variables_of, Condition, Rule, sides}
+use Rattle.rewriting.proofs.Instances.{apply-apply, apply-agree, apply-var}
 use Rattle.rewriting.proofs.Lists.{among_left, front_trans}
 use Rattle.rewriting.proofs.Variables.{variables_have, variables_have_all}
 use Rattle.renumbering.specs.Rows.{naming}
+use Rattle.renumbering.proofs.Rows.{index_at}
 use Rattle.simplifications.specs.Inlining.{numbering_of, rule_under, numbered}
 use Rattle.simplifications.proofs.Anew.{list_renamed, places_differ}
 use Rattle.simplifications.proofs.Parts.{terms_under}
 use Rattle.simplify.specs.Rules.{rule_of}
 use Rattle.simplify.specs.Numbering.{places, IsPlaced, ArePlaced, Progress, AddsNumbered}
-
--- the place of a number of the row
-index_at : (row : List ℕ) → AreDistinct row → (m : ℕ) → m < length row → index_in row (get_or row m 0) ≡ m
-index_at [] d m h = absurd (omega (arith, h))
-index_at (x ∷ row) d zero h = rw (eq-eqb x x refl) refl
-index_at (x ∷ row) d (suc m) h = go (nat_eq (get_or row m 0) x) refl (index_at row d.1 m (omega (arith, h)))
-  where
-    there : (ys : List ℕ) (k : ℕ) → k < length ys → IsAmong (get_or ys k 0) ys
-    there [] k l = absurd (omega (arith, l))
-    there (y ∷ ys) zero l = inl refl
-    there (y ∷ ys) (suc k) l = inr (there ys k (omega (arith, l)))
-
-    go : (b : Bool) → nat_eq (get_or row m 0) x ≡ b → index_in row (get_or row m 0) ≡ m → index_in (x ∷ row) (get_or row m 0) ≡ suc m
-    go true e later = absurd (d.0 (subst (λ z. IsAmong z row) (eqb-true (get_or row m 0) x e) (there row m (omega (arith, h)))))
-    go false e later = rw e (ap suc later)
 
 -- a longer row has the same places
 index_longer : (row rest : List ℕ) (x : ℕ) → IsAmong x row → index_in (row ++ rest) x ≡ index_in row x
@@ -58,15 +44,6 @@ all_longer row long [] (d ∷ ds) f h = absurd h
 all_longer row long (c ∷ cs) [] f h = absurd h
 all_longer row long (c ∷ cs) (d ∷ ds) f (h, g, hs) = (placed_longer row long c.left d.left f h, placed_longer row long c.right d.right f g, all_longer row long cs ds f hs)
 
-mutual
-  itself : (t : Term) → apply (λ x. var x) t ≡ t
-  itself (var x) = refl
-  itself (app f ts) = ap (app f) (themselves ts)
-
-  themselves : (ts : Terms) → apply_all (λ x. var x) ts ≡ ts
-  themselves nil = refl
-  themselves (cons t ts) = ap₂ cons (itself t) (themselves ts)
-
 -- from what a numbering tells of a term
 pub placed : (old row : List ℕ) (t u : Term) → row ≡ with_variables old t → AreDistinct row → t ≡ apply (naming row) u → ((m : ℕ) → occurs m u ≡ true → m < length row) → IsPlaced row t u
 placed old row t u grown distinct names below =
@@ -76,7 +53,7 @@ placed old row t u grown distinct names below =
     }
   where
     same : apply (compose (naming row) (places row)) u ≡ u
-    same = apply-agree (compose (naming row) (places row)) (λ x. var x) u (λ m o. ap var (index_at row distinct m (below m o))) ∙ itself u
+    same = apply-agree (compose (naming row) (places row)) var u (λ m o. ap var (index_at row distinct m (below m o))) ∙ apply-var u
 
 pub begun : (l r l' r' : Term) (first row : List ℕ) → IsFront first row → IsPlaced first l l' → IsPlaced row r r' → AreDistinct row → first ≡ with_variables [] l → row ≡ with_variables first r
     → Progress l r l' r' [] [] row

@@ -4,10 +4,12 @@ use Rattle.std.proofs.lemmas.Option.{slice_get_past}
 use Rattle.std.proofs.lemmas.List.{length-map}
 use Rattle.general_lemmas.proofs.Places.{slice_get-map_read}
 use Rattle.rewriting.specs.Rules as math
-use Rattle.rewriting.specs.Prelude.{rule_at, sides, Each, terms_of_rule, rule_variables, IsRule, IsSystem, Fits}
+use Rattle.rewriting.specs.Prelude.{rule_at, Each, terms_of_rule, rule_variables, IsRule, IsSystem, Fits}
 use Rattle.rewriting.proofs.Systems.{is_rule_at}
+use Rattle.rewriting.proofs.Members.{at_place}
 use Rattle.certificates.specs.Prelude.{InfeasibilityEvidence, hypothesis_at, EvidenceReason, DoConditionsFit, dropped, inlined, missing_rule, missing_condition, not_inline, inlined_large}
 use Rattle.certificates.specs.Prelude.{bad_evidence}
+use Rattle.certificates.proofs.Sizes.{conditions_fit}
 use Rattle.judged_evidence.specs.Evidence.{IsInfeasibilityJudged}
 use Rattle.term_core.specs.RuleView.{condition_view, rule_view}
 use Rattle.term_core.specs.declared.systems.Cond.{Cond}
@@ -32,10 +34,6 @@ module _ (sys : math.System) (sound : IsSystem sys) (rs : List Rule) (are : map 
 
   pub fit_here : (i : ℕ) (r : Rule) → i < length rs → r ≡ get_or rs i r → Each Fits (terms_of_rule (rule_view r))
   fit_here i r h e = (sound_here i r h e).fits
-
-  conditions_fit : (cs : List math.Condition) → Each Fits (sides cs) → DoConditionsFit cs
-  conditions_fit [] h = tt
-  conditions_fit (c ∷ cs) (h, (g, hs)) = (h, g, conditions_fit cs hs)
 
   pub conds_fit : (i : ℕ) (r : Rule) → i < length rs → r ≡ get_or rs i r → DoConditionsFit (map condition_view r.conds.items)
   conds_fit i r h e = conditions_fit (map condition_view r.conds.items) (fit_here i r h e).1.1
@@ -86,13 +84,8 @@ module _ (sys : math.System) (sound : IsSystem sys) (rs : List Rule) (are : map 
     no_such_condition cond k = no_condition number cond (rule_view r) at_number (none_there cond k)
 
     module _ (cond k : ℕ) (same : cond ≡ k + 1) (inside : k < length r.conds.items) where
-      there : (xs : List math.Condition) (n : ℕ) → n < length xs → (c : math.Condition) × (slice_get xs n ≡ Some c)
-      there [] n l = absurd (omega (arith, l))
-      there (x ∷ xs) zero l = (x, refl)
-      there (x ∷ xs) (suc n) l = there xs n (omega (arith, l))
-
       condition_there : (c : math.Condition) × (slice_get (rule_view r).conditions k ≡ Some c)
-      condition_there = there (rule_view r).conditions k (let f = length-map r.conds.items condition_view in omega (arith, inside, f))
+      condition_there = at_place (rule_view r).conditions k (let f = length-map r.conds.items condition_view in omega (arith, inside, f))
 
       places : suc k ≡ cond
       places = sym (same ∙ add-one k)

@@ -1,10 +1,10 @@
 //! Rules with their variables numbered anew.
-ghost use Rattle.std.specs.Prelude.{◌≡◌, ◌<◌, ◌^◌, ◌++◌, IfOk, OnOk, map, length};
+ghost use Rattle.std.specs.Prelude.{◌≡◌, ◌<◌, ◌^◌, ◌++◌, [], IfOk, OnOk, map, length};
 ghost use Rattle.rewriting.specs.Systems.{rule_variables};
 ghost use Rattle.term_core.specs.Prelude.{view, condition_view, rule_view};
 ghost use Rattle.simplifications.specs.Inlining.{numbered as numbered_rule};
 ghost use Rattle.simplify.specs.Rules.{rule_of};
-ghost use Rattle.simplify.specs.Numbering.{AddsNumbered};
+ghost use Rattle.simplify.specs.Numbering.{AddsNumbered, Progress};
 
 use renumbering::Numbering;
 use std::alloc::Global;
@@ -27,6 +27,26 @@ fn push_numbered(
     Ok(())
 }
 
+// Both sides of a rule and its conditions, in front and behind, with numbers for their variables from an empty row.
+fn numbered_parts(
+    alloc: Global,
+    row: &mut Numbering,
+    left: &Term,
+    right: &Term,
+    front: &[Cond],
+    behind: &[Cond],
+) -> Result<(Term, Term, Vec<Cond>), NoMemory>
+    requires { row.old ≡ [] }
+    ensures { IfOk result (λ made. Progress (view left.now) (view right.now) (view made.0) (view made.1) (map condition_view front.now ++ map condition_view behind.now) (map condition_view made.2.items) row.new) }
+{
+    let new_left = row.numbered(alloc, left)?;
+    let new_right = row.numbered(alloc, right)?;
+    let mut conds = Vec::with_capacity(alloc, front.len() + behind.len())?;
+    push_numbered(alloc, row, front, &mut conds)?;
+    push_numbered(alloc, row, behind, &mut conds)?;
+    Ok((new_left, new_right, conds))
+}
+
 /// The rule of these terms and of the conditions in front and behind, its variables numbered by first occurrence.
 pub fn numbered(
     alloc: Global,
@@ -40,14 +60,10 @@ pub fn numbered(
     ensures count { IfOk result (λ q. q.vars ≡ length (rule_variables (rule_view q))) }
 {
     let mut row = Numbering::new(alloc);
-    let new_left = row.numbered(alloc, left)?;
-    let new_right = row.numbered(alloc, right)?;
-    let mut conds = Vec::with_capacity(alloc, front.len() + behind.len())?;
-    push_numbered(alloc, &mut row, front, &mut conds)?;
-    push_numbered(alloc, &mut row, behind, &mut conds)?;
+    let (left, right, conds) = numbered_parts(alloc, &mut row, left, right, front, behind)?;
     Ok(Rule {
-        left: new_left,
-        right: new_right,
+        left,
+        right,
         conds,
         vars: row.len() as u32,
     })

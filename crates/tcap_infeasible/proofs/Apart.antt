@@ -1,7 +1,6 @@
 -- Caps with holes from 2^31 on, and terms with numbers below for their variables.
-use Rattle.std.proofs.Common.{ℕ, suc, ◌≡◌, ◌+◌, ◌-◌, ◌*◌, ◌^◌, ◌<◌, ◌≤◌, inl, inr, Bool, true, false, nat_lt, if◌then◌else◌, List, [], ◌∷◌, length, get_or, refl, sym, ap, ap₂, ◌∙◌}
+use Rattle.std.proofs.Common.{ℕ, suc, ◌≡◌, ◌+◌, ◌-◌, ◌*◌, ◌^◌, ◌<◌, ◌≤◌, inl, inr, List, [], ◌∷◌, length, get_or, refl, sym, ap, ap₂, ◌∙◌}
 use Rattle.std.proofs.Common.{subst, subst₂, arith}
-use Rattle.std.proofs.lemmas.Bool.{ltb-true, lt-ltb}
 use Rattle.rewriting.specs.Prelude.{Term, Terms, var, app, nil, cons, count, Substitution, apply, apply_all, compose, even, odd, Condition, System, left_sides, right_sides, AreDistinct}
 use Rattle.rewriting.proofs.Instances.{apply_all-apply_all, apply_all-agree}
 use Rattle.rewriting.proofs.Over.{count-apply}
@@ -13,33 +12,23 @@ use Rattle.caps.specs.Evidence.{IsCapOutcome}
 use Rattle.term_core.specs.View.{views}
 use Rattle.term_core.specs.declared.terms.Term as T
 use Rattle.tcap_infeasible.specs.Comparing.{HaveRow}
-use Rattle.tcap_infeasible.proofs.Numbers.{not_lt}
+use Rattle.renumbering.proofs.Parted.{parted, parted_below, parted_past, parted_one}
 use Rattle.renumbering.proofs.Filling.{filling, filling_within, filling_one}
 
 -- numbers below 2^31 become the odd numbers of their variables, holes even
 abbrev pub apart : List ℕ → ℕ → ℕ
-apart row k = if nat_lt k (2 ^ 31) then 2 * filling row k + 1 else 2 * (k - 2 ^ 31)
+apart row = parted (2 ^ 31) (λ k. 2 * filling row k + 1) (λ m. 2 * m)
 
 apart_variable : (row : List ℕ) (k : ℕ) → k < length row → length row ≤ 2 ^ 31 → apart row k ≡ 2 * get_or row k 0 + 1
-apart_variable row k h few =
-    let t : nat_lt k (2 ^ 31) ≡ true = lt-ltb k (2 ^ 31) (omega (arith, h, few)) in
-    rw t (ap (λ z. 2 * z + 1) (filling_within row k h))
+apart_variable row k h few = parted_below (2 ^ 31) (λ k. 2 * filling row k + 1) (λ m. 2 * m) k (omega (arith, h, few)) ∙ ap (λ z. 2 * z + 1) (filling_within row k h)
 
 apart_hole : (row : List ℕ) (j : ℕ) → apart row (2 ^ 31 + j) ≡ 2 * j
-apart_hole row j = go (nat_lt (2 ^ 31 + j) (2 ^ 31)) refl
-  where
-    go : (b : Bool) → nat_lt (2 ^ 31 + j) (2 ^ 31) ≡ b → apart row (2 ^ 31 + j) ≡ 2 * j
-    go true e = (let l = ltb-true (2 ^ 31 + j) (2 ^ 31) e in absurd (omega (arith, l)))
-    go false e = (let d : 2 ^ 31 + j - 2 ^ 31 ≡ j = omega arith in rw e (ap (λ z. 2 * z) d))
+apart_hole row = parted_past (2 ^ 31) (λ k. 2 * filling row k + 1) (λ m. 2 * m)
 
 apart_one : (row : List ℕ) → AreDistinct row → (x y : ℕ) → apart row x ≡ apart row y → x ≡ y
-apart_one row distinct x y e = go (nat_lt x (2 ^ 31)) refl (nat_lt y (2 ^ 31)) refl
-  where
-    go : (a : Bool) → nat_lt x (2 ^ 31) ≡ a → (b : Bool) → nat_lt y (2 ^ 31) ≡ b → x ≡ y
-    go true p true q = (let s : 2 * filling row x + 1 ≡ 2 * filling row y + 1 = rw (p, q) at e in filling_one row distinct x y (omega (arith, s)))
-    go true p false q = (let s : 2 * filling row x + 1 ≡ 2 * (y - 2 ^ 31) = rw (p, q) at e in absurd (omega (arith, s)))
-    go false p true q = (let s : 2 * (x - 2 ^ 31) ≡ 2 * filling row y + 1 = rw (p, q) at e in absurd (omega (arith, s)))
-    go false p false q = (let s : 2 * (x - 2 ^ 31) ≡ 2 * (y - 2 ^ 31) = rw (p, q) at e in let l = not_lt x (2 ^ 31) p in let m = not_lt y (2 ^ 31) q in omega (arith, s, l, m))
+apart_one row distinct =
+    parted_one (2 ^ 31) (λ k. 2 * filling row k + 1) (λ m. 2 * m) (λ x y a b e. filling_one row distinct x y (omega (arith, e))) (λ x y e. omega (arith, e))
+    (λ x y a e. omega (arith, e))
 
 rights_apart : (ts us : Terms) (h : HaveRow ts us) → apply_all (names (apart h.row)) us ≡ apply_all odd ts
 rights_apart ts us h =

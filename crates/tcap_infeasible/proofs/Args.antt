@@ -1,7 +1,8 @@
 -- The caps of a symbol's arguments, one after the other.
 use Rattle.std.proofs.Common.{ℕ, zero, suc, ◌≡◌, ◌+◌, ◌^◌, ◌<◌, ◌≤◌, inl, inr, true, List, [], ◌∷◌, ◌++◌, length, take, get_or, Vec, Global, Result, Ok, Err, refl, sym, ap, ap₂}
-use Rattle.std.proofs.Common.{◌∙◌, subst, arith, add-one, eq-eqb}
+use Rattle.std.proofs.Common.{◌∙◌, subst, arith, eq-eqb}
 use Rattle.std.proofs.lemmas.List.{take_all}
+use Rattle.general_lemmas.proofs.Places.{take_read}
 use Rattle.rewriting.specs.Terms as math
 use Rattle.rewriting.specs.Prelude.{Terms, app, nil, cons, size, size_all, depth, depth_all, Fits, Substitution, occurs, System}
 use Rattle.unifier_run.specs.Run.{append}
@@ -45,11 +46,6 @@ pub views_with : (us : List Term) (u : Term) → views (us ++ u ∷ []) ≡ appe
 views_with [] u = refl
 views_with (x ∷ us) u = ap (cons (view x)) (views_with us u)
 
-pub take_suc : (ts : List Term) (k : ℕ) (t : Term) → k < length ts → t ≡ get_or ts k t → take (suc k) ts ≡ take k ts ++ t ∷ []
-take_suc [] k t h e = absurd (omega (arith, h))
-take_suc (x ∷ ts) zero t h e = ap (λ z. z ∷ []) (sym e)
-take_suc (x ∷ ts) (suc k) t h e = ap (λ z. x ∷ z) (take_suc ts k t (omega (arith, h)) e)
-
 pub size_take : (ts : List Term) (k : ℕ) (t : Term) → k < length ts → t ≡ get_or ts k t → size_all (views (take k ts)) + size (view t) ≤ size_all (views ts)
 size_take [] k t h e = absurd (omega (arith, h))
 size_take (x ∷ ts) zero t h e = (let same : size (view t) ≡ size (view x) = ap (λ z. size (view z)) e in omega (arith, same))
@@ -87,7 +83,7 @@ pub capped_next : (sys : System) (leaf : Leaf) (ts : List Term) (k : ℕ) (us : 
 capped_next sys leaf ts k us start next more t u h e before (c, is, shown, counted) =
     record {
       shapes = with_cap before.shapes c;
-      are = subst (λ z. AreCapsOf sys (leaf_of leaf) (views z) (with_cap before.shapes c)) (sym (ap (λ z. take z ts) (add-one k) ∙ take_suc ts k t h e))
+      are = subst (λ z. AreCapsOf sys (leaf_of leaf) (views z) (with_cap before.shapes c)) (sym (take_read ts k t h e))
           (subst (λ z. AreCapsOf sys (leaf_of leaf) z (with_cap before.shapes c)) (sym (views_with (take k ts) t))
           (with_are sys (leaf_of leaf) (views (take k ts)) before.shapes (view t) c before.are is));
       shown = views_with us u ∙ (ap₂ (λ x y. append x (cons y nil)) before.shown (shown ∙ ap (λ z. filled (standing leaf) z c) before.counted)

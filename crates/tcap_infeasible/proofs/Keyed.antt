@@ -1,43 +1,29 @@
 -- Where places of rows stand for variables and for symbols past those of a system, what they stand for.
-use Rattle.std.proofs.Common.{ℕ, zero, suc, ◌≡◌, ◌+◌, ◌-◌, ◌<◌, ◌≤◌, inl, inr, Bool, true, false, nat_lt, if◌then◌else◌, List, [], ◌∷◌, length, max, Some, refl, sym, ap, ap₂, ◌∙◌}
+use Rattle.std.proofs.Common.{ℕ, zero, suc, ◌≡◌, ◌+◌, ◌-◌, ◌<◌, ◌≤◌, inl, inr, Bool, true, false, nat_lt, List, [], ◌∷◌, length, max, Some, refl, sym, ap, ap₂, ◌∙◌}
 use Rattle.std.proofs.Common.{subst, arith, slice_get, eqb-true, ◌++◌}
-use Rattle.std.proofs.lemmas.Bool.{ltb-true, lt-ltb}
+use Rattle.std.proofs.lemmas.Bool.{ltb-true, ltb-false}
 use Rattle.std.proofs.lemmas.Option.{slice_get_within, get_or_from_slice_get}
 use Rattle.rewriting.specs.Prelude.{Term, Terms, var, app, nil, cons, size, size_all, depth, depth_all, Fits, occurs, occurs_in, AreDistinct, IsFront}
 use Rattle.rewriting.proofs.Instances.{or_cases}
 use Rattle.unifier_run.proofs.Renamed.{renamed, all_renamed}
 use Rattle.tcap_infeasible.specs.Keys.{IsKey, IsKeyed, AreKeyed}
-use Rattle.tcap_infeasible.proofs.Numbers.{not_lt}
+use Rattle.renumbering.proofs.Parted.{parted, parted_below, parted_past, parted_one}
 use Rattle.term_core.specs.SystemView.{HasSymbolsBelow, HaveSymbolsBelow}
 use Rattle.renumbering.proofs.Filling.{total, filling, filling_within, filling_one, below_total}
 
 -- what a symbol past the first n stands for, by its place in a row
 abbrev pub shifted : ℕ → List ℕ → ℕ → ℕ
-shifted n row f = if nat_lt f n then f else n + filling row (f - n)
+shifted n row = parted n (λ f. f) (λ m. n + filling row m)
 
 pub shifted_below : (n : ℕ) (row : List ℕ) (f : ℕ) → f < n → shifted n row f ≡ f
-shifted_below n row f h = let t : nat_lt f n ≡ true = lt-ltb f n h in rw t refl
+shifted_below n row = parted_below n (λ f. f) (λ m. n + filling row m)
 
 pub shifted_past : (n : ℕ) (row : List ℕ) (m : ℕ) → shifted n row (n + m) ≡ n + filling row m
-shifted_past n row m = go (nat_lt (n + m) n) refl
-  where
-    go : (b : Bool) → nat_lt (n + m) n ≡ b → shifted n row (n + m) ≡ n + filling row m
-    go true e = (let l = ltb-true (n + m) n e in absurd (omega (arith, l)))
-    go false e = (let d : n + m - n ≡ m = omega arith in rw e (ap (λ z. n + filling row z) d))
+shifted_past n row = parted_past n (λ f. f) (λ m. n + filling row m)
 
 pub shifted_one : (n : ℕ) (row : List ℕ) → AreDistinct row → (x y : ℕ) → shifted n row x ≡ shifted n row y → x ≡ y
-shifted_one n row distinct x y e = go (nat_lt x n) refl (nat_lt y n) refl
-  where
-    go : (a : Bool) → nat_lt x n ≡ a → (b : Bool) → nat_lt y n ≡ b → x ≡ y
-    go true p true q = rw (p, q) at e
-    go true p false q = (let s : x ≡ n + filling row (y - n) = rw (p, q) at e in let l = ltb-true x n p in absurd (omega (arith, s, l)))
-    go false p true q = (let s : n + filling row (x - n) ≡ y = rw (p, q) at e in let l = ltb-true y n q in absurd (omega (arith, s, l)))
-    go false p false q =
-        (let s : n + filling row (x - n) ≡ n + filling row (y - n) = rw (p, q) at e in
-        let l = not_lt x n p in
-        let m = not_lt y n q in
-        let same = filling_one row distinct (x - n) (y - n) (omega (arith, s)) in
-        omega (arith, same, l, m))
+shifted_one n row distinct =
+    parted_one n (λ f. f) (λ m. n + filling row m) (λ x y a b e. e) (λ x y e. filling_one row distinct x y (omega (arith, e))) (λ x y a e. omega (arith, a, e))
 
 -- past the system's symbols and what a row stands for
 abbrev pub end_of : ℕ → List ℕ → ℕ
@@ -49,7 +35,7 @@ shifted_low n foreign f h = go (nat_lt f n) refl
     go : (b : Bool) → nat_lt f n ≡ b → shifted n foreign f < end_of n foreign
     go true e = (let l = ltb-true f n e in rw e (omega (arith, l)))
     go false e =
-        (let l = not_lt f n e in
+        (let l = ltb-false f n e in
         let w = filling_within foreign (f - n) (omega (arith, l, h)) in
         let t = below_total foreign (f - n) in
         let low : n + filling foreign (f - n) < end_of n foreign = omega (arith, w, t) in
@@ -57,10 +43,10 @@ shifted_low n foreign f h = go (nat_lt f n) refl
 
 -- the same where behind the places of foreign symbols there are constants, by places of a row of variables
 abbrev pub spaced : ℕ → List ℕ → List ℕ → ℕ → ℕ
-spaced n foreign row f = if nat_lt f (n + length foreign) then shifted n foreign f else end_of n foreign + filling row (f - (n + length foreign))
+spaced n foreign row = parted (n + length foreign) (shifted n foreign) (λ m. end_of n foreign + filling row m)
 
 pub spaced_within : (n : ℕ) (foreign row : List ℕ) (f : ℕ) → f < n + length foreign → spaced n foreign row f ≡ shifted n foreign f
-spaced_within n foreign row f h = let t : nat_lt f (n + length foreign) ≡ true = lt-ltb f (n + length foreign) h in rw t refl
+spaced_within n foreign row = parted_below (n + length foreign) (shifted n foreign) (λ m. end_of n foreign + filling row m)
 
 pub spaced_below : (n : ℕ) (foreign row : List ℕ) (f : ℕ) → f < n → spaced n foreign row f ≡ f
 spaced_below n foreign row f h = spaced_within n foreign row f (omega (arith, h)) ∙ shifted_below n foreign f h
@@ -69,31 +55,12 @@ pub spaced_low : (n : ℕ) (foreign row : List ℕ) (f : ℕ) → f < n + length
 spaced_low n foreign row f h = let e = spaced_within n foreign row f h in let l = shifted_low n foreign f h in subst (λ z. z < end_of n foreign) (sym e) l
 
 pub spaced_past : (n : ℕ) (foreign row : List ℕ) (m : ℕ) → spaced n foreign row (n + length foreign + m) ≡ end_of n foreign + filling row m
-spaced_past n foreign row m = go (nat_lt (n + length foreign + m) (n + length foreign)) refl
-  where
-    go : (b : Bool) → nat_lt (n + length foreign + m) (n + length foreign) ≡ b → spaced n foreign row (n + length foreign + m) ≡ end_of n foreign + filling row m
-    go true e = (let l = ltb-true (n + length foreign + m) (n + length foreign) e in absurd (omega (arith, l)))
-    go false e = (let d : n + length foreign + m - (n + length foreign) ≡ m = omega arith in rw e (ap (λ z. end_of n foreign + filling row z) d))
+spaced_past n foreign row = parted_past (n + length foreign) (shifted n foreign) (λ m. end_of n foreign + filling row m)
 
 pub spaced_one : (n : ℕ) (foreign row : List ℕ) → AreDistinct foreign → AreDistinct row → (x y : ℕ) → spaced n foreign row x ≡ spaced n foreign row y → x ≡ y
-spaced_one n foreign row foreign_distinct distinct x y e = go (nat_lt x (n + length foreign)) refl (nat_lt y (n + length foreign)) refl
-  where
-    go : (a : Bool) → nat_lt x (n + length foreign) ≡ a → (b : Bool) → nat_lt y (n + length foreign) ≡ b → x ≡ y
-    go true p true q = (let s : shifted n foreign x ≡ shifted n foreign y = rw (p, q) at e in shifted_one n foreign foreign_distinct x y s)
-    go true p false q =
-        (let s : shifted n foreign x ≡ end_of n foreign + filling row (y - (n + length foreign)) = rw (p, q) at e in
-        let l = shifted_low n foreign x (ltb-true x (n + length foreign) p) in
-        absurd (omega (arith, s, l)))
-    go false p true q =
-        (let s : end_of n foreign + filling row (x - (n + length foreign)) ≡ shifted n foreign y = rw (p, q) at e in
-        let l = shifted_low n foreign y (ltb-true y (n + length foreign) q) in
-        absurd (omega (arith, s, l)))
-    go false p false q =
-        (let s : end_of n foreign + filling row (x - (n + length foreign)) ≡ end_of n foreign + filling row (y - (n + length foreign)) = rw (p, q) at e in
-        let l = not_lt x (n + length foreign) p in
-        let m = not_lt y (n + length foreign) q in
-        let same = filling_one row distinct (x - (n + length foreign)) (y - (n + length foreign)) (omega (arith, s)) in
-        omega (arith, same, l, m))
+spaced_one n foreign row foreign_distinct distinct =
+    parted_one (n + length foreign) (shifted n foreign) (λ m. end_of n foreign + filling row m) (λ x y a b. shifted_one n foreign foreign_distinct x y)
+    (λ x y e. filling_one row distinct x y (omega (arith, e))) (λ x y a e. let l = shifted_low n foreign x a in omega (arith, l, e))
 
 -- a place of a symbol is before the constants
 key_low : (n : ℕ) (foreign : List ℕ) (f g : ℕ) → IsKey n foreign f g → g < n + length foreign

@@ -1,4 +1,3 @@
-pub mod Numbers
 pub mod Rebased
 pub mod Bases
 pub mod Sizes

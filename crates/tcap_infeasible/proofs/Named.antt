@@ -1,7 +1,8 @@
 -- Caps under a renaming of the variables that stay, and of symbols past those of the system.
 use Rattle.std.proofs.Common.{ℕ, zero, suc, ◌≡◌, ◌+◌, ◌*◌, ◌<◌, ◌≤◌, inl, inr, List, length, Some, refl, sym, ap, ap₂, ◌∙◌, arith}
-use Rattle.rewriting.specs.Prelude.{Term, Terms, var, app, nil, cons, apply, even, odd, Rule, System, rule_at, IsSystem, AreDistinct}
+use Rattle.rewriting.specs.Prelude.{Term, Terms, var, app, nil, cons, apply, apply_all, even, odd, Rule, System, rule_at, IsSystem, AreDistinct}
 use Rattle.rewriting.proofs.Systems.{is_rule_at}
+use Rattle.rewriting.proofs.Instances.{apply-var}
 use Rattle.unifier_run.specs.Run.{Outcome, unifier, clash, too_large}
 use Rattle.unifier_run.specs.Overlaps.{IsOutcomeOf}
 use Rattle.unifier_run.specs.Irreducible.{IsFirstRule, DoRulesClash}
@@ -69,16 +70,32 @@ module _ (sys : System) (foreign row : List ℕ) (sound : IsSystem sys) (foreign
   pub symbols_one : (f g : ℕ) → symbols f ≡ symbols g → f ≡ g
   symbols_one = spaced_one (length sys.arities) foreign row foreign_distinct distinct
 
-  mutual
-    pub held_named : (n : ℕ) (c : Cap) → renamed (λ x. x) symbols (filled (constants place_base) n c) ≡ filled (constants far_base) n (name c)
-    held_named n hole = refl
-    held_named n (kept x) = ap (λ z. app z nil) (spaced_past (length sys.arities) foreign row x)
-    held_named n (node f cs) = ap (app (symbols f)) (all_held_named n cs)
+  -- holes from a number on become what they are to be in the frozen cap
+  module _ (rho g : ℕ → ℕ) (start limit : ℕ) (same : (j : ℕ) → j < limit → rho (start + j) ≡ g j) where
+    mutual
+      held_to : (j : ℕ) (c : Cap) → j + holes c ≤ limit
+          → renamed rho symbols (filled (constants place_base) (start + j) c) ≡ apply (λ k. var (g k)) (filled (constants far_base) j (name c))
+      held_to j hole h = ap var (same j (omega (arith, h)))
+      held_to j (kept x) h = ap (λ z. app z nil) (spaced_past (length sys.arities) foreign row x)
+      held_to j (node f cs) h = ap (app (symbols f)) (all_held_to j cs h)
 
-    pub all_held_named : (n : ℕ) (cs : Caps) → all_renamed (λ x. x) symbols (all_filled (constants place_base) n cs) ≡ all_filled (constants far_base) n (all_name cs)
-    all_held_named n no_caps = refl
-    all_held_named n (caps c cs) =
-        ap₂ cons (held_named n c) (all_held_named (n + holes c) cs ∙ ap (λ z. all_filled (constants far_base) (n + z) (all_name cs)) (sym (named_holes (filling row) symbols c)))
+      all_held_to : (j : ℕ) (cs : Caps) → j + holes_in cs ≤ limit
+          → all_renamed rho symbols (all_filled (constants place_base) (start + j) cs) ≡ apply_all (λ k. var (g k)) (all_filled (constants far_base) j (all_name cs))
+      all_held_to j no_caps h = refl
+      all_held_to j (caps c cs) h =
+          (let more : start + j + holes c ≡ start + (j + holes c) = omega arith in
+          ap₂ cons (held_to j c (omega (arith, h)))
+          (ap (λ z. all_renamed rho symbols (all_filled (constants place_base) z cs)) more ∙ all_held_to (j + holes c) cs (omega (arith, h))
+          ∙ ap (λ z. apply_all (λ k. var (g k)) (all_filled (constants far_base) (j + z) (all_name cs))) (sym (named_holes (filling row) symbols c))))
+
+  pub held_from : (rho g : ℕ → ℕ) (start : ℕ) (c : Cap) → ((j : ℕ) → j < holes c → rho (start + j) ≡ g j)
+      → renamed rho symbols (filled (constants place_base) start c) ≡ apply (λ k. var (g k)) (frozen_from far_base (name c))
+  held_from rho g start c same =
+      let none : start ≡ start + 0 = omega arith in
+      ap (λ z. renamed rho symbols (filled (constants place_base) z c)) none ∙ held_to rho g start (holes c) same 0 c (omega arith)
+
+  held_named : (c : Cap) → renamed (λ x. x) symbols (frozen_from place_base c) ≡ frozen_from far_base (name c)
+  held_named c = held_from (λ x. x) (λ x. x) 0 c (λ j less. omega arith) ∙ apply-var (frozen_from far_base (name c))
 
   pub name_past : (c : Cap) → past_symbols c ≤ place_base → past sys (name c) ≤ far_base
   name_past c low = let all = named_past (filling row) symbols far_base place_base (spaced_low (length sys.arities) foreign row) c low in omega (arith, all)
@@ -90,7 +107,7 @@ module _ (sys : System) (foreign row : List ℕ) (sound : IsSystem sys) (foreign
       lowered sys r.left over (name c) far_base (name_past c low) o
       (forth_like (λ x. x) symbols (λ x y e. e) symbols_one (apply even r.left) (apply odd (frozen_from place_base c)) (apply even r.left) (apply odd (frozen_from far_base (name c)))
       (symbols_stay symbols sys.arities (spaced_below (length sys.arities) foreign row) r.left over) (names_after symbols (λ k. 2 * k + 1) (frozen_from place_base c)
-      ∙ ap (apply odd) (held_named 0 c)) o
+      ∙ ap (apply odd) (held_named c)) o
       (lifted sys r.left over c place_base (omega (arith, low)) o (o, alike_same o, run)))
 
   clash_named : (c : Cap) → past_symbols c ≤ place_base → DoRulesClash sys (frozen sys c) → DoRulesClash sys (frozen sys (name c))

@@ -1,12 +1,10 @@
 -- From the caps of two terms with holes in one row to caps with holes of their own.
-use Rattle.std.proofs.Common.{ℕ, zero, suc, ◌≡◌, ◌+◌, ◌-◌, ◌*◌, ◌^◌, ◌<◌, ◌≤◌, inl, inr, Bool, true, false, nat_lt, if◌then◌else◌, List, [], length, refl, sym, ap, ap₂, ◌∙◌, subst}
-use Rattle.std.proofs.Common.{subst₂, arith, length-append, Result, Ok, Err}
-use Rattle.std.proofs.lemmas.Bool.{ltb-true, lt-ltb}
-use Rattle.rewriting.specs.Prelude.{Term, var, app, nil, cons, size, Fits, apply, apply_all, even, odd, System, IsSystem, IsWellFormed, AreDistinct, IsFront}
-use Rattle.rewriting.proofs.Systems.{is_rule_at}
+use Rattle.std.proofs.Common.{ℕ, ◌≡◌, ◌+◌, ◌-◌, ◌*◌, ◌^◌, ◌<◌, ◌≤◌, ◌⊎◌, inl, inr, List, [], length, sym, ap, ◌∙◌, subst}
+use Rattle.std.proofs.Common.{subst₂, arith, Result, Ok, Err}
+use Rattle.rewriting.specs.Prelude.{Term, var, nil, cons, size, Fits, apply, even, odd, System, IsSystem, AreDistinct, IsFront}
 use Rattle.unifier_run.specs.Run.{Binding, Outcome, unifier, clash, too_large, IsOutcome}
-use Rattle.unifier_run.proofs.Renamed.{renamed, all_renamed, renamed_outcome, stays, names, runs_with_names}
-use Rattle.caps.specs.Caps.{Cap, Caps, hole, kept, any, node, no_caps, caps, holes, holes_in, filled, all_filled, past, constants, frozen_from, IsCapOf, IsCapLarge}
+use Rattle.unifier_run.proofs.Renamed.{renamed_outcome, stays, runs_with_names}
+use Rattle.caps.specs.Caps.{Cap, kept, any, holes, filled, past, constants, frozen_from, IsCapOf, IsCapLarge}
 use Rattle.caps.specs.Evidence.{past_both, IsPairOutcome}
 use Rattle.caps.proofs.Rigid.{rigid_apart, caps_apart}
 use Rattle.term_core.specs.declared.terms.NoMemory.{NoMemory}
@@ -16,89 +14,34 @@ use Rattle.tcap_infeasible.specs.Keys.{IsKeyed}
 use Rattle.tcap_infeasible.specs.declared.capping.Leaf.TheVariants.{Hole, Kept}
 use Rattle.tcap_infeasible.specs.Frozen.{HasConstants}
 use Rattle.tcap_infeasible.specs.Compared.{PairAnswers, KeepsInstancesApart, GivesApart, IsFrozenOutcome, FrozenPairAnswers}
-use Rattle.tcap_infeasible.proofs.Numbers.{not_lt}
+use Rattle.renumbering.proofs.Parted.{parted, parted_from, parted_past, parted_one}
+use Rattle.general_lemmas.proofs.Numbers.{le_or_lt}
+use Rattle.rewriting.proofs.Laws.{well_formed}
+use Rattle.tcap_infeasible.proofs.Tried.{split, split_below, split_from, split_one, filled_from}
 use Rattle.tcap_infeasible.proofs.Rebased.{AreAlike, alike_renamed, EndLike, forth, back_like, raised, raised_one, raised_frozen}
 use Rattle.tcap_infeasible.proofs.Bases.{symbols_below, cap_past, holes_alone}
 use Rattle.renumbering.proofs.Filling.{filling}
-use Rattle.tcap_infeasible.proofs.Keyed.{end_of, spaced, spaced_past, keyed_renamed, keyed_below, keyed_symbols, keyed_grows}
-use Rattle.tcap_infeasible.proofs.Named.{named, all_named, named_holes, symbols_one, name_past, cap_named, large_named}
+use Rattle.tcap_infeasible.proofs.Keyed.{end_of, spaced, keyed_renamed, keyed_below, keyed_symbols, keyed_grows}
+use Rattle.tcap_infeasible.proofs.Named.{named, held_from, symbols_one, name_past, cap_named, large_named}
 
 -- the holes of the first, h in number, become even, and those of the second odd
 abbrev pub woven : ℕ → ℕ → ℕ
-woven h k = if nat_lt k (2 ^ 31 + h) then (if nat_lt k (2 ^ 31) then 2 * (h + k) else 2 * (k - 2 ^ 31)) else 2 * (k - (2 ^ 31 + h)) + 1
+woven h = parted (2 ^ 31) (λ k. 2 * (h + k)) (split h)
 
 woven_first : (h j : ℕ) → j < h → woven h (2 ^ 31 + j) ≡ 2 * j
-woven_first h j less = go (nat_lt (2 ^ 31 + j) (2 ^ 31)) refl
-  where
-    inside : nat_lt (2 ^ 31 + j) (2 ^ 31 + h) ≡ true
-    inside = lt-ltb (2 ^ 31 + j) (2 ^ 31 + h) (omega (arith, less))
-
-    go : (b : Bool) → nat_lt (2 ^ 31 + j) (2 ^ 31) ≡ b → woven h (2 ^ 31 + j) ≡ 2 * j
-    go true e = (let l = ltb-true (2 ^ 31 + j) (2 ^ 31) e in absurd (omega (arith, l)))
-    go false e = (let d : 2 ^ 31 + j - 2 ^ 31 ≡ j = omega arith in rw (inside, e) (ap (λ z. 2 * z) d))
+woven_first h j less = parted_past (2 ^ 31) (λ k. 2 * (h + k)) (split h) j ∙ split_below h j less
 
 woven_second : (h j : ℕ) → woven h (2 ^ 31 + h + j) ≡ 2 * j + 1
-woven_second h j = go (nat_lt (2 ^ 31 + h + j) (2 ^ 31 + h)) refl
-  where
-    go : (b : Bool) → nat_lt (2 ^ 31 + h + j) (2 ^ 31 + h) ≡ b → woven h (2 ^ 31 + h + j) ≡ 2 * j + 1
-    go true e = (let l = ltb-true (2 ^ 31 + h + j) (2 ^ 31 + h) e in absurd (omega (arith, l)))
-    go false e = (let d : 2 ^ 31 + h + j - (2 ^ 31 + h) ≡ j = omega arith in rw e (ap (λ z. 2 * z + 1) d))
-
--- the three kinds of numbers
-data Kind (h k : ℕ) : Type 0 where
-  low : k < 2 ^ 31 → woven h k ≡ 2 * (h + k) → Kind h k
-  middle : 2 ^ 31 ≤ k → k < 2 ^ 31 + h → woven h k ≡ 2 * (k - 2 ^ 31) → Kind h k
-  high : 2 ^ 31 + h ≤ k → woven h k ≡ 2 * (k - (2 ^ 31 + h)) + 1 → Kind h k
-
-kind : (h k : ℕ) → Kind h k
-kind h k = go (nat_lt k (2 ^ 31 + h)) refl (nat_lt k (2 ^ 31)) refl
-  where
-    go : (a : Bool) → nat_lt k (2 ^ 31 + h) ≡ a → (b : Bool) → nat_lt k (2 ^ 31) ≡ b → Kind h k
-    go true p true q = low (ltb-true k (2 ^ 31) q) (rw (p, q) refl)
-    go true p false q = middle (not_lt k (2 ^ 31) q) (ltb-true k (2 ^ 31 + h) p) (rw (p, q) refl)
-    go false p b q = high (not_lt k (2 ^ 31 + h) p) (rw p refl)
+woven_second h j =
+    let there : 2 ^ 31 + h + j ≡ 2 ^ 31 + (h + j) = omega arith in
+    ap (woven h) there ∙ parted_past (2 ^ 31) (λ k. 2 * (h + k)) (split h) (h + j) ∙ split_from h j
 
 woven_one : (h x y : ℕ) → woven h x ≡ woven h y → x ≡ y
-woven_one h x y e = go (kind h x) (kind h y)
+woven_one h = parted_one (2 ^ 31) (λ k. 2 * (h + k)) (split h) (λ x y a b e. omega (arith, e)) (split_one h) (λ x y a e. apart x y (le_or_lt h y) e)
   where
-    go : Kind h x → Kind h y → x ≡ y
-    go (low a p) (low b q) = omega (arith, p, q, e)
-    go (low a p) (middle b c q) = absurd (omega (arith, p, q, e, b, c))
-    go (low a p) (high b q) = absurd (omega (arith, p, q, e))
-    go (middle a c p) (low b q) = absurd (omega (arith, p, q, e, a, c))
-    go (middle a c p) (middle b d q) = omega (arith, p, q, e, a, b)
-    go (middle a c p) (high b q) = absurd (omega (arith, p, q, e))
-    go (high a p) (low b q) = absurd (omega (arith, p, q, e))
-    go (high a p) (middle b d q) = absurd (omega (arith, p, q, e))
-    go (high a p) (high b q) = omega (arith, p, q, e, a, b)
-
--- holes from a number on become what they are to be in the frozen cap
-module _ (sys : System) (foreign row : List ℕ) (rho g : ℕ → ℕ) (start limit : ℕ) (same : (j : ℕ) → j < limit → rho (start + j) ≡ g j) where
-  abbrev symbols : ℕ → ℕ
-  symbols f = spaced (length sys.arities) foreign row f
-
-  abbrev start_base : ℕ
-  start_base = length sys.arities + length foreign
-
-  abbrev end_base : ℕ
-  end_base = end_of (length sys.arities) foreign
-
-  mutual
-    pub held_to : (j : ℕ) (c : Cap) → j + holes c ≤ limit
-        → renamed rho symbols (filled (constants start_base) (start + j) c) ≡ apply (λ k. var (g k)) (filled (constants end_base) j (named (filling row) symbols c))
-    held_to j hole h = ap var (same j (omega (arith, h)))
-    held_to j (kept x) h = ap (λ z. app z nil) (spaced_past (length sys.arities) foreign row x)
-    held_to j (node f cs) h = ap (app (symbols f)) (all_held_to j cs h)
-
-    pub all_held_to : (j : ℕ) (cs : Caps) → j + holes_in cs ≤ limit
-        → all_renamed rho symbols (all_filled (constants start_base) (start + j) cs) ≡ apply_all (λ k. var (g k))
-        (all_filled (constants end_base) j (all_named (filling row) symbols cs))
-    all_held_to j no_caps h = refl
-    all_held_to j (caps c cs) h =
-        (let more : start + j + holes c ≡ start + (j + holes c) = omega arith in
-        ap₂ cons (held_to j c (omega (arith, h)))
-        (ap (λ z. all_renamed rho symbols (all_filled (constants start_base) z cs)) more ∙ (all_held_to (j + holes c) cs (omega (arith, h))
-        ∙ ap (λ z. apply_all (λ k. var (g k)) (all_filled (constants end_base) (j + z) (all_named (filling row) symbols cs))) (sym (named_holes (filling row) symbols c)))))
+    apart : (x y : ℕ) → (h ≤ y) ⊎ (y < h) → 2 * (h + x) ≡ split h y → ⊥
+    apart x y (inl l) e = omega (arith, e ∙ parted_from h (λ k. 2 * k) (λ m. 2 * m + 1) y l)
+    apart x y (inr l) e = omega (arith, e ∙ split_below h y l, l)
 
 -- the run for two caps with other constants
 frozen_pair : (sys : System) (c d : Cap) (base : ℕ) (o : Outcome) → past_both sys c d ≤ base → EndLike (apply even (frozen_from base c)) (apply odd (frozen_from base d)) o
@@ -146,18 +89,14 @@ module _ (sys : System) (foreign row : List ℕ) (sound : IsSystem sys) (foreign
 
   pair_outcome : (o : Outcome) → IsFrozenOutcome sys (Kept places_from) x y o → HasPairLike sys kept u v o
   pair_outcome o h =
-      let first_start : 2 ^ 31 ≡ 2 ^ 31 + 0 = omega arith in
-      let second_start : 2 ^ 31 + holes h.first ≡ 2 ^ 31 + holes h.first + 0 = omega arith in
       let rho = woven (holes h.first) in
       let first_low = name_low u x h.first first_keys h.is_first in
       let second_low = name_low v y h.second second_keys h.is_second in
       let there = forth rho symbols_of (woven_one (holes h.first)) (symbols_one sys foreign row sound foreign_distinct distinct)
       (filled (constants places_from) (2 ^ 31) h.first) (filled (constants places_from) (2 ^ 31 + holes h.first) h.second) (apply even (frozen_from far (name_of h.first)))
       (apply odd (frozen_from far (name_of h.second)))
-      (ap (λ z. renamed rho symbols_of (filled (constants places_from) z h.first)) first_start ∙ held_to sys foreign row rho (λ k. 2 * k) (2 ^ 31) (holes h.first)
-      (λ j less. woven_first (holes h.first) j less) 0 h.first (omega arith))
-      (ap (λ z. renamed rho symbols_of (filled (constants places_from) z h.second)) second_start
-      ∙ held_to sys foreign row rho (λ k. 2 * k + 1) (2 ^ 31 + holes h.first) (holes h.second) (λ j less. woven_second (holes h.first) j) 0 h.second (omega arith))
+      (held_from sys foreign row sound foreign_distinct distinct rho (λ k. 2 * k) (2 ^ 31) h.first (woven_first (holes h.first)))
+      (held_from sys foreign row sound foreign_distinct distinct rho (λ k. 2 * k + 1) (2 ^ 31 + holes h.first) h.second (λ j less. woven_second (holes h.first) j))
       o h.outcome in
       let like = frozen_pair sys (name_of h.first) (name_of h.second) far o (omega (arith, first_low, second_low)) (renamed_outcome rho symbols_of o, alike_renamed rho symbols_of o, there) in (
         like.0,
@@ -184,27 +123,11 @@ module _ (sys : System) (foreign row : List ℕ) (sound : IsSystem sys) (foreign
   pair_answers (Ok TooLarge) (inr h) = inr (pair_large sys kept u v (pair_outcome too_large h))
   pair_answers (Err e) h = tt
 
--- the same where all variables of the caps are holes, so that no symbol is renamed
-module _ (base : ℕ) (rho g : ℕ → ℕ) (start limit : ℕ) (same : (j : ℕ) → j < limit → rho (start + j) ≡ g j) where
-  mutual
-    filled_to : (j : ℕ) (c : Cap) → j + holes c ≤ limit → apply (names rho) (filled (constants base) (start + j) c) ≡ apply (λ k. var (g k)) (filled (constants base) j c)
-    filled_to j hole h = ap var (same j (omega (arith, h)))
-    filled_to j (kept x) h = refl
-    filled_to j (node f cs) h = ap (app f) (all_filled_to j cs h)
-
-    all_filled_to : (j : ℕ) (cs : Caps) → j + holes_in cs ≤ limit → apply_all (names rho) (all_filled (constants base) (start + j) cs) ≡ apply_all (λ k. var (g k)) (all_filled (constants base) j cs)
-    all_filled_to j no_caps h = refl
-    all_filled_to j (caps c cs) h =
-        (let more : start + j + holes c ≡ start + (j + holes c) = omega arith in
-        ap₂ cons (filled_to j c (omega (arith, h))) (ap (λ z. apply_all (names rho) (all_filled (constants base) z cs)) more ∙ all_filled_to (j + holes c) cs (omega (arith, h))))
-
 -- caps of two terms with holes in one row and constants past the symbols of both, to caps with holes of their own
 pub woven_outcome : (sys : System) (leaf : ℕ → Cap) (u v : Term) (c d : Cap) → IsCapOf sys leaf u c → IsCapOf sys leaf v d → (o : Outcome)
     → IsOutcome (cons (filled (constants (past_both sys c d)) (2 ^ 31) c) nil) (cons (filled (constants (past_both sys c d)) (2 ^ 31 + holes c) d) nil) o
     → IsPairOutcome sys leaf u v (renamed_outcome (woven (holes c)) stays o)
 woven_outcome sys leaf u v c d is are o run =
-    let first_start : 2 ^ 31 ≡ 2 ^ 31 + 0 = omega arith in
-    let second_start : 2 ^ 31 + holes c ≡ 2 ^ 31 + holes c + 0 = omega arith in
     let base = past_both sys c d in
     record {
       first = c;
@@ -212,10 +135,8 @@ woven_outcome sys leaf u v c d is are o run =
       is_first = is;
       is_second = are;
       outcome = subst₂ (λ p q. IsOutcome (cons p nil) (cons q nil) (renamed_outcome (woven (holes c)) stays o))
-          (ap (λ z. apply (names (woven (holes c))) (filled (constants base) z c)) first_start
-          ∙ filled_to base (woven (holes c)) (λ k. 2 * k) (2 ^ 31) (holes c) (λ j less. woven_first (holes c) j less) 0 c (omega arith))
-          (ap (λ z. apply (names (woven (holes c))) (filled (constants base) z d)) second_start
-          ∙ filled_to base (woven (holes c)) (λ k. 2 * k + 1) (2 ^ 31 + holes c) (holes d) (λ j less. woven_second (holes c) j) 0 d (omega arith))
+          (filled_from base (2 ^ 31) (woven (holes c)) (λ k. 2 * k) c (woven_first (holes c)))
+          (filled_from base (2 ^ 31 + holes c) (woven (holes c)) (λ k. 2 * k + 1) d (λ j less. woven_second (holes c) j))
           (runs_with_names (woven (holes c)) (woven_one (holes c)) run);
     }
 
@@ -251,10 +172,6 @@ places_base sys n base places foreign row t u count is sound within few_foreign 
       room = λ x o. (let below = keyed_below n places row t u keys x o in let symbols = sound.few_symbols in omega (arith, is, below, symbols, few_foreign, few));
     }
 
-pub well_formed : (sys : System) → IsSystem sys → IsWellFormed sys
-well_formed sys sound zero r e = absurd (cc)
-well_formed sys sound (suc i) r e = (is_rule_at sys.arities sys.rules i r sound.rules e).is_over
-
 -- terms that have got places in the same rows, the first of them before the second
 pub places_answer : (sys : System) (n base : ℕ) (foreign more_foreign row more : List ℕ) (u v x y : Term) (r : Result ComparedCaps NoMemory) → n ≡ length sys.arities
     → base ≡ length sys.arities + length more_foreign → IsSystem sys → AreDistinct more_foreign → AreDistinct more
@@ -279,6 +196,3 @@ short_row start row t e grown fit = let none : length start ≡ 0 = ap length e 
 
 pub longer : (row more : List ℕ) (t : Term) → length row ≤ 10000 → length more ≤ length row + size t → Fits t → length more ≤ 20000
 longer row more t short grown fit = let few = fit.nodes in omega (arith, short, grown, few)
-
-pub front_short : (row more : List ℕ) → IsFront row more → length row ≤ length more
-front_short row more (rest, e) = let whole : length more ≡ length row + length rest = ap length e ∙ length-append row rest in omega (arith, whole)

@@ -1,5 +1,5 @@
 -- Places of a row for the arguments of a symbol, one after the other.
-use Rattle.std.proofs.Common.{ℕ, suc, ◌≡◌, ◌+◌, ◌^◌, ◌<◌, ◌≤◌, List, [], ◌∷◌, ◌++◌, length, take, get_or, Vec, Global, refl, sym, ap, ◌∙◌, subst, subst₂, arith, add-one}
+use Rattle.std.proofs.Common.{ℕ, suc, ◌≡◌, ◌+◌, ◌^◌, ◌<◌, ◌≤◌, List, [], ◌∷◌, ◌++◌, length, take, get_or, Vec, Global, refl, sym, ap, ◌∙◌, subst, subst₂, arith}
 use Rattle.std.proofs.lemmas.List.{take_all}
 use Rattle.rewriting.specs.Terms as math
 use Rattle.rewriting.specs.Prelude.{Terms, app, nil, cons, size, size_all, with_new, AreDistinct, IsFront}
@@ -9,7 +9,8 @@ use Rattle.term_core.specs.View.{view, views}
 use Rattle.term_core.specs.declared.terms.Term.{Term, Var, Fun}
 use Rattle.term_core.proofs.Views.{view-Fun, view-Var}
 use Rattle.tcap_infeasible.specs.Keys.{IsKey, IsKeyed, AreKeyed}
-use Rattle.tcap_infeasible.proofs.Args.{views_with, take_suc, size_take}
+use Rattle.tcap_infeasible.proofs.Args.{views_with, size_take}
+use Rattle.general_lemmas.proofs.Places.{take_read}
 use Rattle.rewriting.proofs.Lengths.{variables_length}
 use Rattle.tcap_infeasible.proofs.Keyed.{key_grows, all_keyed_grows}
 
@@ -55,7 +56,7 @@ pub one_place : (n : ℕ) (start_foreign foreign more_foreign start row more : L
     → HavePlaces n start_foreign foreign start row ts k us
     → IsPlaced n foreign more_foreign row more (view t) (view u) → vs ≡ us ++ u ∷ [] → HavePlaces n start_foreign more_foreign start more ts (k + 1) vs
 one_place n start_foreign foreign more_foreign start row more ts k us vs t u h e before one pushed =
-    let taken : views (take (k + 1) ts) ≡ append (views (take k ts)) (cons (view t) nil) = ap (λ z. views (take z ts)) (add-one k) ∙ (ap views (take_suc ts k t h e) ∙ views_with (take k ts) t) in
+    let taken : views (take (k + 1) ts) ≡ append (views (take k ts)) (cons (view t) nil) = ap views (take_read ts k t h e) ∙ views_with (take k ts) t in
     let sized : size_all (views (take (k + 1) ts)) ≡ size_all (views (take k ts)) + size (view t) = ap size_all taken ∙ size_all_append (views (take k ts)) (view t) in
     record {
       foreign_front = front_trans start_foreign foreign more_foreign before.foreign_front one.foreign_front;

@@ -1,6 +1,5 @@
 -- Runs on caps whose variables that stay are other constants.
-use Rattle.std.proofs.Common.{ℕ, ◌≡◌, ◌+◌, ◌-◌, ◌*◌, ◌<◌, ◌≤◌, Bool, true, false, nat_lt, if◌then◌else◌, List, length, refl, sym, ap, ap₂, ◌∙◌, subst, subst₂, arith}
-use Rattle.std.proofs.lemmas.Bool.{ltb-true, lt-ltb}
+use Rattle.std.proofs.Common.{ℕ, ◌≡◌, ◌+◌, ◌-◌, ◌*◌, ◌<◌, ◌≤◌, List, length, refl, sym, ap, ap₂, ◌∙◌, subst, subst₂, arith}
 use Rattle.std.proofs.lemmas.Option.{slice_get_within}
 use Rattle.rewriting.specs.Prelude.{Term, Terms, var, app, nil, cons, count, apply, apply_all, even, odd, Signature, IsOver, AreOver, System}
 use Rattle.unifier_run.specs.Run.{Binding, Outcome, unifier, clash, too_large, IsOutcome}
@@ -10,7 +9,7 @@ use Rattle.unifier_run.proofs.Renamed.{renamed, all_renamed, renamed_outcome, ru
 use Rattle.unifier_run.proofs.Total.{outcome_of}
 use Rattle.unifier_run.proofs.Unique.{runs_same}
 use Rattle.caps.specs.Caps.{Cap, Caps, hole, kept, node, no_caps, caps, holes, filled, all_filled, past_symbols, past_symbols_of, past, constants, frozen_from, frozen}
-use Rattle.tcap_infeasible.proofs.Numbers.{not_lt}
+use Rattle.renumbering.proofs.Parted.{parted, parted_below, parted_past, parted_one}
 
 -- outcomes of one kind
 abbrev pub AreAlike : Outcome → Outcome → Type 0
@@ -97,31 +96,18 @@ module _ (sigma : ℕ → ℕ) where
 
 -- symbols from b on move up by d
 abbrev pub raised : ℕ → ℕ → ℕ → ℕ
-raised b d f = if nat_lt f b then f else f + d
+raised b d = parted b (λ f. f) (λ m. b + d + m)
 
 pub raised_below : (b d f : ℕ) → f < b → raised b d f ≡ f
-raised_below b d f h = let t : nat_lt f b ≡ true = lt-ltb f b h in rw t refl
-
-raised_past : (b d m : ℕ) → raised b d (b + m) ≡ b + d + m
-raised_past b d m = go (nat_lt (b + m) b) refl
-  where
-    go : (q : Bool) → nat_lt (b + m) b ≡ q → raised b d (b + m) ≡ b + d + m
-    go true e = (let l = ltb-true (b + m) b e in absurd (omega (arith, l)))
-    go false e = (let s : b + m + d ≡ b + d + m = omega arith in rw e s)
+raised_below b d = parted_below b (λ f. f) (λ m. b + d + m)
 
 pub raised_one : (b d x y : ℕ) → raised b d x ≡ raised b d y → x ≡ y
-raised_one b d x y e = go (nat_lt x b) refl (nat_lt y b) refl
-  where
-    go : (p : Bool) → nat_lt x b ≡ p → (q : Bool) → nat_lt y b ≡ q → x ≡ y
-    go true p true q = rw (p, q) at e
-    go true p false q = (let s : x ≡ y + d = rw (p, q) at e in let l = ltb-true x b p in let m = not_lt y b q in absurd (omega (arith, s, l, m)))
-    go false p true q = (let s : x + d ≡ y = rw (p, q) at e in let l = ltb-true y b q in let m = not_lt x b p in absurd (omega (arith, s, l, m)))
-    go false p false q = (let s : x + d ≡ y + d = rw (p, q) at e in omega (arith, s))
+raised_one b d = parted_one b (λ f. f) (λ m. b + d + m) (λ x y h k e. e) (λ x y e. omega (arith, e)) (λ x y h e. omega (arith, h, e))
 
 mutual
   pub raised_filled : (b d n : ℕ) (c : Cap) → past_symbols c ≤ b → renamed (λ x. x) (raised b d) (filled (constants b) n c) ≡ filled (constants (b + d)) n c
   raised_filled b d n hole h = refl
-  raised_filled b d n (kept x) h = ap (λ z. app z nil) (raised_past b d x)
+  raised_filled b d n (kept x) h = ap (λ z. app z nil) (parted_past b (λ f. f) (λ m. b + d + m) x)
   raised_filled b d n (node f cs) h = ap₂ app (raised_below b d f (omega (arith, h))) (all_raised_filled b d n cs (omega (arith, h)))
 
   pub all_raised_filled : (b d n : ℕ) (cs : Caps) → past_symbols_of cs ≤ b → all_renamed (λ x. x) (raised b d) (all_filled (constants b) n cs) ≡ all_filled (constants (b + d)) n cs

@@ -1,8 +1,10 @@
 -- The sides of conditions as lists of terms of the program.
 use Rattle.std.proofs.Common.{ℕ, zero, suc, ◌≡◌, ◌+◌, ◌*◌, ◌^◌, ◌<◌, ◌≤◌, List, [], ◌∷◌, ◌++◌, map, length, take, get_or, refl, sym, ap, ◌∙◌, subst, arith}
-use Rattle.std.proofs.lemmas.List.{length-map, take_all}
+use Rattle.std.proofs.lemmas.List.{length-map, take_all, get_or-map}
+use Rattle.general_lemmas.proofs.Places.{slice_get-map_read}
 use Rattle.rewriting.specs.Prelude.{cons, size, size_all, Fits, with_variables, System, left_sides, right_sides, AreDistinct, IsFront}
 use Rattle.certificates.specs.Sizes.{DoConditionsFit}
+use Rattle.certificates.proofs.Sizes.{condition_fits}
 use Rattle.renumbering.specs.Rows.{IsNumbered}
 use Rattle.rewriting.proofs.Lengths.{variables_length}
 use Rattle.renumbering.proofs.Numbered.{AreNumbered, numbered_more}
@@ -29,24 +31,16 @@ views_rights [] = refl
 views_rights (c ∷ cs) = ap (cons (view c.right)) (views_rights cs)
 
 pub left_at : (cs : List Cond) (k : ℕ) (c : Cond) → k < length cs → c ≡ get_or cs k c → c.left ≡ get_or (lefts cs) k c.left
-left_at [] k c h e = absurd (omega (arith, h))
-left_at (d ∷ cs) zero c h e = ap (λ z. z.left) e
-left_at (d ∷ cs) (suc k) c h e = left_at cs k c (omega (arith, h)) e
+left_at cs k c h e = ap (λ (z : Cond). z.left) e ∙ sym (get_or-map (λ (z : Cond). z.left) cs k c c.left h)
 
 pub right_at : (cs : List Cond) (k : ℕ) (c : Cond) → k < length cs → c ≡ get_or cs k c → c.right ≡ get_or (rights cs) k c.right
-right_at [] k c h e = absurd (omega (arith, h))
-right_at (d ∷ cs) zero c h e = ap (λ z. z.right) e
-right_at (d ∷ cs) (suc k) c h e = right_at cs k c (omega (arith, h)) e
+right_at cs k c h e = ap (λ (z : Cond). z.right) e ∙ sym (get_or-map (λ (z : Cond). z.right) cs k c c.right h)
 
 pub left_fits : (cs : List Cond) (k : ℕ) (c : Cond) → k < length cs → c ≡ get_or cs k c → DoConditionsFit (map condition_view cs) → Fits (view c.left)
-left_fits [] k c h e fit = absurd (omega (arith, h))
-left_fits (d ∷ cs) zero c h e fit = subst (λ z. Fits (view z.left)) (sym e) fit.0
-left_fits (d ∷ cs) (suc k) c h e fit = left_fits cs k c (omega (arith, h)) e fit.2
+left_fits cs k c h e fit = (condition_fits (map condition_view cs) k (condition_view c) (slice_get-map_read condition_view cs k c h e) fit).0
 
 pub right_fits : (cs : List Cond) (k : ℕ) (c : Cond) → k < length cs → c ≡ get_or cs k c → DoConditionsFit (map condition_view cs) → Fits (view c.right)
-right_fits [] k c h e fit = absurd (omega (arith, h))
-right_fits (d ∷ cs) zero c h e fit = subst (λ z. Fits (view z.right)) (sym e) fit.1
-right_fits (d ∷ cs) (suc k) c h e fit = right_fits cs k c (omega (arith, h)) e fit.2
+right_fits cs k c h e fit = (condition_fits (map condition_view cs) k (condition_view c) (slice_get-map_read condition_view cs k c h e) fit).1
 
 taken_lefts : (cs : List Cond) (k : ℕ) → DoConditionsFit (map condition_view cs) → size_all (views (take k (lefts cs))) ≤ 10000 * k
 taken_lefts [] zero fit = omega arith

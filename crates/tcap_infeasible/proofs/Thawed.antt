@@ -29,7 +29,7 @@ use Rattle.tcap_infeasible.proofs.Sizes.{cap_small}
 use Rattle.renumbering.proofs.Filling.{filling}
 use Rattle.tcap_infeasible.proofs.Keyed.{spaced, keyed_renamed, keyed_size, keyed_symbols}
 use Rattle.tcap_infeasible.proofs.Named.{named, cap_named, large_named}
-use Rattle.tcap_infeasible.proofs.Pairs.{well_formed}
+use Rattle.rewriting.proofs.Laws.{well_formed}
 use Rattle.tcap_infeasible.proofs.Lying.{Thaws, any_thaws, kept_thaws}
 
 -- what is left lies on the arguments that are left, and behind the thawed ones it gives the whole

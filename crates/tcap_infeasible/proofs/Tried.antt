@@ -1,46 +1,38 @@
 -- The rules tried on a term: those of its root symbol in order; all others clash at once.
-use Rattle.std.proofs.Common.{ℕ, zero, suc, ◌≡◌, ◌+◌, ◌-◌, ◌*◌, ◌^◌, ◌<◌, ◌≤◌, ◌⊎◌, inl, inr, Bool, true, false, nat_lt, if◌then◌else◌, List, [], ◌∷◌, length, drop, Some, refl}
-use Rattle.std.proofs.Common.{sym, ap, ap₂, ◌∙◌, subst, subst₂, arith, slice_get, eq-eqb, eqb-true}
-use Rattle.std.proofs.lemmas.Bool.{false≢true, ltb-true, lt-ltb, or_left}
+use Rattle.std.proofs.Common.{ℕ, zero, suc, ◌≡◌, ◌+◌, ◌-◌, ◌*◌, ◌^◌, ◌<◌, ◌≤◌, ◌⊎◌, inl, inr, Bool, true, false, List, [], ◌∷◌, length, drop, Some, refl}
+use Rattle.std.proofs.Common.{sym, ap, ap₂, ◌∙◌, subst, subst₂, arith, slice_get, eq-eqb, eqb-true, length-drop}
+use Rattle.std.proofs.lemmas.Bool.{false≢true, or_left}
+use Rattle.std.proofs.lemmas.Option.{slice_get_within}
 use Rattle.general_lemmas.proofs.Numbers.{le_or_next}
-use Rattle.rewriting.specs.Prelude.{Term, Terms, var, app, nil, cons, IsVariable, Fits, apply, apply_all, even, odd, occurs, Signature, Rule, System, rule_at, terms_of_rule, rule_variables}
+use Rattle.rewriting.specs.Prelude.{Term, var, app, nil, cons, IsVariable, Fits, apply, apply_all, even, odd, occurs, Signature, Rule, System, rule_at, terms_of_rule, rule_variables}
 use Rattle.rewriting.specs.Prelude.{IsRule, IsSystem}
 use Rattle.rewriting.proofs.Variables.{variables_have_all}
 use Rattle.rewriting.proofs.Instances.{apply-agree}
 use Rattle.rewriting.proofs.Lists.{counted_below}
 use Rattle.rewriting.proofs.Systems.{is_rule_at}
-use Rattle.unifier_run.specs.Run.{value, Outcome, clash, Takes, roots_differ, ends, last_equation, IsOutcome}
+use Rattle.unifier_run.specs.Run.{Outcome, clash, Takes, roots_differ, ends, last_equation, IsOutcome}
 use Rattle.unifier_run.specs.Overlaps.{IsOutcomeOf}
 use Rattle.unifier_run.specs.Irreducible.{DoRulesClash}
 use Rattle.unifier_run.proofs.Renamed.{renamed_outcome, stays, names, runs_with_names}
+use Rattle.unifier_run.proofs.Values.{apply_nothing}
 use Rattle.rule_index.specs.Roots.{has_root, numbers_with_root, rules_with_root}
-use Rattle.caps.specs.Caps.{Cap, Caps, hole, kept, node, no_caps, caps, holes, filled, all_filled, constants, frozen_from, frozen}
+use Rattle.caps.specs.Caps.{Cap, Caps, hole, kept, node, no_caps, caps, holes, holes_in, filled, all_filled, constants, frozen_from, frozen}
 use Rattle.tcap_infeasible.specs.Frozen.{IsHeld}
-use Rattle.tcap_infeasible.proofs.Numbers.{not_lt}
+use Rattle.renumbering.proofs.Parted.{parted, parted_below, parted_past, parted_one}
 use Rattle.tcap_infeasible.proofs.Rebased.{HasLike, alike_renamed, clash_like, lowered}
 
 -- numbers below n become even, those from n on odd
 abbrev pub split : ℕ → ℕ → ℕ
-split n k = if nat_lt k n then 2 * k else 2 * (k - n) + 1
+split n = parted n (λ k. 2 * k) (λ m. 2 * m + 1)
 
 pub split_below : (n k : ℕ) → k < n → split n k ≡ 2 * k
-split_below n k h = let t : nat_lt k n ≡ true = lt-ltb k n h in rw t refl
+split_below n = parted_below n (λ k. 2 * k) (λ m. 2 * m + 1)
 
 pub split_from : (n k : ℕ) → split n (n + k) ≡ 2 * k + 1
-split_from n k = go (nat_lt (n + k) n) refl
-  where
-    go : (b : Bool) → nat_lt (n + k) n ≡ b → split n (n + k) ≡ 2 * k + 1
-    go true e = absurd (let l = ltb-true (n + k) n e in omega (arith, l))
-    go false e = (let d : n + k - n ≡ k = omega arith in rw e (ap (λ z. 2 * z + 1) d))
+split_from n = parted_past n (λ k. 2 * k) (λ m. 2 * m + 1)
 
 pub split_one : (n x y : ℕ) → split n x ≡ split n y → x ≡ y
-split_one n x y e = go (nat_lt x n) refl (nat_lt y n) refl
-  where
-    go : (a : Bool) → nat_lt x n ≡ a → (b : Bool) → nat_lt y n ≡ b → x ≡ y
-    go true p true q = (let s : 2 * x ≡ 2 * y = rw (p, q) at e in omega (arith, s))
-    go true p false q = (let s : 2 * x ≡ 2 * (y - n) + 1 = rw (p, q) at e in absurd (omega (arith, s)))
-    go false p true q = (let s : 2 * (x - n) + 1 ≡ 2 * y = rw (p, q) at e in absurd (omega (arith, s)))
-    go false p false q = (let s : 2 * (x - n) + 1 ≡ 2 * (y - n) + 1 = rw (p, q) at e in let l = not_lt x n p in let m = not_lt y n q in omega (arith, s, l, m))
+split_one n = parted_one n (λ k. 2 * k) (λ m. 2 * m + 1) (λ x y a b e. omega (arith, e)) (λ x y e. omega (arith, e)) (λ x y a e. omega (arith, e))
 
 pub left_small : (arities : Signature) (r : Rule) → IsRule arities r → (k : ℕ) → occurs k r.left ≡ true → k < 2 ^ 31
 left_small arities r h k o =
@@ -51,43 +43,42 @@ left_small arities r h k o =
 left_split : (arities : Signature) (r : Rule) (n : ℕ) → IsRule arities r → 2 ^ 31 ≤ n → apply (names (split n)) r.left ≡ apply even r.left
 left_split arities r n h low = apply-agree (names (split n)) even r.left (λ k o. ap var (split_below n k (let s = left_small arities r h k o in omega (arith, s, low))))
 
-mutual
-  pub held_split : (base n j : ℕ) (c : Cap) → apply (names (split n)) (filled (constants base) (n + j) c) ≡ apply odd (filled (constants base) j c)
-  held_split base n j hole = ap var (split_from n j)
-  held_split base n j (kept x) = refl
-  held_split base n j (node f cs) = ap (app f) (all_held_split base n j cs)
+-- a cap whose holes are numbered from a number on, which become what they are to be
+module _ (base : ℕ) (rho g : ℕ → ℕ) (start limit : ℕ) (same : (j : ℕ) → j < limit → rho (start + j) ≡ g j) where
+  mutual
+    pub filled_to : (j : ℕ) (c : Cap) → j + holes c ≤ limit → apply (names rho) (filled (constants base) (start + j) c) ≡ apply (λ k. var (g k)) (filled (constants base) j c)
+    filled_to j hole h = ap var (same j (omega (arith, h)))
+    filled_to j (kept x) h = refl
+    filled_to j (node f cs) h = ap (app f) (all_filled_to j cs h)
 
-  pub all_held_split : (base n j : ℕ) (cs : Caps) → apply_all (names (split n)) (all_filled (constants base) (n + j) cs) ≡ apply_all odd (all_filled (constants base) j cs)
-  all_held_split base n j no_caps = refl
-  all_held_split base n j (caps c cs) =
-      (let e : n + j + holes c ≡ n + (j + holes c) = omega arith in
-      ap₂ cons (held_split base n j c) (ap (λ z. apply_all (names (split n)) (all_filled (constants base) z cs)) e ∙ all_held_split base n (j + holes c) cs))
+    all_filled_to : (j : ℕ) (cs : Caps) → j + holes_in cs ≤ limit → apply_all (names rho) (all_filled (constants base) (start + j) cs) ≡ apply_all (λ k. var (g k)) (all_filled (constants base) j cs)
+    all_filled_to j no_caps h = refl
+    all_filled_to j (caps c cs) h =
+        (let more : start + j + holes c ≡ start + (j + holes c) = omega arith in
+        ap₂ cons (filled_to j c (omega (arith, h))) (ap (λ z. apply_all (names rho) (all_filled (constants base) z cs)) more ∙ all_filled_to (j + holes c) cs (omega (arith, h))))
+
+-- the cap from its first hole on
+pub filled_from : (base start : ℕ) (rho g : ℕ → ℕ) (c : Cap) → ((j : ℕ) → j < holes c → rho (start + j) ≡ g j)
+    → apply (names rho) (filled (constants base) start c) ≡ apply (λ k. var (g k)) (frozen_from base c)
+filled_from base start rho g c same =
+    let none : start ≡ start + 0 = omega arith in
+    ap (λ z. apply (names rho) (filled (constants base) z c)) none ∙ filled_to base rho g start (holes c) same 0 c (omega arith)
 
 -- the outcome of a run on a held cap is of the kind of that on the frozen cap
 pub outcome_of : (sys : System) (r : Rule) (f : ℕ) (t : Term) (n : ℕ) (c : Cap) (o : Outcome) → IsRule sys.arities r → IsHeld sys f t n c
     → IsOutcome (cons r.left nil) (cons t nil) o → HasLike r.left (frozen sys c) o
 outcome_of sys r f t n c o is held run =
-    let zero_more : n ≡ n + 0 = omega arith in
-    let shown : apply (names (split n)) t ≡ apply odd (frozen_from held.base c) = ap (apply (names (split n))) (held.shown ∙ ap (λ z. filled (constants held.base) z c) zero_more)
-    ∙ held_split held.base n 0 c in
+    let shown : apply (names (split n)) t ≡ apply odd (frozen_from held.base c) =
+    ap (apply (names (split n))) held.shown ∙ filled_from held.base n (split n) (λ k. 2 * k + 1) c (λ j less. split_from n j) in
     let on_base : IsOutcomeOf r.left (frozen_from held.base c) (renamed_outcome (split n) stays o) =
     subst₂ (λ x y. IsOutcome (cons x nil) (cons y nil) (renamed_outcome (split n) stays o)) (left_split sys.arities r n is held.low) shown (runs_with_names (split n) (split_one n) run) in
     lowered sys r.left is.is_over.over.0 c held.base held.far o (renamed_outcome (split n) stays o, alike_renamed (split n) stays o, on_base)
-
-mutual
-  same-nothing : (t : Term) → apply (value []) t ≡ t
-  same-nothing (var x) = refl
-  same-nothing (app f ts) = ap (app f) (all_same-nothing ts)
-
-  all_same-nothing : (ts : Terms) → apply_all (value []) ts ≡ ts
-  all_same-nothing nil = refl
-  all_same-nothing (cons t ts) = ap₂ cons (same-nothing t) (all_same-nothing ts)
 
 other_run : (f : ℕ) (l t : Term) → (IsVariable l → ⊥) → has_root f l ≡ false → has_root f t ≡ true → Fits l → Fits t → IsOutcome (cons l nil) (cons t nil) clash
 other_run f (var x) t v a b p q = absurd (v tt)
 other_run f (app g ts) (var x) v a b p q = absurd (false≢true b)
 other_run f (app g ts) (app h us) v a b p q =
-    last_equation (subst₂ (λ x y. Takes [] x y (ends clash)) (sym (same-nothing (app g ts))) (sym (same-nothing (app h us)))
+    last_equation (subst₂ (λ x y. Takes [] x y (ends clash)) (sym (apply_nothing (app g ts))) (sym (apply_nothing (app h us)))
     (roots_differ (p, q) (inl (λ e. false≢true (sym a ∙ eq-eqb f g (eqb-true f h b ∙ sym e))))))
 
 other_clash : (sys : System) (r : Rule) (f : ℕ) (t : Term) (n : ℕ) (c : Cap) → IsRule sys.arities r → IsHeld sys f t n c → has_root f r.left ≡ false → IsOutcomeOf r.left (frozen sys c) clash
@@ -114,15 +105,9 @@ one_more sys t n q at run before i r e l = go (le_or_next i n l)
     go (inl a) = before i r e a
     go (inr k) = subst (λ z. IsOutcomeOf z.left t clash) (same_rule (sym at ∙ subst (λ z. rule_at sys z ≡ Some r) k e)) run
 
-past_all : (rs : List Rule) (n i : ℕ) (r : Rule) → length rs ≤ n → slice_get rs i ≡ Some r → i < n
-past_all [] n i r h e = absurd (cc)
-past_all (q ∷ rs) n zero r h e = omega (arith, h)
-past_all (q ∷ rs) zero (suc i) r h e = absurd (omega (arith, h))
-past_all (q ∷ rs) (suc n) (suc i) r h e = let k = past_all rs n i r (omega (arith, h)) e in omega (arith, k)
-
 all_before : (sys : System) (t : Term) (n : ℕ) → length sys.rules ≤ n → AreBefore sys t n → DoRulesClash sys t
 all_before sys t n h before zero r e = absurd (no_rule sys r e)
-all_before sys t n h before (suc i) r e = before (suc i) r e (let k = past_all sys.rules n i r h e in omega (arith, k))
+all_before sys t n h before (suc i) r e = before (suc i) r e (let k = slice_get_within sys.rules i r e in omega (arith, h, k))
 
 -- how far the rules with root f have come: before the numbers from place k on, the first n rules clash
 pub record Tried (sys : System) (f : ℕ) (t : Term) (numbers : List ℕ) (k : ℕ) : Type 0 where
@@ -179,12 +164,7 @@ next sys f t number rest sound (q ∷ qs) n left e before =
 
 none_left : (sys : System) (f : ℕ) (t : Term) → IsSystem sys → (qs : List Rule) (n : ℕ) → drop n sys.rules ≡ qs → [] ≡ numbers_with_root f (suc n) qs → (m : ℕ) (c : Cap)
     → IsHeld sys f t m c → AreBefore sys (frozen sys c) n → DoRulesClash sys (frozen sys c)
-none_left sys f t sound [] n left e m c held before = all_before sys (frozen sys c) n (past sys.rules n left) before
-  where
-    past : (rs : List Rule) (k : ℕ) → drop k rs ≡ [] → length rs ≤ k
-    past [] k e = omega arith
-    past (r ∷ rs) zero e = absurd (cc)
-    past (r ∷ rs) (suc k) e = let h = past rs k e in omega (arith, h)
+none_left sys f t sound [] n left e m c held before = all_before sys (frozen sys c) n (omega (arith, ap length left, length-drop n sys.rules)) before
 none_left sys f t sound (q ∷ qs) n left e m c held before =
     go (has_root f q.left) refl (none_left sys f t sound qs (suc n))
   where

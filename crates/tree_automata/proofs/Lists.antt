@@ -1,9 +1,11 @@
 -- The elements of lists by their places.
 use Rattle.std.proofs.Common.{◌≡◌, ℕ, zero, suc, ◌+◌, ◌<◌, ◌⊎◌, inl, inr, ⊎_elim, Bool, true, false, ◌||◌, nat_eq, Vec, Global, List, [], ◌∷◌, length, map, get_or, take, Some}
-use Rattle.std.proofs.Common.{slice_get, refl, ap, sym, subst, ◌∙◌, arith, eqb-true, eq-eqb}
+use Rattle.std.proofs.Common.{slice_get, refl, ap, sym, subst, arith, eqb-true, eq-eqb}
 use Rattle.std.specs.List.{list_any}
 use Rattle.std.proofs.lemmas.Option.{same_Some}
+use Rattle.general_lemmas.proofs.Places.{take_read}
 use Rattle.rewriting.specs.Lists.{IsAmong}
+use Rattle.rewriting.proofs.Lists.{among_either}
 use Rattle.automaton_runs.specs.Choices.{as_lists}
 
 -- the first of some lists
@@ -13,14 +15,8 @@ first_of (w ∷ vs) v e = ap (λ (u : Vec ℕ Global). Some u.items) (same_Some 
 
 -- the front of a list up to a place, and the element there
 pub in_front : {X : Type 0} (xs : List X) (i : ℕ) (x u : X) → i < length xs → x ≡ get_or xs i x → IsAmong u (take (i + 1) xs) → IsAmong u (take i xs) ⊎ (u ≡ x)
-in_front xs i x u h e k = go xs i h e (subst (λ n. IsAmong u (take n xs)) (let q : i + 1 ≡ suc i = omega arith in q) k)
-  where
-    go : (ys : List _) (j : ℕ) → j < length ys → x ≡ get_or ys j x → IsAmong u (take (suc j) ys) → IsAmong u (take j ys) ⊎ (u ≡ x)
-    go [] j h e k = absurd (omega arith)
-    go (y ∷ ys) zero h e (inl f) = inr (f ∙ sym e)
-    go (y ∷ ys) zero h e (inr f) = absurd f
-    go (y ∷ ys) (suc j) h e (inl f) = inl (inl f)
-    go (y ∷ ys) (suc j) h e (inr f) = ⊎_elim (λ a. inl (inr a)) (λ b. inr b) (go ys j (omega arith) e f)
+in_front xs i x u h e k =
+    ⊎_elim inl (λ f. inr (⊎_elim (λ same. same) (λ none. absurd none) f)) (among_either u (take i xs) (x ∷ []) (subst (IsAmong u) (take_read xs i x h e) k))
 
 -- the place of one of the first n
 pub place_in_front : {X Y : Type 0} (f : X → Y) (xs : List X) (n : ℕ) (y : Y) → IsAmong y (map f (take n xs)) → (k : ℕ) × (k < n) × (slice_get (map f xs) k ≡ Some y)

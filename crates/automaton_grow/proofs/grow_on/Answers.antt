@@ -1,7 +1,7 @@
 use Rattle.std.proofs.Common.{◌≡◌, ◌∙◌, length, map, sym}
 use Rattle.term_core.specs.View.{view}
 use Rattle.cert_model.specs.EvidenceView.{transition_view}
-use Rattle.automaton_grow.proofs.Comparing.{views_length}
+use Rattle.std.proofs.lemmas.List.{length-map}
 use Rattle.automaton_grow.proofs.Parts.{round_same}
 use Rattle.automaton_grow.proofs.grow_on.Goals as goal
 
@@ -10,8 +10,8 @@ returns-then-len c =
     let ds = map transition_view c.rounds.current.transitions.items in
     let es = map transition_view c.in-Ok.next.items in
     let same : length es ≡ length ds =
-    views_length c.in-Ok.next.items ∙ sym (c.len.ensures ∙ c.in-Ok.next.ok.0) ∙ c.if-len.true ∙ (c.len-in-rounds.ensures ∙ c.rounds.current.transitions.ok.0)
-    ∙ sym (views_length c.rounds.current.transitions.items) in (
+    length-map c.in-Ok.next.items transition_view ∙ sym (c.len.ensures ∙ c.in-Ok.next.ok.0) ∙ c.if-len.true ∙ (c.len-in-rounds.ensures ∙ c.rounds.current.transitions.ok.0)
+    ∙ sym (length-map c.rounds.current.transitions.items transition_view) in (
       record {
         states = c.rounds.invariant.states ∙ c.requires.states;
         accepting = c.rounds.invariant.accepting ∙ c.requires.accepting;

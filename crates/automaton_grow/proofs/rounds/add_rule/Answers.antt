@@ -11,8 +11,8 @@ returns-in-Err c =
     let a = map transition_view c.args.next.now.items in
     let b = map transition_view c.loop-row.next.items in
     let e = map transition_view c.add_asked.new.next.items in
-    rows_error c.args.first (rule_view c.args.rule.now) ds c.args.rows.now c.loop-row.row-index c.row-item.result c.loop-row-test.true c.row-item.is a b e c.in-Err.e c.loop-row.invariant
-    (subst (λ z. AddAnswers (IsAskedAt c.args.first (rule_view c.args.rule.now) ds z c.row-item.result.state) b e (Err c.in-Err.e)) c.deref-in-loop-row.ensures.value c.in-Err.ensures)
+    rows_error c.args.placed.first (rule_view c.args.placed.rule.now) ds c.args.rows.now c.loop-row.row-index c.row-item.result c.loop-row-test.true c.row-item.is a b e c.in-Err.e c.loop-row.invariant
+    (subst (λ z. AddAnswers (IsAskedAt c.args.placed.first (rule_view c.args.placed.rule.now) ds z c.row-item.result.state) b e (Err c.in-Err.e)) c.deref-in-loop-row.ensures.value c.in-Err.ensures)
 
 pub loop-row-preserved : goal.loop-row-preserved
 loop-row-preserved c =
@@ -20,5 +20,5 @@ loop-row-preserved c =
     let a = map transition_view c.args.next.now.items in
     let b = map transition_view c.loop-row.next.items in
     let e = map transition_view c.add_asked.new.next.items in
-    rows_next c.args.first (rule_view c.args.rule.now) ds c.args.rows.now c.loop-row.row-index c.row-item.result c.loop-row-test.true c.row-item.is a b e c.loop-row.invariant
-    (subst (λ z. AddAnswers (IsAskedAt c.args.first (rule_view c.args.rule.now) ds z c.row-item.result.state) b e (Ok tt)) c.deref-in-loop-row.ensures.value c.in-Ok.ensures)
+    rows_next c.args.placed.first (rule_view c.args.placed.rule.now) ds c.args.rows.now c.loop-row.row-index c.row-item.result c.loop-row-test.true c.row-item.is a b e c.loop-row.invariant
+    (subst (λ z. AddAnswers (IsAskedAt c.args.placed.first (rule_view c.args.placed.rule.now) ds z c.row-item.result.state) b e (Ok tt)) c.deref-in-loop-row.ensures.value c.in-Ok.ensures)

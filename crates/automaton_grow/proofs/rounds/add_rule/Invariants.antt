@@ -8,5 +8,5 @@ use Rattle.automaton_grow.proofs.rounds.add_rule.Given as goal
 
 abbrev pub invariant-loop-row : goal.invariant-loop-row
 invariant-loop-row l =
-    IsAdded (IsAskedByRows l.first (rule_view l.rule) (map transition_view l.current) (map arrival_view (take l.row-index l.rows))) (map transition_view l.fn.next.items)
+    IsAdded (IsAskedByRows l.placed.first (rule_view l.placed.rule.now) (map transition_view l.current) (map arrival_view (take l.row-index l.rows))) (map transition_view l.fn.next.items)
     (map transition_view l.next.items) × (length (map transition_view l.next.items) ≤ 5000)

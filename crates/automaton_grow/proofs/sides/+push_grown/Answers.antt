@@ -19,7 +19,7 @@ overflow_add-next-in-loop-arg t c =
 pub loop-arg-preserved : goal.loop-arg-preserved
 loop-arg-preserved t c = record {
   put =
-      grown_next (state_of c.args.leaves.now c.args.states.now) c.deref-arg-items.result.now c.loop-arg.arg-index c.arg-item.result (map transition_view c.loop-arg.out.items)
+      grown_next (state_of c.args.values.leaves.now c.args.values.states.now) c.deref-arg-items.result.now c.loop-arg.arg-index c.arg-item.result (map transition_view c.loop-arg.out.items)
       (map transition_view c.push_grown.new.out.items) _ c.loop-arg.next (c.loop-arg.next + c.inner.result)
       c.loop-arg-test.true c.arg-item.is c.loop-arg.invariant.put c.in_ok-push_grown-in-Fun.ensures (ap (λ z. c.loop-arg.next + z) c.inner.ensures);
   room =

@@ -16,16 +16,17 @@ loop-state-preserved c q k =
     let a = c.args.index.now in
     let n = c.loop-state.state in
     let first = c.args.first.now in
-    let P = λ (s : ℕ). ((p : ℕ) × Relates first s p) × HaveLeads c.args.f (members c.args.all.now) (relations c.args.args.now)
-    (filter (chosen a.symbols first_key a.automaton.states s) a.automaton.transitions) q k in
+    let all = members c.args.applied.all.now in
+    let rs = relations c.args.applied.args.now in
+    let P = λ (s : ℕ). ((p : ℕ) × Relates first s p) × HaveLeads c.args.applied.f all rs (filter (chosen a.symbols first_key a.automaton.states s) a.automaton.transitions) q k in
     elim c.if-has_left.branch [
       | then-has_left+in_ok-put_transitions w ↦
           subst (λ (r : NumberRelation). Relates r q k ↔ (Relates c.args.made.now q k ⊎ ((s : ℕ) × (s < n + 1) × P s))) (sym w.made-is)
           (state_more P n (c.loop-state.invariant q k)
-          (led_here (HaveLeads c.args.f (members c.args.all.now) (relations c.args.args.now) (filter (chosen a.symbols first_key a.automaton.states n) a.automaton.transitions) q k)
+          (led_here (HaveLeads c.args.applied.f all rs (filter (chosen a.symbols first_key a.automaton.states n) a.automaton.transitions) q k)
           (c.has_left.ensures.0 w.if-has_left.true)
           (subst (λ (l : List Transition). Relates w.put_transitions.new.made q k
-          ↔ (Relates c.loop-state.made q k ⊎ HaveLeads c.args.f (members c.args.all.now) (relations c.args.args.now) l q k)) w.with_first.ensures
+          ↔ (Relates c.loop-state.made q k ⊎ HaveLeads c.args.applied.f all rs l q k)) w.with_first.ensures
           (w.in_ok-put_transitions.ensures q k))))
       | else-has_left w ↦
           subst (λ (r : NumberRelation). Relates r q k ↔ (Relates c.args.made.now q k ⊎ ((s : ℕ) × (s < n + 1) × P s))) (sym w.made-is)
@@ -36,6 +37,6 @@ pub returns : goal.returns
 returns c q k =
     let a = c.args.index.now in
     let n = c.loop-state.state in
-    let P = λ (s : ℕ). ((p : ℕ) × Relates c.args.first.now s p) × HaveLeads c.args.f (members c.args.all.now) (relations c.args.args.now)
+    let P = λ (s : ℕ). ((p : ℕ) × Relates c.args.first.now s p) × HaveLeads c.args.applied.f (members c.args.applied.all.now) (relations c.args.applied.args.now)
     (filter (chosen a.symbols first_key a.automaton.states s) a.automaton.transitions) q k in
     state_all P n (c.loop-state.invariant q k) (λ s h. let low = c.lefts-state-end.ensures.above s h.0.0 h.0.1 in let past = c.loop-state-test.false in omega arith)

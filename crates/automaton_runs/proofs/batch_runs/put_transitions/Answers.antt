@@ -17,7 +17,7 @@ loop-transition-preserved c = record {
   shared = c.in_ok-put_transition.ensures.shared;
   made = λ q k.
       let i = c.loop-transition.transition-index in
-      one_more (λ (t : math.Transition). Leads c.args.f (members c.args.all.now) (relations c.args.args.now) t q k) (pointed (take i c.args.transitions.now))
+      one_more (λ (t : math.Transition). Leads c.args.applied.f (members c.args.applied.all.now) (relations c.args.applied.args.now) t q k) (pointed (take i c.args.transitions.now))
       (transition_view c.transition-item.result.now) (pointed (take (i + 1) c.args.transitions.now))
       (map-take_read (λ (t : Bor Transition). transition_view t.now) c.args.transitions.now i c.transition-item.result c.loop-transition-test.true c.transition-item.is)
       (c.loop-transition.invariant.made q k) (c.in_ok-put_transition.ensures.made q k);
@@ -25,5 +25,6 @@ loop-transition-preserved c = record {
 
 pub returns : goal.returns
 returns c q k =
-    subst (λ (l : List (Bor Transition)). Relates c.loop-transition.made q k ↔ (Relates c.args.made.now q k ⊎ HaveLeads c.args.f (members c.args.all.now) (relations c.args.args.now) (pointed l) q k))
+    subst (λ (l : List (Bor Transition)). Relates c.loop-transition.made q k ↔ (Relates c.args.made.now q k
+    ⊎ HaveLeads c.args.applied.f (members c.args.applied.all.now) (relations c.args.applied.args.now) (pointed l) q k))
     (take_all c.loop-transition.transition-index c.args.transitions.now c.loop-transition-test.false) (c.loop-transition.invariant.made q k)

@@ -9,6 +9,7 @@ use Rattle.automaton_runs.proofs.batch_runs.put_transitions.Given as goal
 
 abbrev pub invariant-loop-transition : goal.invariant-loop-transition
 invariant-loop-transition l = record {
-  shared : IsShared (members l.all) (relations l.args) l.shared;
-  made : (q k : ℕ) → Relates l.made q k ↔ (Relates l.fn.made q k ⊎ HaveLeads l.f (members l.all) (relations l.args) (pointed (take l.transition-index l.transitions)) q k);
+  shared : IsShared (members l.applied.all.now) (relations l.applied.args.now) l.shared;
+  made : (q k : ℕ) → Relates l.made q k ↔ (Relates l.fn.made q k
+      ⊎ HaveLeads l.applied.f (members l.applied.all.now) (relations l.applied.args.now) (pointed (take l.transition-index l.transitions)) q k);
 }

@@ -5,7 +5,7 @@ use Rattle.number_sets.specs.declared.rows.NumberRelation.{NumberRelation}
 use Rattle.automaton_runs.specs.Choices.{as_lists}
 use Rattle.automaton_runs.specs.Possible.{IsAnywhere}
 use Rattle.automaton_runs.proofs.BatchParts.{lists_more}
-use Rattle.automaton_runs.proofs.MayArrive.{all_anywhere}
+use Rattle.automaton_runs.proofs.Zips.{zip_push}
 use Rattle.automaton_runs.proofs.possible.put_anywhere.Goals as goal
 
 pub loop-pool-preserved : goal.loop-pool-preserved
@@ -18,5 +18,5 @@ loop-pool-preserved c =
       made ++ c.in_ok-anywhere.field-0 ∷ [],
       c.in_ok-push.ensures.items ∙ ap (λ (l : List NumberRelation). l ++ c.in_ok-anywhere.field-0 ∷ []) is ∙ append_assoc c.args.places.now.items made (c.in_ok-anywhere.field-0 ∷ []),
       subst (λ (ls : List (List ℕ)). AllZip (IsAnywhere (members c.args.all.now)) ls (made ++ c.in_ok-anywhere.field-0 ∷ [])) (sym more)
-          (all_anywhere (IsAnywhere (members c.args.all.now)) (as_lists (take c.loop-pool.pool-index c.args.pools.now)) c.pool-item.result.items made c.in_ok-anywhere.field-0 each here),
+          (zip_push (IsAnywhere (members c.args.all.now)) (as_lists (take c.loop-pool.pool-index c.args.pools.now)) made c.pool-item.result.items c.in_ok-anywhere.field-0 each here),
     )

@@ -8,7 +8,7 @@ use Rattle.derivation.specs.Judged.{IsCounted, IsMatch, IsUnmatchedAt, IsContrac
 use Rattle.derivation.proofs.Judging.{judged_here, judged_passed, judged_map, judged_below}
 use Rattle.derivation.proofs.Shown.{shown_rule, counted_derivations, counted_conditions, view-Derivation, step_count_of, picked}
 use Rattle.derivation.proofs.Loops.{Running, run_begins, no_start, bad_inside, differs, fulfilled}
-use Rattle.derivation.proofs.Progress.{next_running, failing_step, short_rest, next_meeting, failing_condition, fits_rest, short_derivations}
+use Rattle.derivation.proofs.Progress.{next_running, failing_step, short_rest, next_meeting, failing_below, fits_rest, short_derivations}
 use Rattle.derivation.proofs.Contracting.{open_size, contracted_back, uncontracted_back}
 use Rattle.derivation.proofs.OneStep.{absent_rule, unmatched, miscounted, unmet, stepped, uncontracted}
 use Rattle.derivation.proofs.judge.+judge.Goals as goal
@@ -167,63 +167,39 @@ pub values_met-returns-in-Err : goal.values_met-returns-in-Err
 values_met-returns-in-Err t c =
     let sys = c.args.sys.now in
     let hyps = map condition_view c.args.hyps.now in
-    let cs = c.args.conds.now in
-    let ds = c.args.ds.now in
-    let k = c.loop-k.k in
     let b = c.loop-k.values in
     let cond = condition_view c.index-conds-k.result in
-    let all = map condition_view cs in
-    let whole = derivations_of (map derivation_view ds) in
-    let low = c.loop-k-test.true in
-    let paired = c.requires.paired in
-    let pick = picked ds k low in
-    judged_below (λ u. IsInstance b cond.left (view u.term) × IsCounted u) (λ path reason. (path ≡ []) × HasNoInstance b cond.left reason)
-    (λ end. AreMet sys hyps c.args.start all whole end) (FailFrom sys hyps 1 c.args.start all whole)
-    (k + 1) c.in-Err.e c.below.result c.below.ensures
-    (λ path reason h. failing_condition cs ds k c.index-conds-k.result pick.0 low paired c.index-conds-k.is pick.1 sys hyps b c.args.start all whole c.loop-k.invariant.meeting path reason
-    (no_start sys hyps (derivation_view pick.0) b cond path reason h))
-    c.in-Err.ensures
+    let pick = picked c.args.ds.now c.loop-k.k c.loop-k-test.true in
+    failing_below c.args.conds.now c.args.ds.now c.loop-k.k c.index-conds-k.result pick.0 c.loop-k-test.true c.requires.paired c.index-conds-k.is pick.1 sys hyps b _ _ _
+    c.loop-k.invariant.meeting
+    (λ u. IsInstance b cond.left (view u.term) × IsCounted u) (λ path reason. (path ≡ []) × HasNoInstance b cond.left reason) c.in-Err.e c.below.result c.below.ensures
+    (no_start sys hyps (derivation_view pick.0) b cond) c.in-Err.ensures
 
 pub values_met-returns-in-Err-run : goal.values_met-returns-in-Err-run
 values_met-returns-in-Err-run t c =
     let sys = c.args.sys.now in
     let hyps = map condition_view c.args.hyps.now in
-    let cs = c.args.conds.now in
-    let ds = c.args.ds.now in
-    let k = c.loop-k.k in
     let b = c.loop-k.values in
-    let cond = condition_view c.index-conds-k.result in
     let d = derivation_view c.index-ds-k.result in
-    let all = map condition_view cs in
-    let whole = derivations_of (map derivation_view ds) in
     let from = view c.in-Ok.from.term in
-    judged_below (λ u. Derives sys hyps from d (view u.term) × IsCounted u) (FailsFrom sys hyps 1 from d)
-    (λ end. AreMet sys hyps c.args.start all whole end) (FailFrom sys hyps 1 c.args.start all whole)
-    (k + 1) c.in-Err-run.e c.below-in-Err-run.result c.below-in-Err-run.ensures
-    (λ path reason h. failing_condition cs ds k c.index-conds-k.result c.index-ds-k.result c.loop-k-test.true c.requires.paired c.index-conds-k.is c.index-ds-k.is sys hyps b c.args.start all whole
-    c.loop-k.invariant.meeting path reason (bad_inside sys hyps d b cond from c.in-Ok.ensures.0 path reason h))
-    c.in-Err-run.ensures
+    failing_below c.args.conds.now c.args.ds.now c.loop-k.k c.index-conds-k.result c.index-ds-k.result c.loop-k-test.true c.requires.paired c.index-conds-k.is c.index-ds-k.is sys hyps b _ _ _
+    c.loop-k.invariant.meeting
+    (λ u. Derives sys hyps from d (view u.term) × IsCounted u) (FailsFrom sys hyps 1 from d) c.in-Err-run.e c.below-in-Err-run.result c.below-in-Err-run.ensures
+    (bad_inside sys hyps d b (condition_view c.index-conds-k.result) from c.in-Ok.ensures.0) c.in-Err-run.ensures
 
 pub values_met-returns-in-Err-values_after : goal.values_met-returns-in-Err-values_after
 values_met-returns-in-Err-values_after t c =
     let sys = c.args.sys.now in
     let hyps = map condition_view c.args.hyps.now in
-    let cs = c.args.conds.now in
-    let ds = c.args.ds.now in
-    let k = c.loop-k.k in
     let b = c.loop-k.values in
     let cond = condition_view c.index-conds-k.result in
     let d = derivation_view c.index-ds-k.result in
-    let all = map condition_view cs in
-    let whole = derivations_of (map derivation_view ds) in
-    let from = view c.in-Ok.from.term in
     let end = view c.in-Ok-run.end.term in
-    judged_below (λ after. IsLeastMatch b after cond.right end) (λ path reason. (path ≡ []) × (reason ≡ condition_fails) × HasNoMatch b cond.right end)
-    (λ e. AreMet sys hyps c.args.start all whole e) (FailFrom sys hyps 1 c.args.start all whole)
-    (k + 1) c.in-Err-values_after.e c.below-in-Err-values_after.result c.below-in-Err-values_after.ensures
-    (λ path reason h. failing_condition cs ds k c.index-conds-k.result c.index-ds-k.result c.loop-k-test.true c.requires.paired c.index-conds-k.is c.index-ds-k.is sys hyps b c.args.start all whole
-    c.loop-k.invariant.meeting path reason (differs sys hyps d b cond from c.in-Ok.ensures.0 end c.in-Ok-run.ensures.0 path reason h))
-    c.in-Err-values_after.ensures
+    failing_below c.args.conds.now c.args.ds.now c.loop-k.k c.index-conds-k.result c.index-ds-k.result c.loop-k-test.true c.requires.paired c.index-conds-k.is c.index-ds-k.is sys hyps b _ _ _
+    c.loop-k.invariant.meeting
+    (λ after. IsLeastMatch b after cond.right end) (λ path reason. (path ≡ []) × (reason ≡ condition_fails) × HasNoMatch b cond.right end)
+    c.in-Err-values_after.e c.below-in-Err-values_after.result c.below-in-Err-values_after.ensures
+    (differs sys hyps d b cond (view c.in-Ok.from.term) c.in-Ok.ensures.0 end c.in-Ok-run.ensures.0) c.in-Err-values_after.ensures
 
 pub values_met-loop-k-preserved : goal.values_met-loop-k-preserved
 values_met-loop-k-preserved t c =

@@ -2,7 +2,7 @@ use Rattle.std.proofs.Common.{◌≡◌, length, map, below_more, refl, sym, ◌
 use Rattle.std.proofs.lemmas.List.{length-map}
 use Rattle.std.proofs.lemmas.Option.{slice_get_read}
 use Rattle.cert_model.specs.EvidenceView.{transition_view}
-use Rattle.infeasible.proofs.SameLists.{same_lists, same_there}
+use Rattle.general_lemmas.proofs.Places.{same_lists, same_there}
 use Rattle.infeasible.proofs.same.are_same_transitions.Goals as goal
 
 pub transitions-preserved : goal.transitions-preserved

@@ -1,7 +1,8 @@
 use Rattle.std.proofs.Common.{◌+◌, ap₂, arith}
 use Rattle.term_core.specs.View.{view}
 use Rattle.tcap_infeasible.proofs.Keyed.{keyed_fits}
-use Rattle.tcap_infeasible.proofs.Pairs.{places_base, places_answer, answer_apart, none_distinct, short_row, longer, front_short}
+use Rattle.tcap_infeasible.proofs.Pairs.{places_base, places_answer, answer_apart, none_distinct, short_row, longer}
+use Rattle.rewriting.proofs.Lists.{front_length}
 use Rattle.tcap_infeasible.proofs.comparing.compare_rigid_caps.Goals as goal
 
 pub compare_frozen-requires-clause-first : goal.compare_frozen-requires-clause-first
@@ -20,7 +21,7 @@ compare_frozen-requires-clause-first_constants c =
     let variables = short_row c.new-variables.result c.keyed.new.variables (view c.args.u.now) c.new-variables.ensures c.in_ok-first.ensures.grown c.requires.first in
     places_base c.args.sys.now c.symbol_count-symbols.result _ c.keyed.new.foreign c.keyed-2.new.foreign c.keyed.new.variables (view c.args.u.now) (view c.in_ok-first.first)
     c.symbol_count-symbols.ensures.count (ap₂ (λ a b. a + b) c.symbol_count-symbols.ensures.count c.len.ensures.len)
-    c.symbol_count-symbols.ensures.sound (front_short c.keyed.new.foreign c.keyed-2.new.foreign c.in_ok-second.ensures.foreign_front) (omega (arith, foreign))
+    c.symbol_count-symbols.ensures.sound (front_length c.keyed.new.foreign c.keyed-2.new.foreign c.in_ok-second.ensures.foreign_front) (omega (arith, foreign))
     (omega (arith, variables)) c.in_ok-first.ensures.keys
 
 pub compare_frozen-requires-clause-second_constants : goal.compare_frozen-requires-clause-second_constants
