@@ -8,7 +8,6 @@ use Rattle.unifier_run.proofs.Spots.{has_all, order_all}
 use Rattle.unifier_run.specs.Triples.{all_triples, DoesClash}
 use Rattle.critical_pairs.specs.Offers.{Search, DoesPass, IsNext, IsOffered, IsDone, IsRefused}
 use Rattle.critical_pairs.specs.Answers.{OverlapsAnswers}
-use Rattle.critical_pairs.specs.declared.Overlap as Made
 use Rattle.critical_pairs.specs.declared.OverlapError.{OverlapError}
 use Rattle.critical_pairs.specs.declared.OverlapError.TheVariants.{PairTooLarge, TooManyPairs, NoMemory}
 use Rattle.critical_pairs.proofs.Passing.{none_there}
