@@ -1,10 +1,11 @@
 -- The numbers that the rules of an earlier system have now, one after the other.
 use Rattle.std.proofs.Common.{ℕ, zero, suc, ◌≡◌, ◌<◌, ◌≤◌, ◌-◌, ◌⊎◌, inl, inr, List, [], ◌∷◌, length, get_or, set, Option, Some, None, IfSome, refl, sym, ap, ◌∙◌, subst, arith}
 use Rattle.std.proofs.lemmas.List.{length-set, get_or-set_same, get_or-set_other}
+use Rattle.std.proofs.lemmas.Bool.{cases_eq}
 use Rattle.general_lemmas.proofs.Numbers.{le_or_next}
 use Rattle.rewriting.specs.Rules.{System}
 use Rattle.critical_pairs.specs.Kept.{number_at, noted, AreOrigins, AreNumbersNow}
-use Rattle.critical_pairs.proofs.Origins.{in_order, rule_inside, one_number}
+use Rattle.critical_pairs.proofs.Origins.{rule_inside, one_number}
 
 -- those of the first n rules
 pub record AreFirstNumbers (os now : List (Option ℕ)) (n : ℕ) : Type 0 where
@@ -26,14 +27,6 @@ set_elsewhere : (now : List (Option ℕ)) (k : ℕ) (v : Option ℕ) (m : ℕ) �
 set_elsewhere now k v zero n = refl
 set_elsewhere now k v (suc m) n = get_or-set_other now k m v None (λ e. n (ap suc e))
 
-same_or_not : (m k : ℕ) → (m ≡ k) ⊎ (m ≡ k → ⊥)
-same_or_not m k = go (in_order m k)
-  where
-    go : (m < k) ⊎ ((m ≡ k) ⊎ (k < m)) → (m ≡ k) ⊎ (m ≡ k → ⊥)
-    go (inl h) = inr (λ e. absurd (omega (arith, h, e)))
-    go (inr (inl e)) = inl e
-    go (inr (inr h)) = inr (λ e. absurd (omega (arith, h, e)))
-
 -- the next rule has an origin
 module _ (e sys : System) (os : List (Option ℕ)) (are : AreOrigins e sys os) (now : List (Option ℕ)) (n k : ℕ) (there : number_at os (suc n) ≡ Some (suc k))
     (inside : k < length now) (h : AreFirstNumbers os now n) where
@@ -50,7 +43,7 @@ module _ (e sys : System) (os : List (Option ℕ)) (are : AreOrigins e sys os) (
   whole_next i m (inr number) (inr other) g = (let two : Some (suc k) ≡ Some m = sym there ∙ (ap (number_at os) (sym number) ∙ g) in let same : suc k ≡ m = cc in absurd (other (sym same)))
 
   pub one_more_number : AreFirstNumbers os (set now k (Some (suc n))) (suc n)
-  one_more_number = record { sound = λ i m. sound_next i m (same_or_not m (suc k)); whole = λ i m small. whole_next i m (le_or_next i n small) (same_or_not m (suc k)) }
+  one_more_number = record { sound = λ i m. sound_next i m (cases_eq m (suc k)); whole = λ i m small. whole_next i m (le_or_next i n small) (cases_eq m (suc k)) }
 
 pub next_noted : (e sys : System) (os : List (Option ℕ)) → AreOrigins e sys os → (now : List (Option ℕ)) (n next : ℕ) (o : Option ℕ) → next ≡ suc n → get_or os n None ≡ o
     → length now ≡ length e.rules → AreFirstNumbers os now n

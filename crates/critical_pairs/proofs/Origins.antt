@@ -1,6 +1,6 @@
 -- The numbers of rules that an earlier system has too.
 use Rattle.std.proofs.Common.{ℕ, zero, suc, ◌≡◌, ◌<◌, ◌≤◌, ◌⊎◌, inl, inr, List, [], ◌∷◌, length, get_or, slice_get, Option, Some, None, refl, sym, ap, ◌∙◌, subst, arith}
-use Rattle.general_lemmas.proofs.Numbers.{le_or_lt}
+use Rattle.std.proofs.lemmas.Option.{slice_get_within}
 use Rattle.rewriting.specs.Rules.{Rule, System, rule_at}
 use Rattle.critical_pairs.specs.Kept.{number_at, AreOriginsFrom, AreOrigins}
 
@@ -35,7 +35,7 @@ go_up n e (Some c ∷ os) (r ∷ rs) zero (suc l) a b (p, s, h) less g f = (let 
 go_up n e (Some c ∷ os) (r ∷ rs) (suc k) zero a b h less g f = absurd (omega (arith, less))
 go_up n e (Some c ∷ os) (r ∷ rs) (suc k) (suc l) a b (p, s, h) less g f = go_up c e os rs k l a b h (omega (arith, less)) g f
 
-as_long : (n : ℕ) (e : System) (os : List (Option ℕ)) (rs : List Rule) → AreOriginsFrom n e os rs → length os ≡ length rs
+pub as_long : (n : ℕ) (e : System) (os : List (Option ℕ)) (rs : List Rule) → AreOriginsFrom n e os rs → length os ≡ length rs
 as_long n e [] [] h = refl
 as_long n e [] (r ∷ rs) h = absurd h
 as_long n e (o ∷ os) [] h = absurd h
@@ -43,17 +43,7 @@ as_long n e (None ∷ os) (r ∷ rs) h = ap suc (as_long n e os rs h)
 as_long n e (Some m ∷ os) (r ∷ rs) (a, s, h) = ap suc (as_long m e os rs h)
 
 pub in_order : (i j : ℕ) → (i < j) ⊎ ((i ≡ j) ⊎ (j < i))
-in_order i j = go (le_or_lt i j) (le_or_lt j i)
-  where
-    go : (i ≤ j) ⊎ (j < i) → (j ≤ i) ⊎ (i < j) → (i < j) ⊎ ((i ≡ j) ⊎ (j < i))
-    go (inr h) b = inr (inr h)
-    go (inl a) (inr h) = inl h
-    go (inl a) (inl b) = inr (inl (omega (arith, a, b)))
-
-inside : (rs : List Rule) (k : ℕ) (r : Rule) → slice_get rs k ≡ Some r → k < length rs
-inside [] k r e = absurd (cc)
-inside (s ∷ rs) zero r e = omega arith
-inside (s ∷ rs) (suc k) r e = let h = inside rs k r e in omega (arith, h)
+in_order i j = search arith
 
 module _ (e sys : System) (os : List (Option ℕ)) (are : AreOrigins e sys os) where
   pub length_same : length os ≡ length sys.rules
@@ -66,7 +56,7 @@ module _ (e sys : System) (os : List (Option ℕ)) (are : AreOrigins e sys os) w
   pub rule_inside : (i m : ℕ) → number_at os i ≡ Some m → (0 < m) × (m ≤ length e.rules)
   rule_inside zero m g = absurd (cc)
   rule_inside (suc i) zero g = (let low = above 0 e os sys.rules i 0 are g in absurd (omega (arith, low)))
-  rule_inside (suc i) (suc m) g = (let r = same_rule 0 e os sys.rules i (suc m) are g in let h = inside e.rules m r.0 r.1 in (omega arith, omega (arith, h)))
+  rule_inside (suc i) (suc m) g = (let r = same_rule 0 e os sys.rules i (suc m) are g in let h = slice_get_within e.rules m r.0 r.1 in (omega arith, omega (arith, h)))
 
   pub numbers_up : (i j a b : ℕ) → i < j → number_at os i ≡ Some a → number_at os j ≡ Some b → a < b
   numbers_up zero j a b less g f = absurd (cc)

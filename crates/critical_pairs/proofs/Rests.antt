@@ -1,7 +1,8 @@
 -- The triples that are still to come, as a search goes on.
 use Rattle.std.proofs.Common.{ℕ, zero, suc, ◌≡◌, ◌+◌, ◌-◌, ◌<◌, ◌≤◌, List, [], ◌∷◌, ◌++◌, map, length, drop, get_or, slice_get, None, Some, refl, sym, ap, ap₂, ◌∙◌, subst, subst₂, arith, ◌^◌}
 use Rattle.std.proofs.lemmas.Option.{slice_get_within}
-use Rattle.std.proofs.lemmas.List.{drop_all}
+use Rattle.std.proofs.lemmas.List.{drop_all, length-map}
+use Rattle.general_lemmas.proofs.Places.{slice_get-map_read}
 use Rattle.rewriting.specs.Prelude.{IsAmong, app, Fits, Rule, System, rule_at, IsSystem}
 use Rattle.rule_index.specs.Roots.{rules_with_root}
 use Rattle.rule_index.proofs.Walks.{ascending, listed_rule}
@@ -81,15 +82,11 @@ module _ (sys : System) (h : IsSystem sys) (c d : Cursor) (i : ℕ) (is : IsCurs
 pub entered : (sys : System) (c d : Cursor) (r : Rule) → IsCursor sys c → length c.places.items ≤ c.place → slice_get sys.rules c.outer ≡ Some r → IsEntered c r.left d → rest_of sys c ≡ rest_of sys d
 entered sys c d r is past e n =
     let ends = triples_from (length sys.rules) c.outer (drop c.outer sys.rules) in
-    ap (λ z. rest_of_places sys c.outer z c.candidate ++ ends) (drop_all c.place (map place_view c.places.items) (subst (λ z. z ≤ c.place) (sym (length_map c.places.items)) past))
+    ap (λ z. rest_of_places sys c.outer z c.candidate ++ ends) (drop_all c.place (map place_view c.places.items) (subst (λ z. z ≤ c.place) (sym (length-map c.places.items place_view)) past))
     ∙ (ap (λ z. triples_from (length sys.rules) c.outer z) (drop_at sys.rules c.outer r e)
     ∙ (ap (λ z. z ++ triples_from (length sys.rules) (suc c.outer) (drop (suc c.outer) sys.rules))
     (sym (none_done sys (suc c.outer) (places_of r.left) ∙ places_triples c.outer (length sys.rules) r.left)) ∙ sym there))
   where
-    length_map : (ps : List _) → length (map place_view ps) ≡ length ps
-    length_map [] = refl
-    length_map (p ∷ ps) = ap suc (length_map ps)
-
     there : rest_of sys d ≡ rest_of_places sys (suc c.outer) (places_of r.left) 0 ++ triples_from (length sys.rules) (suc c.outer) (drop (suc c.outer) sys.rules)
     there =
         ap₂ (λ x y. rest_of_places sys x (drop d.place (map place_view d.places.items)) y ++ triples_from (length sys.rules) x (drop x sys.rules)) n.outer n.candidate
@@ -102,24 +99,18 @@ entered_cursor sys c d r e n =
       places = λ q m. subst (λ z. IsRootAt sys z q) (sym n.outer) (is_root sys (suc c.outer) r q e (subst (IsAmong q) n.places m));
     }
 
--- a place of the list
-pub view_at : (ps : List Program.Place) (k : ℕ) (x : Program.Place) → k < length ps → x ≡ get_or ps k x → slice_get (map place_view ps) k ≡ Some (place_view x)
-view_at [] k x h e = absurd (omega arith)
-view_at (y ∷ ys) zero x h e = ap (λ z. Some (place_view z)) (sym e)
-view_at (y ∷ ys) (suc k) x h e = view_at ys k x (omega arith) e
-
 -- within one outer rule
 module _ (sys : System) (h : IsSystem sys) (b c d : Cursor) (is : IsCursor sys b) (o : c.outer ≡ b.outer) (ps : c.places ≡ b.places) (x : Program.Place)
     (l : c.place < length c.places.items) (e : x ≡ get_or c.places.items c.place x) where
   here_root : IsRootAt sys c.outer (place_view x)
   here_root = subst (λ z. IsRootAt sys z (place_view x)) (sym o)
-      (is.places (place_view x) (subst (λ z. IsAmong (place_view x) (map place_view z.items)) ps (place_among _ c.place _ (view_at c.places.items c.place x l e))))
+      (is.places (place_view x) (subst (λ z. IsAmong (place_view x) (map place_view z.items)) ps (place_among _ c.place _ (slice_get-map_read place_view c.places.items c.place x l e))))
 
   pub stands_here : (i : ℕ) → CandidateAnswers (rules_with_root sys x.root) x.pos.items c.outer c.candidate (Some i) → StandsBefore sys c i
   stands_here i a =
       record {
         at = place_view x;
-        is_place = view_at c.places.items c.place x l e;
+        is_place = slice_get-map_read place_view c.places.items c.place x l e;
         is_candidate = a.0;
         counts = a.1;
       }
@@ -128,7 +119,7 @@ module _ (sys : System) (h : IsSystem sys) (b c d : Cursor) (is : IsCursor sys b
       → d.candidate ≡ 0 → DoesPass sys (rest_of sys c) (rest_of sys d)
   past_here a q qs k n =
       subst (DoesPass sys (rest_of sys c)) (sym (moved q qs k n))
-      (past_place sys h c.outer c.place c.candidate (map place_view c.places.items) (place_view x) (view_at c.places.items c.place x l e) here_root
+      (past_place sys h c.outer c.place c.candidate (map place_view c.places.items) (place_view x) (slice_get-map_read place_view c.places.items c.place x l e) here_root
       (triples_from (length sys.rules) c.outer (drop c.outer sys.rules)) a)
     where
       moved : d.outer ≡ c.outer → d.places ≡ c.places → d.place ≡ suc c.place → d.candidate ≡ 0
@@ -146,12 +137,7 @@ cursor_kept sys c d is o ps =
 
 -- the rule that is looked up
 pub rule_there : (xs : List Looked.Rule) (rs : List Rule) (k : ℕ) (x : Looked.Rule) → map rule_view xs ≡ rs → k < length xs → x ≡ get_or xs k x → slice_get rs k ≡ Some (rule_view x)
-rule_there xs rs k x e h g = subst (λ z. slice_get z k ≡ Some (rule_view x)) e (go xs k h g)
-  where
-    go : (ys : List Looked.Rule) (k : ℕ) → k < length ys → x ≡ get_or ys k x → slice_get (map rule_view ys) k ≡ Some (rule_view x)
-    go [] k h g = absurd (omega arith)
-    go (y ∷ ys) zero h g = ap (λ z. Some (rule_view z)) (sym g)
-    go (y ∷ ys) (suc k) h g = go ys k (omega arith) g
+rule_there xs rs k x e h g = subst (λ z. slice_get z k ≡ Some (rule_view x)) e (slice_get-map_read rule_view xs k x h g)
 
 pub left_fits : (sys : System) (k : ℕ) (r : Rule) → IsSystem sys → slice_get sys.rules k ≡ Some r → Fits r.left
 left_fits sys k r h e = (numbered_rule sys (suc k) r h e).fits.0
@@ -159,12 +145,7 @@ left_fits sys k r h e = (numbered_rule sys (suc k) r h e).fits.0
 -- where it stands before an inner rule
 module _ (sys : System) (h : IsSystem sys) (c : Cursor) (i : ℕ) (s : StandsBefore sys c i) where
   pub place_within : c.place < length c.places.items
-  place_within = go c.places.items c.place s.is_place
-    where
-      go : (ps : List Program.Place) (k : ℕ) → slice_get (map place_view ps) k ≡ Some s.at → k < length ps
-      go [] k e = absurd (cc)
-      go (p ∷ ps) zero e = omega arith
-      go (p ∷ ps) (suc k) e = let l = go ps k e in omega (arith, l)
+  place_within = subst (λ z. c.place < z) (length-map c.places.items place_view) (slice_get_within (map place_view c.places.items) c.place s.at s.is_place)
 
   pub few_candidates : c.candidate + 1 < 2 ^ 32
   few_candidates =

@@ -1,5 +1,7 @@
 -- What a run at a triple says of the system's overlaps.
-use Rattle.std.proofs.Common.{ℕ, suc, ◌≡◌, ◌+◌, ◌<◌, inl, inr, List, [], ◌∷◌, ◌++◌, map, length, Option, Some, refl, sym, ap, ap₂, ◌∙◌, subst, subst₂, arith, ◌^◌, max}
+use Rattle.std.proofs.Common.{ℕ, suc, ◌≡◌, ◌+◌, ◌<◌, inl, inr, List, [], ◌∷◌, ◌++◌, length, Some, refl, sym, ap, ap₂, ◌∙◌, subst, subst₂, arith, ◌^◌, max}
+use Rattle.std.proofs.lemmas.List.{length-map}
+use Rattle.general_lemmas.proofs.Options.{one_value}
 use Rattle.rewriting.specs.Prelude.{Term, Terms, var, app, nil, cons, size, size_all, depth, depth_all, Fits, Position, subterm, replace, Substitution, apply, apply_all, compose, Bindings}
 use Rattle.rewriting.specs.Prelude.{values_of, even, odd, Condition, Rule, System, rule_at, sides, Each, terms_of_rule, IsSystem, CriticalPair, IsCriticalPair, conditions_under}
 use Rattle.rewriting.proofs.Instances.{apply-apply, apply-agree}
@@ -20,14 +22,7 @@ use Rattle.critical_pairs.specs.Spots.{IsSpotOf, IsUnifierAt, IsOverlapAt}
 use Rattle.critical_pairs.specs.View.{overlap_view}
 use Rattle.critical_pairs.specs.declared.Overlap as Made
 use Rattle.term_core.specs.RuleView.{condition_view, rule_view}
-use Rattle.term_core.specs.declared.systems.Cond.{Cond}
 use Rattle.term_core.specs.declared.systems.Rule as Program
-
-pub same_rule : (o : Option Rule) (a b : Rule) → o ≡ Some a → o ≡ Some b → a ≡ b
-same_rule o a b e h = (let k : Some a ≡ Some b = sym e ∙ h in cc)
-
-pub same_term : (o : Option Term) (a b : Term) → o ≡ Some a → o ≡ Some b → a ≡ b
-same_term o a b e h = (let k : Some a ≡ Some b = sym e ∙ h in cc)
 
 -- a condition list under two substitutions in a row
 under_under : (r m : Substitution) (cs : List Condition) → conditions_under m (conditions_under r cs) ≡ conditions_under (compose r m) cs
@@ -59,9 +54,9 @@ module _ (sys : System) (i : ℕ) (p : Position) (j : ℕ) (spot : IsSpotOf sys 
 
   pub clash_there : IsOutcome (cons left nil) (cons part nil) clash → DoesClash sys (i, (p, j))
   clash_there h r q t k =
-      let same_inner = same_rule (rule_at sys i) spot.inner r spot.place.is_inner k.is_inner in
-      let same_outer = same_rule (rule_at sys j) spot.outer q spot.place.is_outer k.is_outer in
-      let same_part = same_term (subterm q.left p) spot.part t (subst (λ z. subterm z.left p ≡ Some spot.part) same_outer spot.place.is_part) k.is_part in
+      let same_inner = one_value (rule_at sys i) spot.inner r spot.place.is_inner k.is_inner in
+      let same_outer = one_value (rule_at sys j) spot.outer q spot.place.is_outer k.is_outer in
+      let same_part = one_value (subterm q.left p) spot.part t (subst (λ z. subterm z.left p ≡ Some spot.part) same_outer spot.place.is_part) k.is_part in
       subst₂ (λ x y. IsOutcomeOf x.left y clash) same_inner same_part (outcome_there clash h)
 
   pub too_large_there : IsOutcome (cons left nil) (cons part nil) too_large → IsTooLargeAt sys i p j
@@ -165,10 +160,6 @@ sides_fit s h (c ∷ cs) f = (renamed_fits s h c.left f.0, (renamed_fits s h c.r
 rule_fits : (s : Substitution) → IsRenaming s → (r : Rule) → Each Fits (terms_of_rule r) → Each Fits (terms_of_rule (rule_under s r))
 rule_fits s h r f = (renamed_fits s h r.left f.0, (renamed_fits s h r.right f.1.0, sides_fit s h r.conditions f.1.1))
 
-length_views : (cs : List Cond) → length (map condition_view cs) ≡ length cs
-length_views [] = refl
-length_views (c ∷ cs) = ap suc (length_views cs)
-
 module _ (sys : System) (h : IsSystem sys) (i : ℕ) (p : Position) (j : ℕ) (spot : IsSpotOf sys i p j) (inner outer : Program.Rule)
     (low : rule_view inner ≡ rule_under even spot.inner) (high : rule_view outer ≡ rule_under odd spot.outer) where
   pub inner_fits : Each Fits (terms_of_rule (rule_view inner))
@@ -180,6 +171,6 @@ module _ (sys : System) (h : IsSystem sys) (i : ℕ) (p : Position) (j : ℕ) (s
   pub few_conditions : length inner.conds.items < 2 ^ 32
   few_conditions =
       let few = (numbered_rule sys i spot.inner h spot.place.is_inner).few_conditions in
-      let same : length inner.conds.items ≡ length spot.inner.conditions = sym (length_views inner.conds.items)
+      let same : length inner.conds.items ≡ length spot.inner.conditions = sym (length-map inner.conds.items condition_view)
       ∙ (ap (λ z. length z.conditions) low ∙ length-conditions_under even spot.inner.conditions) in
       omega (arith, few, same)

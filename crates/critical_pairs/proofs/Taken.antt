@@ -1,6 +1,6 @@
 -- What is kept of an earlier list of overlaps, and what is taken of it at a triple.
 use Rattle.std.proofs.Common.{ℕ, ◌≡◌, List, [], ◌∷◌, ◌++◌, map, flat_map, Option, Some, None, Ok, inl, refl, sym, ap, ◌∙◌, subst}
-use Rattle.std.proofs.lemmas.List.{append-nil}
+use Rattle.std.proofs.lemmas.List.{append-nil, map-append}
 use Rattle.std.proofs.lemmas.List.Concat.{flat_map-append}
 use Rattle.rewriting.specs.Prelude.{Position, System}
 use Rattle.unifier_run.specs.Overlaps.{Triple, Overlap, triple}
@@ -13,7 +13,6 @@ use Rattle.critical_pairs.specs.declared.Overlap as Made
 use Rattle.critical_pairs.specs.declared.kept.Kept.{Kept}
 use Rattle.critical_pairs.proofs.Passing.{pass_none, pass_one}
 use Rattle.critical_pairs.proofs.OldTriples.{Ahead, kept_overlaps, ahead_passed, ahead_taken, next_clashes}
-use Rattle.critical_pairs.proofs.Whole.{one_last}
 
 -- one more of the earlier list
 pub next_kept : (now : List (Option ℕ)) (kept done : List Made.Overlap) (o : Made.Overlap) → map overlap_view kept ≡ flat_map (renumbered now) (map overlap_view done)
@@ -22,7 +21,7 @@ pub next_kept : (now : List (Option ℕ)) (kept done : List Made.Overlap) (o : M
 next_kept now kept done o h after e =
     e ∙ (ap (λ z. z ++ renumbered now (overlap_view o)) h
     ∙ (ap (λ z. flat_map (renumbered now) (map overlap_view done) ++ z) (sym (append-nil (renumbered now (overlap_view o))))
-    ∙ (sym (flat_map-append (renumbered now) (map overlap_view done) (overlap_view o ∷ [])) ∙ ap (flat_map (renumbered now)) (sym (one_last done o)))))
+    ∙ (sym (flat_map-append (renumbered now) (map overlap_view done) (overlap_view o ∷ [])) ∙ ap (flat_map (renumbered now)) (sym (map-append overlap_view done (o ∷ []))))))
 
 -- all of it
 pub all_kept : (e sys : System) (os now : List (Option ℕ)) (known : List Made.Overlap) (k : Kept) → AreKnown e sys os (map overlap_view known) → AreNumbersNow os now

@@ -1,6 +1,6 @@
 -- A walk through the triples of a system, of which some overlaps are known.
-use Rattle.std.proofs.Common.{ℕ, suc, ◌≡◌, ◌≢◌, ◌+◌, ◌<◌, ◌≤◌, List, [], ◌∷◌, ◌++◌, map, drop, length, refl, sym, ap, ◌∙◌, subst, arith, ◌^◌, add-one, Option, Some, None, Ok, Err}
-use Rattle.std.proofs.lemmas.List.{drop_all, length-map}
+use Rattle.std.proofs.Common.{ℕ, ◌≡◌, ◌≢◌, ◌+◌, ◌<◌, ◌≤◌, List, [], ◌∷◌, ◌++◌, map, drop, length, refl, sym, ap, ◌∙◌, subst, arith, ◌^◌, add-one, Option, Some, None, Ok, Err}
+use Rattle.std.proofs.lemmas.List.{drop_all, length-map, length_push, map-append}
 use Rattle.rewriting.proofs.Lists.{sorted_right}
 use Rattle.rewriting.specs.Prelude.{System, IsSystem, IsEarlierOverlap, IsAmong, IsSorted}
 use Rattle.unifier_run.specs.Overlaps.{Triple, Overlap, triple, IsOverlapOf, AreOverlaps}
@@ -21,7 +21,7 @@ use Rattle.critical_pairs.specs.declared.OverlapError.TheVariants.{PairTooLarge,
 use Rattle.critical_pairs.proofs.Passing.{pass_more, pass_one}
 use Rattle.critical_pairs.proofs.Rests.{cursor_kept, next_there}
 use Rattle.critical_pairs.proofs.Finds.{same as same_here, overlap_here, refused_here, no_offer, beyond}
-use Rattle.critical_pairs.proofs.Whole.{Gathered, none_more, one_more, all_found, list_refused, one_last}
+use Rattle.critical_pairs.proofs.Whole.{Gathered, none_more, one_more, all_found, list_refused}
 use Rattle.critical_pairs.proofs.OldTriples.{ahead_passed}
 use Rattle.critical_pairs.proofs.Origins.{length_same}
 
@@ -60,10 +60,6 @@ begins sys c k os outer places none kept =
     all = ap (λ z. rest_of_places sys c.outer z c.candidate ++ triples_from (length sys.rules) c.outer (drop c.outer sys.rules)) (no_place c.place)
         ∙ ap (λ z. triples_from (length sys.rules) z (drop z sys.rules)) outer
 
-length_more : (os : List Overlap) (q : Overlap) → length (os ++ q ∷ []) ≡ suc (length os)
-length_more [] q = refl
-length_more (o ∷ os) q = ap suc (length_more os q)
-
 -- behind the triple where it stands
 abbrev pub next_of : Cursor → Cursor
 next_of c = record { outer = c.outer; places = c.places; place = c.place; candidate = c.candidate + 1 }
@@ -100,8 +96,9 @@ module _ (sys : System) (h : IsSystem sys) (b c : Cursor) (k : Kept) (os : List 
         }
 
     pub past_overlap : (l : Kept) → AreKept sys (rest_of sys (next_of c)) l → (q : Overlap) → IsOverlapOf sys q × (triple q ≡ here) → length os ≢ 20000
-        → length (os ++ q ∷ []) ≡ suc (length os) → Walks sys (next_of c) l (os ++ q ∷ [])
-    past_overlap l kept q (overlap, there) few longer =
+        → Walks sys (next_of c) l (os ++ q ∷ [])
+    past_overlap l kept q (overlap, there) few =
+        let longer = length_push os q ∙ add-one (length os) in
         record {
           cursor = next_cursor;
           gathered =
@@ -120,8 +117,8 @@ module _ (sys : System) (h : IsSystem sys) (b c : Cursor) (k : Kept) (os : List 
         → SpotAnswers sys t.inner t.pos.now t.outer (Ok r)
         → PutAnswers before r after (Ok tt) → Walks sys (next_of c) l (map overlap_view after)
     walked_on l before after (Some o) e kept spot (is, few) =
-        subst (Walks sys (next_of c) l) (sym (ap (map overlap_view) is ∙ (one_last before o ∙ ap (λ z. z ++ overlap_view o ∷ []) (sym e))))
-        (past_overlap l kept (overlap_view o) spot (λ h. few (sym (length-map before overlap_view) ∙ (ap length (sym e) ∙ h))) (length_more os (overlap_view o)))
+        subst (Walks sys (next_of c) l) (sym (ap (map overlap_view) is ∙ (map-append overlap_view before (o ∷ []) ∙ ap (λ z. z ++ overlap_view o ∷ []) (sym e))))
+        (past_overlap l kept (overlap_view o) spot (λ h. few (sym (length-map before overlap_view) ∙ (ap length (sym e) ∙ h))))
     walked_on l before after None e kept spot is = subst (Walks sys (next_of c) l) (e ∙ ap (map overlap_view) (sym is)) (past_clash l kept spot)
 
     pub refused_walk : (e : OverlapError) → IsRefusedAt sys t.inner t.pos.now t.outer e → OverlapsAnswers sys (Err e)

@@ -1,6 +1,6 @@
 -- The list of the overlaps that a search offers.
-use Rattle.std.proofs.Common.{suc, ◌≡◌, ◌≤◌, List, [], ◌∷◌, ◌++◌, map, length, refl, sym, ap, ◌∙◌, subst, Err, append_assoc, inr}
-use Rattle.std.proofs.lemmas.List.{append-nil}
+use Rattle.std.proofs.Common.{suc, ◌≡◌, ◌≤◌, List, [], ◌∷◌, ◌++◌, length, refl, sym, ap, ◌∙◌, subst, Err, append_assoc, inr, add-one}
+use Rattle.std.proofs.lemmas.List.{append-nil, length_push}
 use Rattle.rewriting.specs.Prelude.{System, IsEarlierOverlap, IsAmong}
 use Rattle.unifier_run.specs.Overlaps.{Triple, Overlap, triple, IsOverlapOf, IsTooLargeAt, AreOverlapsAt, AreOverlaps}
 use Rattle.unifier_run.proofs.Triples.{AreInOrder, AreThose, those_append, overlaps_at, overlaps_before}
@@ -8,8 +8,6 @@ use Rattle.unifier_run.proofs.Spots.{has_all, order_all}
 use Rattle.unifier_run.specs.Triples.{all_triples, DoesClash}
 use Rattle.critical_pairs.specs.Offers.{Search, DoesPass, IsNext, IsOffered, IsDone, IsRefused}
 use Rattle.critical_pairs.specs.Answers.{OverlapsAnswers}
-use Rattle.critical_pairs.specs.View.{overlap_view}
-use Rattle.critical_pairs.specs.declared.Overlap as Made
 use Rattle.critical_pairs.specs.declared.OverlapError.{OverlapError}
 use Rattle.critical_pairs.specs.declared.OverlapError.TheVariants.{PairTooLarge, TooManyPairs, NoMemory}
 use Rattle.critical_pairs.proofs.Passing.{none_there}
@@ -52,13 +50,9 @@ module _ (sys : System) (s : Search) (os : List Overlap) (g : Gathered sys s os)
         earlier = (g.earlier ++ h.passes.passed) ++ triple o ∷ [];
         split = further _ h.passes ∙ sym (append_assoc (g.earlier ++ h.passes.passed) (triple o ∷ []) t.rest);
         those = those_append sys (g.earlier ++ h.passes.passed) (triple o ∷ []) os (o ∷ []) (none_further _ h.passes) (inr (o, [], refl, overlap_there o h.is_overlap, refl, refl));
-        counted = h.counted ∙ (ap suc g.counted ∙ sym (length_more os));
+        counted = h.counted ∙ (ap suc g.counted ∙ sym (length_push os o ∙ add-one (length os)));
         few = h.few;
       }
-    where
-      length_more : (qs : List Overlap) → length (qs ++ o ∷ []) ≡ suc (length qs)
-      length_more [] = refl
-      length_more (q ∷ qs) = ap suc (length_more qs)
 
   pub all_found : (t : Search) → IsDone s t → AreOverlaps sys os
   all_found t h =
@@ -86,7 +80,3 @@ module _ (sys : System) (s : Search) (os : List Overlap) (g : Gathered sys s os)
   list_refused TooManyPairs h =
       record { next = h.further; is_overlap = overlap_there h.further h.is_overlap; before = os; are_before = found_before (triple h.further) h.is_next; many = sym g.counted ∙ h.many }
   list_refused NoMemory h = tt
-
-pub one_last : (os : List Made.Overlap) (o : Made.Overlap) → map overlap_view (os ++ o ∷ []) ≡ map overlap_view os ++ overlap_view o ∷ []
-one_last [] o = refl
-one_last (q ∷ os) o = ap (λ z. overlap_view q ∷ z) (one_last os o)

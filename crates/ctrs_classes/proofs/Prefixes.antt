@@ -2,6 +2,7 @@
 use Rattle.std.proofs.Common.{ℕ, zero, suc, ◌≡◌, ◌⊎◌, inl, inr, ◌<◌, ◌≤◌, ◌+◌, Bool, true, false, not, ◌||◌, ◌&&◌, List, [], ◌∷◌, length, get_or, take, drop, map, None, Some}
 use Rattle.std.proofs.Common.{option_map, refl, sym, ap, ap₂, ◌∙◌, subst, arith}
 use Rattle.std.proofs.lemmas.Bool.{false≢true, true≢false, or_left, or_right, and_from, and_parts, true_from_ne_false}
+use Rattle.general_lemmas.proofs.Numbers.{not_true}
 use Rattle.std.proofs.lemmas.Bool.Decides.{leb_tells}
 use Rattle.std.proofs.lemmas.Option.{slice_get-get_or, slice_get-map, slice_get_past}
 use Rattle.std.proofs.Math.Dec.{leb}
@@ -146,15 +147,11 @@ module _ (r : rules.Rule) (m : ℕ) (prefix : IsKnownPrefix r m) (test : ℕ →
       both : (occurs_in f.0 (sides (drop m r.conditions)) ≡ true) × (not (occurs_in f.0 (known r m)) ≡ true)
       both = and_parts _ _ (sym (tests f.0) ∙ f.2)
 
-      unknown : (b : Bool) → not b ≡ true → b ≡ true → ⊥
-      unknown true e h = false≢true e
-      unknown false e h = false≢true h
-
       within : o.m ≤ m → ⊥
       within le =
           let w = found_from f.0 m r.conditions both.0 in
           let low = w.2 in
-          unknown (occurs_in f.0 (known r m)) both.1 (known_grows f.0 o.m m r le (o.behind w.0 w.1 (omega (arith, low, le)) w.3 f.0 (among_occurs f.0 r.right f.1) w.4))
+          not_true (occurs_in f.0 (known r m)) both.1 (known_grows f.0 o.m m r le (o.behind w.0 w.1 (omega (arith, low, le)) w.3 f.0 (among_occurs f.0 r.right f.1) w.4))
 
       beyond : (d : Condition) → m < o.m → IsAt r.conditions m d → ⊥
       beyond d less at = prefix.next d at (o.before m d less at)

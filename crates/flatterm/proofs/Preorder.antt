@@ -34,13 +34,14 @@ mutual
   all_cells _ _ nothing = refl
   all_cells _ es (another {t} {ts} cs ds l all h) = ap cells h ∙ cells_app cs ds ∙ (λ i. laid_cells t cs l i ++ all_cells ts ds all i)
 
+-- a cell more, or an end
+pub under : (o : Option Cell) (ds es : List Cell) → length ds ≡ length es → length (shown o ds) ≡ length (shown o es)
+under None ds es h = h
+under (Some y) ds es h = ap suc h
+
 pub place_front : (xs ys : Items) → place_in (xs ++ ys) (length xs) ≡ length (cells xs)
 place_front [] ys = refl
 place_front (x ∷ xs) ys = under x.1.cell (cells (take (length xs) (xs ++ ys))) (cells xs) (place_front xs ys)
-  where
-    under : (o : Option Cell) (ds es : List Cell) → length ds ≡ length es → length (shown o ds) ≡ length (shown o es)
-    under None ds es h = h
-    under (Some y) ds es h = ap suc h
 
 pub subterm_stands : (cs : Items) (i : ℕ) (w : Within cs i) → Stands (cells cs) (place_in cs i) w.tree
 subterm_stands cs i w = record {

@@ -10,6 +10,7 @@ use Rattle.flatterm.specs.declared.Node.{Node}
 use Rattle.flatterm.specs.Cells.{Next, IsNodeAt}
 use Rattle.flatterm.specs.Laid.{Items, begins, ends, enclosed, IsWhole}
 use Rattle.flatterm.proofs.Subterms.{enclosed_of}
+use Rattle.flatterm.proofs.Preorder.{under}
 use Rattle.flatterm.specs.Place.{shown, cells, place_in, Rests}
 
 first_shown : (o : Option Cell) (cs : List Cell) (x : Cell) → o ≡ Some x → o ≡ slice_get (shown o cs) 0
@@ -36,10 +37,6 @@ pub place_past_end : (p : Ptr) (cs : Items) (z : Next) (i : ℕ) (n : Node) → 
 place_past_end p [] z i n h e = absurd h
 place_past_end p (c ∷ cs) z zero n h e = ap (λ o. length (shown o [])) (ap (λ (m : Node). m.body.cell) (sym h) ∙ e)
 place_past_end p (c ∷ cs) z (suc i) n h e = under c.1.cell (cells (take (suc i) cs)) (cells (take i cs)) (place_past_end c.0 cs z i n h e)
-  where
-    under : (o : Option Cell) (ds es : List Cell) → length ds ≡ length es → length (shown o ds) ≡ length (shown o es)
-    under None ds es h = h
-    under (Some y) ds es h = ap suc h
 
 -- a cell, or the last
 pub rests_at_cell : (p : Ptr) (cs : Items) (a : Ptr) (i : ℕ) (n : Node) → IsNodeAt p cs (a, true) i n → (x : Cell) → n.body.cell ≡ Some x → Rests cs i

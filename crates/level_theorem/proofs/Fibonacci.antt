@@ -120,81 +120,62 @@ stable =
 abbrev IsBelow : Term → Type 0
 IsBelow part = (part ≡ constant 4) ⊎ (part ≡ unary 1 (var 0))
 
-in_zero : (p : Position) (part : Term) → subterm (constant 4) p ≡ Some part → IsBelow part
-in_zero [] part e = inl cc
-in_zero (k ∷ p) part e = cc
+in_zero : (p : Position) (part : Term) → subterm (constant 4) p ≡ Some part → (IsVariable part → ⊥) → IsBelow part
+in_zero [] part e v = inl cc
+in_zero (k ∷ p) part e v = cc
 
-in_variable : (x : ℕ) (p : Position) (part : Term) → subterm (var x) p ≡ Some part → (IsVariable part → ⊥) → ⊥
-in_variable x [] part e v = let same : var x ≡ part = cc in v (subst IsVariable same tt)
+in_variable : (x : ℕ) (p : Position) (part : Term) → subterm (var x) p ≡ Some part → (IsVariable part → ⊥) → IsBelow part
+in_variable x [] part e v = absurd (let same : var x ≡ part = cc in v (subst IsVariable same tt))
 in_variable x (k ∷ p) part e v = cc
 
 in_next : (p : Position) (part : Term) → subterm (unary 1 (var 0)) p ≡ Some part → (IsVariable part → ⊥) → IsBelow part
 in_next [] part e v = inr cc
 in_next (zero ∷ p) part e v = cc
-in_next (suc zero ∷ p) part e v = absurd (in_variable 0 p part e v)
+in_next (suc zero ∷ p) part e v = in_variable 0 p part e v
 in_next (suc (suc k) ∷ p) part e v = cc
 
+-- what holds below the arguments of a term, where these are no variables
+abbrev AreBelow : Term → Type 0
+AreBelow t = (p : Position) (part : Term) → subterm t p ≡ Some part → (IsVariable part → ⊥) → IsBelow part
+
+in_unary : (f : ℕ) (t : Term) → AreBelow t → (k : ℕ) (p : Position) (part : Term) → subterm (unary f t) (k ∷ p) ≡ Some part → (IsVariable part → ⊥) → IsBelow part
+in_unary f t h zero p part e v = cc
+in_unary f t h (suc zero) p part e v = h p part e v
+in_unary f t h (suc (suc k)) p part e v = cc
+
+in_binary : (f : ℕ) (t u : Term) → AreBelow t → AreBelow u → (k : ℕ) (p : Position) (part : Term) → subterm (binary f t u) (k ∷ p) ≡ Some part → (IsVariable part → ⊥) → IsBelow part
+in_binary f t u h g zero p part e v = cc
+in_binary f t u h g (suc zero) p part e v = h p part e v
+in_binary f t u h g (suc (suc zero)) p part e v = g p part e v
+in_binary f t u h g (suc (suc (suc k))) p part e v = cc
+
 below_root : (j : ℕ) (q : Rule) → rule_at fibonacci_numbers j ≡ Some q → (k : ℕ) (p : Position) (part : Term) → subterm q.left (k ∷ p) ≡ Some part → (IsVariable part → ⊥) → IsBelow part
-below_root = each (λ q. (k : ℕ) (p : Position) (part : Term) → subterm q.left (k ∷ p) ≡ Some part → (IsVariable part → ⊥) → IsBelow part) first second third fourth
-  where
-    first : (k : ℕ) (p : Position) (part : Term) → subterm add_zero.left (k ∷ p) ≡ Some part → (IsVariable part → ⊥) → IsBelow part
-    first zero p part e v = cc
-    first (suc zero) p part e v = in_zero p part e
-    first (suc (suc zero)) p part e v = absurd (in_variable 0 p part e v)
-    first (suc (suc (suc k))) p part e v = cc
-
-    second : (k : ℕ) (p : Position) (part : Term) → subterm add_next.left (k ∷ p) ≡ Some part → (IsVariable part → ⊥) → IsBelow part
-    second zero p part e v = cc
-    second (suc zero) p part e v = in_next p part e v
-    second (suc (suc zero)) p part e v = absurd (in_variable 1 p part e v)
-    second (suc (suc (suc k))) p part e v = cc
-
-    third : (k : ℕ) (p : Position) (part : Term) → subterm fib_zero.left (k ∷ p) ≡ Some part → (IsVariable part → ⊥) → IsBelow part
-    third zero p part e v = cc
-    third (suc zero) p part e v = in_zero p part e
-    third (suc (suc k)) p part e v = cc
-
-    fourth : (k : ℕ) (p : Position) (part : Term) → subterm fibonacci.left (k ∷ p) ≡ Some part → (IsVariable part → ⊥) → IsBelow part
-    fourth zero p part e v = cc
-    fourth (suc zero) p part e v = in_next p part e v
-    fourth (suc (suc k)) p part e v = cc
+below_root =
+    each (λ q. (k : ℕ) (p : Position) (part : Term) → subterm q.left (k ∷ p) ≡ Some part → (IsVariable part → ⊥) → IsBelow part)
+    (in_binary 3 (constant 4) (var 0) in_zero (in_variable 0)) (in_binary 3 (unary 1 (var 0)) (var 1) in_next (in_variable 1))
+    (in_unary 0 (constant 4) in_zero) (in_unary 0 (unary 1 (var 0)) in_next)
 
 -- no left side has 0 or s at its root
 clash_below : (part : Term) → IsBelow part → (i : ℕ) (q : Rule) → rule_at fibonacci_numbers i ≡ Some q → AreUnifiable (apply even q.left) (apply odd part) → ⊥
-clash_below part (inl e) i q at u = go i q at (subst (λ t. AreUnifiable (apply even q.left) (apply odd t)) e u)
-  where
-    go : (i : ℕ) (q : Rule) → rule_at fibonacci_numbers i ≡ Some q → AreUnifiable (apply even q.left) (apply odd (constant 4)) → ⊥
-    go = each (λ q. AreUnifiable (apply even q.left) (apply odd (constant 4)) → ⊥) (λ u. let same = u.1 in cc) (λ u. let same = u.1 in cc) (λ u. let same = u.1 in cc) (λ u. let same = u.1 in cc)
-clash_below part (inr e) i q at u = go i q at (subst (λ t. AreUnifiable (apply even q.left) (apply odd t)) e u)
-  where
-    go : (i : ℕ) (q : Rule) → rule_at fibonacci_numbers i ≡ Some q → AreUnifiable (apply even q.left) (apply odd (unary 1 (var 0))) → ⊥
-    go = each (λ q. AreUnifiable (apply even q.left) (apply odd (unary 1 (var 0))) → ⊥) (λ u. let same = u.1 in cc) (λ u. let same = u.1 in cc) (λ u. let same = u.1 in cc) (λ u. let same = u.1 in cc)
+clash_below part (inl e) i q at u =
+    each (λ q. AreUnifiable (apply even q.left) (apply odd (constant 4)) → ⊥) (λ u. let same = u.1 in cc) (λ u. let same = u.1 in cc) (λ u. let same = u.1 in cc)
+    (λ u. let same = u.1 in cc) i q at (subst (λ t. AreUnifiable (apply even q.left) (apply odd t)) e u)
+clash_below part (inr e) i q at u =
+    each (λ q. AreUnifiable (apply even q.left) (apply odd (unary 1 (var 0))) → ⊥) (λ u. let same = u.1 in cc) (λ u. let same = u.1 in cc) (λ u. let same = u.1 in cc)
+    (λ u. let same = u.1 in cc) i q at (subst (λ t. AreUnifiable (apply even q.left) (apply odd t)) e u)
 
 abbrev AreClashing : Rule → Rule → Type 0
 AreClashing a b = AreUnifiable (apply even a.left) (apply odd b.left) → ⊥
 
 -- the left sides of two rules clash
 clash_at_root : (i j : ℕ) (a b : Rule) → i < j → rule_at fibonacci_numbers i ≡ Some a → rule_at fibonacci_numbers j ≡ Some b → AreClashing a b
-clash_at_root i j a b lt at_i at_j = each_numbered (λ i a. i < j → AreClashing a b) first second third fourth i a at_i lt
-  where
-    first : 1 < j → AreClashing add_zero b
-    first =
-        each_numbered (λ j b. 1 < j → AreClashing add_zero b) (λ lt. absurd (omega (arith, lt))) (λ lt u. let same = u.1 in cc) (λ lt u. let same = u.1 in cc) (λ lt u. let same = u.1 in cc) j b at_j
-
-    second : 2 < j → AreClashing add_next b
-    second =
-        each_numbered (λ j b. 2 < j → AreClashing add_next b) (λ lt. absurd (omega (arith, lt))) (λ lt. absurd (omega (arith, lt))) (λ lt u. let same = u.1 in cc)
-        (λ lt u. let same = u.1 in cc) j b at_j
-
-    third : 3 < j → AreClashing fib_zero b
-    third =
-        each_numbered (λ j b. 3 < j → AreClashing fib_zero b) (λ lt. absurd (omega (arith, lt))) (λ lt. absurd (omega (arith, lt))) (λ lt. absurd (omega (arith, lt)))
-        (λ lt u. let same = u.1 in cc) j b at_j
-
-    fourth : 4 < j → AreClashing fibonacci b
-    fourth =
-        each_numbered (λ j b. 4 < j → AreClashing fibonacci b) (λ lt. absurd (omega (arith, lt))) (λ lt. absurd (omega (arith, lt))) (λ lt. absurd (omega (arith, lt)))
-        (λ lt. absurd (omega (arith, lt))) j b at_j
+clash_at_root i j a b lt at_i at_j =
+    each_numbered (λ i a. i < j → AreClashing a b)
+    (each_numbered (λ j b. 1 < j → AreClashing add_zero b) (λ l. absurd (omega (arith, l))) (λ l u. let same = u.1 in cc) (λ l u. let same = u.1 in cc) (λ l u. let same = u.1 in cc) j b at_j)
+    (each_numbered (λ j b. 2 < j → AreClashing add_next b) (λ l. absurd (omega (arith, l))) (λ l. absurd (omega (arith, l))) (λ l u. let same = u.1 in cc) (λ l u. let same = u.1 in cc) j b at_j)
+    (each_numbered (λ j b. 3 < j → AreClashing fib_zero b) (λ l. absurd (omega (arith, l))) (λ l. absurd (omega (arith, l))) (λ l. absurd (omega (arith, l))) (λ l u. let same = u.1 in cc) j b at_j)
+    (each_numbered (λ j b. 4 < j → AreClashing fibonacci b) (λ l. absurd (omega (arith, l))) (λ l. absurd (omega (arith, l))) (λ l. absurd (omega (arith, l))) (λ l. absurd (omega (arith, l))) j b at_j)
+    i a at_i lt
 
 abbrev Empty : Position
 Empty = []

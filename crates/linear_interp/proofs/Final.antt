@@ -1,8 +1,8 @@
 -- From what the checks answer to the judgement.
-use Rattle.std.proofs.Common.{◌≡◌, ℕ, zero, suc, ◌+◌, ◌^◌, ◌<◌, ◌≤◌, ◌⊎◌, inl, inr, true, refl, sym, ap, ◌∙◌, subst, List, [], ◌∷◌, map, length, slice_get, Some, None, Result, Ok, Err, arith, eq-eqb}
+use Rattle.std.proofs.Common.{◌≡◌, ℕ, zero, suc, ◌+◌, ◌^◌, ◌<◌, ◌≤◌, ◌⊎◌, inl, inr, true, refl, sym, ap, ◌∙◌, subst, subst₂, List, [], ◌∷◌, map, length, slice_get, Option, Some}
+use Rattle.std.proofs.Common.{None, Result, Ok, Err, arith, eq-eqb}
 use Rattle.std.proofs.lemmas.Bool.{cases_lt, or_left, or_right}
 use Rattle.std.proofs.lemmas.Option.{slice_get_within}
-use Rattle.rewriting.specs.Unraveling as unraveling
 use Rattle.rewriting.specs.Prelude.{unraveled, heads, rule_at, Term, var, app, Terms, nil, cons, IsRule, AreRules, IsSystem, IsWellFormed, CountsFrom, rule_variables, terms_of_rule}
 use Rattle.rewriting.specs.Prelude.{Signature, IsOver, AreOver, occurs, occurs_in}
 use Rattle.rewriting.specs.Rules as math
@@ -14,7 +14,9 @@ use Rattle.interpretations.specs.Linear.{Interpretation, IsEntry, HasShape, AreN
 use Rattle.interpretations.specs.Judged.{IsFirstMisshapen, IsFirstBad, FailsAt, IsFirstSmaller, IsConstantKept, IsInterpretationJudged}
 use Rattle.interpretations.proofs.Bound.{counted_numbers, small_number}
 use Rattle.interpretations.proofs.Structure.{sides_of, large_side}
+use Rattle.term_core.specs.HeadView.{head_view}
 use Rattle.term_core.specs.RuleView.{rule_view, AreCounted}
+use Rattle.term_core.specs.declared.systems.Head.{Head}
 use Rattle.term_core.specs.declared.systems.Rule.{Rule}
 use Rattle.cert_model.specs.declared.reasons.MeasureReason.TheVariants as reason
 use Rattle.measure.specs.Answers.{ShowsAnswers}
@@ -34,9 +36,6 @@ module _ (sys : math.System) (es : Interpretation) where
   misshapen_here : (k : ℕ) → MisshapenAnswers (heads sys) (unraveled sys).arities es (Some k) → IsFirstMisshapen sys es k
   misshapen_here k h = record { place = h.0; before = λ j lt. entry_of j (h.1 j lt); here = λ e. h.2 (at_entry k e) }
 
-  pub misshapen : (hs : List unraveling.Head) (arities : List ℕ) (k : ℕ) → hs ≡ heads sys → arities ≡ (unraveled sys).arities → MisshapenAnswers hs arities es (Some k) → IsFirstMisshapen sys es k
-  misshapen hs arities k eh ea h = misshapen_here k (subst (λ a. MisshapenAnswers (heads sys) a es (Some k)) ea (subst (λ z. MisshapenAnswers z arities es (Some k)) eh h))
-
   shape_here : MisshapenAnswers (heads sys) (unraveled sys).arities es None → HasShape sys es
   shape_here h = record { as_many = by_case (cases_lt (length es) (length (heads sys))); entries = λ k lt. entry_of k (h k (inl lt)) }
     where
@@ -48,8 +47,17 @@ module _ (sys : math.System) (es : Interpretation) where
           by_other (inl lt) = let e = h (length (heads sys)) (inl lt) in let w = slice_get_within (heads sys) (length (heads sys)) _ e.2 in absurd (omega (arith, w))
           by_other (inr more) = omega (arith, le, more)
 
-  pub shape : (hs : List unraveling.Head) (arities : List ℕ) → hs ≡ heads sys → arities ≡ (unraveled sys).arities → MisshapenAnswers hs arities es None → HasShape sys es
-  shape hs arities eh ea h = shape_here (subst (λ a. MisshapenAnswers (heads sys) a es None) ea (subst (λ z. MisshapenAnswers z arities es None) eh h))
+  -- for the heads and the arities that are given
+  module _ (given heads_given : List Head) (arities : List ℕ) (whole : math.System) (same : given ≡ heads_given) (are : map head_view heads_given ≡ heads sys)
+      (of_whole : arities ≡ whole.arities) (is : whole ≡ unraveled sys) where
+    at_heads : (o : Option ℕ) → MisshapenAnswers (map head_view given) arities es o → MisshapenAnswers (heads sys) (unraveled sys).arities es o
+    at_heads o h = subst₂ (λ z a. MisshapenAnswers z a es o) (ap (map head_view) same ∙ are) (of_whole ∙ ap (λ z. z.arities) is) h
+
+    pub misshapen : (k : ℕ) → MisshapenAnswers (map head_view given) arities es (Some k) → IsFirstMisshapen sys es k
+    misshapen k h = misshapen_here k (at_heads (Some k) h)
+
+    pub shape : MisshapenAnswers (map head_view given) arities es None → HasShape sys es
+    shape h = shape_here (at_heads None h)
 
   good_numbers : (f : ℕ) (cs : List ℕ) → AreGoodBelow (length sys.arities) f cs (length cs) → AreNumbersGood sys f cs
   good_numbers f cs h =

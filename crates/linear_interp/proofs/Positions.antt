@@ -2,6 +2,7 @@
 use Rattle.std.proofs.Common.{◌≡◌, ℕ, zero, suc, ◌+◌, ◌<◌, ◌≤◌, ◌⊎◌, inl, inr, max, refl, sym, ap, ap₂, ◌∙◌, subst, List, length, slice_get, option_map, Option, Some, None, Bool}
 use Rattle.std.proofs.Common.{true, false, not, nat_eq, eqb-true, eq-eqb, if◌then◌else◌, IsTrue, IsNone, ◌↔◌, arith}
 use Rattle.std.proofs.lemmas.Bool.{cases_lt, and_from, and_parts, not-false}
+use Rattle.general_lemmas.proofs.Numbers.{not_true}
 use Rattle.std.specs.List.{range_with_len}
 use Rattle.std.proofs.iter.Yields.{nat_range_steps}
 use Rattle.std.specs.Iterator.Runs.{Run}
@@ -55,10 +56,6 @@ told : (b t : Bool) → (b ≡ true → t ≡ true) → (t ≡ true → b ≡ tr
 told true t f g = sym (f refl)
 told false true f g = g refl
 told false false f g = refl
-
-not_true : (t : Bool) → not t ≡ true → t ≡ true → ⊥
-not_true true e f = cc
-not_true false e f = cc
 
 module _ (hs : List Head) (ar : List ℕ) (es : List LinearEntry) (k : ℕ) where
   shaped_of : (oe : Option LinearEntry) (oh : Option Head) (on : Option ℕ) → slice_get es k ≡ oe → slice_get hs k ≡ oh → slice_get ar k ≡ on → is_shaped_as oe oh on ≡ true → IsEntryAt hs ar es k

@@ -2,6 +2,7 @@
 use Rattle.std.proofs.Common.{◌≡◌, inl, inr, ℕ, suc, ◌&&◌, ◌||◌, ◌⊎◌, Bool, true, false, nat_eq, nat_lt, List, [], ◌∷◌, length, Option, Some, None, Vec, Global, refl, sym, ap, ap₂}
 use Rattle.std.proofs.Common.{◌∙◌, subst, if◌then◌else◌, arith}
 use Rattle.std.proofs.lemmas.Bool.{and_parts, and_from, and_right, cond-true, cond-false, eqb-true, eq-eqb, ne_eqb, ltb-true, lt-ltb, or_cases, or_left, or_right, false_from_ne_true, false≢true}
+use Rattle.std.proofs.lemmas.List.{nil_from_length}
 use Rattle.std.proofs.Math.Bool.{or-false, or_assoc}
 use Rattle.rewriting.specs.Prelude.{Term, var, app, Terms, nil, cons, count, is_same, are_same, occurs, occurs_in}
 use Rattle.term_core.specs.View.{view, views}
@@ -28,10 +29,6 @@ eq_turned x y = go (nat_eq x y) refl
 none_left : (ts : Terms) → are_same ts nil ≡ nat_eq (count ts) 0
 none_left nil = refl
 none_left (cons t ts) = sym (ne_eqb (suc (count ts)) 0 (λ e. omega (arith, e)))
-
-nothing : (ts : List code.Term) → length ts ≡ 0 → ts ≡ []
-nothing [] e = refl
-nothing (t ∷ ts) e = absurd (omega (arith, e))
 
 module _ (before : ℕ → ℕ → Bool) where
   module _ (g : ℕ) where
@@ -92,7 +89,7 @@ module _ (before : ℕ → ℕ → Bool) where
     pub from_constant : (g : ℕ) (others : Vec code.Term Global) → t ≡ code.Fun g others → length others.items ≡ 0 → b ≡ (before f g || do_meet before g (views args))
         → b ≡ exceeds before f (compared before (views args)) (view t)
     from_constant g others is none h =
-        let shown : view t ≡ app g nil = ap view is ∙ view-Fun g others ∙ ap (λ us. app g (views us)) (nothing others.items none) in
+        let shown : view t ≡ app g nil = ap view is ∙ view-Fun g others ∙ ap (λ us. app g (views us)) (nil_from_length others.items none) in
         subst (λ u. b ≡ exceeds before f (compared before (views args)) u) (sym shown) (h ∙ sym (exceeds_constant g f (views args)))
 
   -- what is known of one constant holds for those behind it

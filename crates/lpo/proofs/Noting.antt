@@ -1,6 +1,7 @@
 -- The lists of rules by symbol, number by number.
 use Rattle.std.proofs.Common.{◌≡◌, ◌+◌, ◌<◌, ◌≤◌, ◌⊎◌, inl, inr, false, ℕ, zero, suc, List, [], ◌∷◌, ◌++◌, length, set, get_or, slice_get, Some, Vec, Global, refl, sym, ap, ◌∙◌, subst, arith}
 use Rattle.std.proofs.lemmas.Bool.{cases_lt, cases_eq}
+use Rattle.std.proofs.lemmas.List.{length-set}
 use Rattle.std.proofs.lemmas.Option.{slice_get_within}
 use Rattle.rewriting.specs.Prelude.{IsAmong, app}
 use Rattle.rewriting.specs.Rules as math
@@ -32,16 +33,11 @@ elsewhere (x ∷ lists) zero (suc f) v d = refl
 elsewhere (x ∷ lists) (suc g) zero v d = refl
 elsewhere (x ∷ lists) (suc g) (suc f) v d = elsewhere lists g f v (λ e. d (ap suc e))
 
-length_set : (lists : List (Vec ℕ Global)) (g : ℕ) (v : Vec ℕ Global) → length (set lists g v) ≡ length lists
-length_set [] g v = refl
-length_set (x ∷ lists) zero v = refl
-length_set (x ∷ lists) (suc g) v = ap suc (length_set lists g v)
-
 module _ (number : ℕ) where
   pub noted_last : (lists : List (Vec ℕ Global)) (s : ℕ) (b v : Vec ℕ Global) → s < length lists → v.items ≡ (get_or lists s b).items ++ number ∷ [] → IsNoted number (λ f. f ≡ s) lists (set lists s v)
   noted_last lists s b v lt e =
       record {
-        as_many = length_set lists s v;
+        as_many = length-set lists s v;
         kept = λ f n i. kept f n i (cases_eq f s);
         only = λ f n i. only f n i (cases_eq f s);
         noted = λ f inside same. subst (λ k. IsAmong number (listed (set lists s v) k)) (sym same) (subst (IsAmong number) (sym here) (among_middle number (listed lists s) []));

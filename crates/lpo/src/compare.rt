@@ -19,6 +19,13 @@ fn is_same_symbol(f: u32, args: &[Term], g: u32, others: &[Term]) -> bool
     f == g && args.len() == others.len()
 }
 
+// The root of a term and its arguments.
+#[derive(Clone, Copy)]
+struct Root<'a> {
+    symbol: u32,
+    args: &'a [Term],
+}
+
 /// Whether one term is greater than another.
 #[cycle(compare)]
 pub fn is_above(places: &[u32], s: &Term, t: &Term) -> bool
@@ -28,29 +35,29 @@ pub fn is_above(places: &[u32], s: &Term, t: &Term) -> bool
         Term::Var(_) => false,
         Term::Fun(f, args) => {
             let mut known = None;
-            is_above_from(places, *f, args, t, &mut known)
+            is_above_from(places, &Root { symbol: *f, args }, t, &mut known)
         }
     }
 }
 
-// The same for a term with this symbol and these arguments, which reach the constant that is known.
+// The same for a term with this root, whose arguments reach the constant that is known.
 #[cycle(compare)]
-fn is_above_from(places: &[u32], f: u32, args: &[Term], t: &Term, known: &mut Option<u32>) -> bool
-    requires { IsKnown (before_by places.now) (views args.now) known.old }
-    ensures above { result ≡ exceeds (before_by places.now) f (compared (before_by places.now) (views args.now)) (view t.now) }
-    ensures known { IsKnown (before_by places.now) (views args.now) known.new }
+fn is_above_from(places: &[u32], root: &Root<'_>, t: &Term, known: &mut Option<u32>) -> bool
+    requires { IsKnown (before_by places.now) (views root.now.args.now) known.old }
+    ensures above { result ≡ exceeds (before_by places.now) root.now.symbol (compared (before_by places.now) (views root.now.args.now)) (view t.now) }
+    ensures known { IsKnown (before_by places.now) (views root.now.args.now) known.new }
 {
     match t {
-        Term::Var(x) => is_in_any(*x, args),
+        Term::Var(x) => is_in_any(*x, root.args),
         Term::Fun(g, others) => {
             if others.len() == 0 {
-                is_above_constant(places, f, args, *g, known)
-            } else if is_before(places, f, *g) {
-                is_above_each(places, f, args, others, known)
-            } else if is_same_symbol(f, args, *g, others) {
-                is_above_behind(places, f, args, args, t, others, known)
+                is_above_constant(places, root.symbol, root.args, *g, known)
+            } else if is_before(places, root.symbol, *g) {
+                is_above_each(places, root, others, known)
+            } else if is_same_symbol(root.symbol, root.args, *g, others) {
+                is_above_behind(places, root, root.args, t, others, known)
             } else {
-                is_reached(places, args, t)
+                is_reached(places, root.args, t)
             }
         }
     }
@@ -58,24 +65,18 @@ fn is_above_from(places: &[u32], f: u32, args: &[Term], t: &Term, known: &mut Op
 
 // Whether the term is greater than each of some.
 #[cycle(compare)]
-fn is_above_each(
-    places: &[u32],
-    f: u32,
-    args: &[Term],
-    ts: &[Term],
-    known: &mut Option<u32>,
-) -> bool
-    requires { IsKnown (before_by places.now) (views args.now) known.old }
-    ensures above { result ≡ exceeds_each (before_by places.now) f (compared (before_by places.now) (views args.now)) (views ts.now) }
-    ensures known { IsKnown (before_by places.now) (views args.now) known.new }
+fn is_above_each(places: &[u32], root: &Root<'_>, ts: &[Term], known: &mut Option<u32>) -> bool
+    requires { IsKnown (before_by places.now) (views root.now.args.now) known.old }
+    ensures above { result ≡ exceeds_each (before_by places.now) root.now.symbol (compared (before_by places.now) (views root.now.args.now)) (views ts.now) }
+    ensures known { IsKnown (before_by places.now) (views root.now.args.now) known.new }
 {
     match ts {
         [] => true,
         [first, rest @ ..] => {
-            if !is_above_from(places, f, args, first, known) {
+            if !is_above_from(places, root, first, known) {
                 return false;
             }
-            is_above_each(places, f, args, rest, known)
+            is_above_each(places, root, rest, known)
         }
     }
 }
@@ -84,18 +85,17 @@ fn is_above_each(
 #[cycle(compare)]
 fn is_above_behind(
     places: &[u32],
-    f: u32,
-    args: &[Term],
+    root: &Root<'_>,
     rest: &[Term],
     t: &Term,
     ts: &[Term],
     known: &mut Option<u32>,
 ) -> bool
-    requires behind { size_all (views args.now) + size_all (views ts.now) + 1 ≡ size_all (views rest.now) + size (view t.now) }
-    requires within { size_all (views rest.now) ≤ size_all (views args.now) }
-    requires known { IsKnown (before_by places.now) (views args.now) known.old }
-    ensures above { result ≡ exceeds_from (before_by places.now) f (compared (before_by places.now) (views args.now)) (compared (before_by places.now) (views rest.now)) (view t.now) (views ts.now) }
-    ensures known { IsKnown (before_by places.now) (views args.now) known.new }
+    requires behind { size_all (views root.now.args.now) + size_all (views ts.now) + 1 ≡ size_all (views rest.now) + size (view t.now) }
+    requires within { size_all (views rest.now) ≤ size_all (views root.now.args.now) }
+    requires known { IsKnown (before_by places.now) (views root.now.args.now) known.old }
+    ensures above { result ≡ exceeds_from (before_by places.now) root.now.symbol (compared (before_by places.now) (views root.now.args.now)) (compared (before_by places.now) (views rest.now)) (view t.now) (views ts.now) }
+    ensures known { IsKnown (before_by places.now) (views root.now.args.now) known.new }
 {
     match rest {
         [] => false,
@@ -103,9 +103,9 @@ fn is_above_behind(
             [] => false,
             [right, others @ ..] => {
                 if equal(left, right) {
-                    is_above_behind(places, f, args, behind, t, others, known)
+                    is_above_behind(places, root, behind, t, others, known)
                 } else if is_above(places, left, right) {
-                    is_above_each(places, f, args, others, known)
+                    is_above_each(places, root, others, known)
                 } else {
                     is_reached(places, behind, t)
                 }

@@ -1,6 +1,6 @@
 -- Bound variables as the program has them.
-use Rattle.std.proofs.Common.{ℕ, zero, suc, ◌≡◌, false, ◌+◌, ◌-◌, ◌<◌, ◌≤◌, List, [], ◌∷◌, ◌++◌, map, length, take, drop, get_or, refl, sym, ap, ap₂, ◌∙◌, subst, subst₂, arith, add-one}
-use Rattle.std.proofs.lemmas.List.{drop_more}
+use Rattle.std.proofs.Common.{ℕ, zero, suc, ◌≡◌, false, ◌+◌, ◌-◌, ◌<◌, ◌≤◌, List, [], ◌∷◌, ◌++◌, map, length, take, drop, get_or, sym, ap, ap₂, ◌∙◌, subst, subst₂, arith, add-one}
+use Rattle.std.proofs.lemmas.List.{drop_all, drop_more, length-map, map-append}
 use Rattle.std.specs.FinMap.{insert, empty}
 use Rattle.rewriting.specs.Terms as math
 use Rattle.rewriting.specs.Prelude.{var, Fits, Substitution, apply, occurs}
@@ -14,11 +14,7 @@ use Rattle.unification.proofs.Turns.{added, all_closed, closed, stands_for, in_t
 use Rattle.unification.proofs.Turns.{in_turn-append, may_bind-append}
 
 pub length_bindings : (es : List Bound) → length (bindings es) ≡ length es
-length_bindings es = let h = length_in_turn [] (map shared es) in let k = length_shared es in omega (arith, h, k)
-  where
-    length_shared : (es : List Bound) → length (map shared es) ≡ length es
-    length_shared [] = refl
-    length_shared (e ∷ es) = ap suc (length_shared es)
+length_bindings es = let h = length_in_turn [] (map shared es) in let k = length-map es shared in omega (arith, h, k)
 
 -- a bound variable stands for the instance of its term
 stands_from : (b : List Binding) (es : List Bound) (i : ℕ) (e : Bound) → IsSettled b → MayBindInTurn b (map shared es) → i < length es → e ≡ get_or es i e
@@ -61,15 +57,11 @@ term_at es i e d may lt is = ap (λ z. get_or z i d) (all_closed (map shared es)
     at s (d ∷ es) (suc i) e lt is = at s es i e (omega arith) is
 
 -- one more variable
-map_push : (es : List Bound) (e : Bound) → map shared (es ++ e ∷ []) ≡ map shared es ++ shared e ∷ []
-map_push [] e = refl
-map_push (d ∷ es) e = ap (λ z. shared d ∷ z) (map_push es e)
-
 pub bindings-push : (es : List Bound) (e : Bound) → bindings (es ++ e ∷ []) ≡ added (bindings es) (shared e)
-bindings-push es e = ap (bound_in_turn []) (map_push es e) ∙ in_turn-append [] (map shared es) (shared e)
+bindings-push es e = ap (bound_in_turn []) (map-append shared es (e ∷ [])) ∙ in_turn-append [] (map shared es) (shared e)
 
 pub in_turn-push : (es : List Bound) (e : Bound) → AreInTurn es → MayBind (bindings es) (shared e) → AreInTurn (es ++ e ∷ [])
-in_turn-push es e may m = subst (MayBindInTurn []) (sym (map_push es e)) (may_bind-append [] (map shared es) (shared e) may m)
+in_turn-push es e may m = subst (MayBindInTurn []) (sym (map-append shared es (e ∷ []))) (may_bind-append [] (map shared es) (shared e) may m)
 
 -- the first of some bound terms fit
 fit_more : (b : List Binding) (i : ℕ) (e : Binding) → i < length b → DoAllFit (take i b) → Fits (get_or b i e).term → DoAllFit (take (suc i) b)
@@ -94,13 +86,7 @@ one_fits es i n e may lt is below h = subst (λ z. Fits z.term) (term_at es i e 
 
 -- the substitution of the bindings from a place on
 pub no_map : (es : List Bound) → as_map (drop (length es - 0) (bindings es)) ≡ empty
-no_map es = ap as_map (drop_all (bindings es) (length es - 0) (let h = length_bindings es in omega (arith, h)))
-  where
-    drop_all : (b : List Binding) (n : ℕ) → length b ≤ n → drop n b ≡ []
-    drop_all [] zero h = refl
-    drop_all [] (suc n) h = refl
-    drop_all (e ∷ b) zero h = absurd (omega arith)
-    drop_all (e ∷ b) (suc n) h = drop_all b n (omega arith)
+no_map es = ap as_map (drop_all (length es - 0) (bindings es) (let h = length_bindings es in omega (arith, h)))
 
 pub next_map : (es : List Bound) (i k : ℕ) (e : Bound) (t : math.Term) → AreInTurn es → i < length es → k + 1 ≡ length es - i → e ≡ get_or es k e → t ≡ apply (value (bindings es)) (view e.term.now)
     → insert (as_map (drop (length es - i) (bindings es))) e.variable t ≡ as_map (drop (length es - (i + 1)) (bindings es))

@@ -1,6 +1,6 @@
 -- What bound variables stand for keeps fitting where a new binding leaves the sizes.
 use Rattle.std.proofs.Common.{ℕ, suc, ◌≡◌, ◌+◌, ◌⊎◌, inl, inr, Bool, true, false, nat_eq, if◌then◌else◌, refl, sym, ap, ap₂, ◌∙◌, subst, subst₂, List, [], ◌∷◌, map, length, take}
-use Rattle.std.proofs.Common.{arith, eqb-true, eq-eqb}
+use Rattle.std.proofs.Common.{max, arith, eqb-true, eq-eqb}
 use Rattle.std.proofs.lemmas.Bool.{false≢true, or_right, or_left}
 use Rattle.rewriting.specs.Prelude.{Term, Terms, var, app, nil, cons, size, size_all, depth, depth_all, Fits, Substitution, apply, apply_all, occurs, occurs_in}
 use Rattle.rewriting.proofs.Instances.{or_cases}
@@ -71,29 +71,20 @@ new_stay x v es may new =
     let whole = all_closed es may in
     ap (map (under x v)) whole ∙ (stay x v (value (bound_in_turn [] es)) es (in_turn_back x [] es new (variable_back x)) new ∙ sym whole)
 
--- a substitution of leaves leaves sizes and depths
-mutual
-  size_kept : (s : Substitution) → ((y : ℕ) → size (s y) ≡ 1) → (t : Term) → size (apply s t) ≡ size t
-  size_kept s leaf (var y) = leaf y
-  size_kept s leaf (app f ts) = ap suc (sizes_kept s leaf ts)
-
-  sizes_kept : (s : Substitution) → ((y : ℕ) → size (s y) ≡ 1) → (ts : Terms) → size_all (apply_all s ts) ≡ size_all ts
-  sizes_kept s leaf nil = refl
-  sizes_kept s leaf (cons t ts) = ap₂ ◌+◌ (size_kept s leaf t) (sizes_kept s leaf ts)
-
-mutual
-  depth_kept : (s : Substitution) → ((y : ℕ) → depth (s y) ≡ 1) → (t : Term) → depth (apply s t) ≡ depth t
-  depth_kept s leaf (var y) = leaf y
-  depth_kept s leaf (app f ts) = let h = depths_kept s leaf ts in omega (arith, h)
-
-  depths_kept : (s : Substitution) → ((y : ℕ) → depth (s y) ≡ 1) → (ts : Terms) → depth_all (apply_all s ts) ≡ depth_all ts
-  depths_kept s leaf nil = refl
-  depths_kept s leaf (cons t ts) = let h = depth_kept s leaf t in let k = depths_kept s leaf ts in omega (arith, h, k)
-
 -- a leaf is a variable or a constant
 pub record IsLeaf (t : Term) : Type 0 where
   pub nodes : size t ≡ 1
   pub levels : depth t ≡ 1
+
+-- a substitution of leaves leaves sizes and depths
+mutual
+  size_kept : (s : Substitution) → ((y : ℕ) → IsLeaf (s y)) → (t : Term) → (size (apply s t) ≡ size t) × (depth (apply s t) ≡ depth t)
+  size_kept s leaf (var y) = ((leaf y).nodes, (leaf y).levels)
+  size_kept s leaf (app f ts) = let r = sizes_kept s leaf ts in (ap suc r.0, ap suc r.1)
+
+  sizes_kept : (s : Substitution) → ((y : ℕ) → IsLeaf (s y)) → (ts : Terms) → (size_all (apply_all s ts) ≡ size_all ts) × (depth_all (apply_all s ts) ≡ depth_all ts)
+  sizes_kept s leaf nil = (refl, refl)
+  sizes_kept s leaf (cons t ts) = let p = size_kept s leaf t in let q = sizes_kept s leaf ts in (ap₂ ◌+◌ p.0 q.0, ap₂ max p.1 q.1)
 
 leaf_under : (b : List Binding) (t : Term) → IsHead b t → size t ≡ 1 → IsLeaf (apply (value b) t)
 leaf_under b (var y) head one = subst IsLeaf (sym (head y refl)) (record { nodes = refl; levels = refl })
@@ -110,9 +101,8 @@ only_leaf x v leaf y = go (nat_eq y x)
 leaf_fits : (x : ℕ) (v : Term) → IsLeaf v → (b : List Binding) → DoAllFit b → DoAllFit (map (under x v) b)
 leaf_fits x v leaf [] h = tt
 leaf_fits x v leaf (e ∷ b) (h, k) =
-    let nodes = size_kept (only x v) (λ y. (only_leaf x v leaf y).nodes) e.term in
-    let levels = depth_kept (only x v) (λ y. (only_leaf x v leaf y).levels) e.term in
-    (record { nodes = omega (arith, nodes, h.nodes); levels = omega (arith, levels, h.levels) }, leaf_fits x v leaf b k)
+    let same = size_kept (only x v) (only_leaf x v leaf) e.term in
+    (record { nodes = omega (arith, same.0, h.nodes); levels = omega (arith, same.1, h.levels) }, leaf_fits x v leaf b k)
 
 earlier_ones : (b : List Binding) (x : ℕ) (v : Term) → DoAllFit (map (under x v) b) → DoAllFit (take (length b) (extended b x v))
 earlier_ones b x v h = go b h

@@ -1,6 +1,5 @@
 -- The cases of an equation whose sides are no bound variables.
 use Rattle.std.proofs.Common.{ℕ, ◌≡◌, ◌≢◌, inl, inr, ◌+◌, ◌<◌, List, length, Vec, Global, sym, ap, ◌∙◌, subst, subst₂, arith, Result, Ok, suc}
-use Rattle.rewriting.specs.Terms as math
 use Rattle.rewriting.specs.Prelude.{var, app, Fits, size, size_all, Each, apply, apply_all}
 use Rattle.unifier_run.specs.Run.{Binding, value, DoFit}
 use Rattle.unifier_run.proofs.Equal.{arguments_fit}
@@ -75,19 +74,14 @@ module _ (b c : List Binding) (s t : Term) (good : IsGood b) (fit : DoFit (apply
         (bound_left b c x (view t) r good free (subst (λ z. Fits (apply (value b) z)) var_view fit.0, fit.1) n h)
 
     pub binds_variable : (y : ℕ) → t ≡ Var y → IsHead b (view t) → x ≢ y → (r : Result Progress NoMemory) → BindAnswers b c x (apply (value b) (view t)) r → One b c (view s) (view t) r
-    binds_variable y right other n r h = left_binds (λ e. n (sym (same_variable y x (sym (ap (apply (value b)) shown ∙ other y shown) ∙ e)))) r h
+    binds_variable y right other n r h = left_binds (λ e. let k : var y ≡ var x = sym (ap (apply (value b)) shown ∙ other y shown) ∙ e in n (cc)) r h
       where
         shown : view t ≡ var y
         shown = ap view right ∙ view-Var y
 
-        same_variable : (y x : ℕ) → var y ≡ var x → y ≡ x
-        same_variable y x e = cc
-
     pub binds_application : (g : ℕ) (w : Vec Term Global) → t ≡ Fun g w → (r : Result Progress NoMemory) → BindAnswers b c x (apply (value b) (view t)) r → One b c (view s) (view t) r
-    binds_application g w right r h = left_binds (λ e. apart g _ (sym (ap (apply (value b)) (ap view right ∙ view-Fun g w)) ∙ e)) r h
-      where
-        apart : (g : ℕ) (ts : math.Terms) → app g ts ≡ var x → ⊥
-        apart g ts e = cc
+    binds_application g w right r h =
+        left_binds (λ e. let k : app g (apply_all (value b) (views w.items)) ≡ var x = sym (ap (apply (value b)) (ap view right ∙ view-Fun g w)) ∙ e in cc) r h
 
   pub binds_right : (f : ℕ) (v : Vec Term Global) (y : ℕ) → s ≡ Fun f v → t ≡ Var y → IsHead b (view t) → (r : Result Progress NoMemory)
       → BindAnswers b c y (apply (value b) (view s)) r → One b c (view s) (view t) r

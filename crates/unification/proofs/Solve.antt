@@ -82,10 +82,8 @@ bound_left b c x u r g free fit n h = bound b c (var x) u x (apply (value b) u) 
 pub bound_right : (b c : List Binding) (f : ℕ) (ts : Terms) (x : ℕ) (r : Result Progress NoMemory) → IsGood b → value b x ≡ var x → DoFit (apply (value b) (app f ts)) (value b x)
     → BindAnswers b c x (apply (value b) (app f ts)) r → One b c (app f ts) (var x) r
 bound_right b c f ts x r g free fit h =
-    bound b c (app f ts) (var x) x (apply (value b) (app f ts)) r g fit (λ e. variable_or_application f _ x (e ∙ free)) (binds_right f (apply_all (value b) ts) (value b x) x free) h
-  where
-    variable_or_application : (f : ℕ) (ts : Terms) (x : ℕ) → app f ts ≡ var x → ⊥
-    variable_or_application f ts x e = cc
+    bound b c (app f ts) (var x) x (apply (value b) (app f ts)) r g fit (λ e. let k : app f (apply_all (value b) ts) ≡ var x = e ∙ free in cc)
+    (binds_right f (apply_all (value b) ts) (value b x) x free) h
 
 -- the equations rs = qs remain of ts = us
 pub record Remain (b c : List Binding) (ts us rs qs : Terms) : Type 0 where

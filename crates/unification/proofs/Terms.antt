@@ -1,6 +1,7 @@
 -- Lists of terms as the program has them.
-use Rattle.std.proofs.Common.{ℕ, zero, suc, ◌≡◌, ◌+◌, ◌<◌, ◌≤◌, true, List, [], ◌∷◌, length, drop, get_or, ◌⊎◌, inl, inr, ◌^◌, Vec, Global, refl, sym, ap, ◌∙◌, subst, subst₂, arith}
+use Rattle.std.proofs.Common.{ℕ, zero, suc, ◌≡◌, ◌+◌, ◌<◌, ◌≤◌, true, List, [], ◌∷◌, length, drop, get_or, ◌⊎◌, inl, inr, ◌^◌, Vec, Global, sym, ap, ◌∙◌, subst, subst₂, arith}
 use Rattle.std.proofs.lemmas.Bool.{or_right, or_left}
+use Rattle.std.proofs.lemmas.List.{drop_all}
 use Rattle.rewriting.specs.Prelude.{nil, cons, Fits, size, size_all, Each, apply, apply_all, occurs, occurs_in}
 use Rattle.unifier_run.specs.Run.{Binding, value}
 use Rattle.term_core.specs.View.{view, views}
@@ -12,10 +13,7 @@ use Rattle.unification.proofs.Under.{size_at}
 use Rattle.unification.proofs.Solve.{Remain}
 
 pub views-drop_all : (ts : List Term) (i : ℕ) → length ts ≤ i → views (drop i ts) ≡ nil
-views-drop_all [] zero h = refl
-views-drop_all [] (suc i) h = refl
-views-drop_all (t ∷ ts) zero h = absurd (omega arith)
-views-drop_all (t ∷ ts) (suc i) h = views-drop_all ts i (omega arith)
+views-drop_all ts i h = ap views (drop_all i ts h)
 
 -- a variable that occurs in one of some terms occurs in them
 pub occurs_at : (k : ℕ) (ts : List Term) (i : ℕ) (t : Term) → i < length ts → t ≡ get_or ts i t → occurs k (view t) ≡ true → occurs_in k (views ts) ≡ true

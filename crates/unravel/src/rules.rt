@@ -89,12 +89,17 @@ pub fn grown(alloc: Global, known: &[u32], t: &Term) -> Result<Vec<u32>, NoMemor
     Ok(grown)
 }
 
-// Adds the rules for the conditions that are left; the head stands for those so far, and the known variables are those
-// before the next condition.
+// The auxiliary symbol for a condition, and the known variables, which are those before it.
+#[derive(Clone, Copy)]
+struct Keeper<'a> {
+    symbol: u32,
+    known: &'a [u32],
+}
+
+// Adds the rules for the conditions that are left; the head stands for those so far, and the keeper is that of the next one.
 fn push_from(
     alloc: Global,
-    symbol: u32,
-    known: &[u32],
+    next: &Keeper<'_>,
     head: &Side,
     conds: &[Cond],
     right: &Term,
@@ -103,19 +108,21 @@ fn push_from(
     requires head { DoesPartFit head.now }
     requires conds { Each math.Fits (sides (map condition_view conds.now)) }
     requires right { math.Fits (view right.now) }
-    requires symbols { symbol + length conds.now < 2 ^ 32 }
-    ensures rules { AppendAnswers (unraveled_from symbol known.now (side_view head.now) (map condition_view conds.now) (view right.now)) out.old.items out.new.items result }
+    requires symbols { next.now.symbol + length conds.now < 2 ^ 32 }
+    ensures rules { AppendAnswers (unraveled_from next.now.symbol next.now.known.now (side_view head.now) (map condition_view conds.now) (view right.now)) out.old.items out.new.items result }
     ensures counted { OnOk result (AreCounted out.old.items → AreCounted out.new.items) }
 {
     match conds {
         [] => push(alloc, head, &Side::Plain(right), out),
         [cond, rest @ ..] => {
-            let next = Side::Kept {
+            let symbol = next.symbol;
+            let known = next.known;
+            let asked = Side::Kept {
                 symbol,
                 term: &cond.left,
                 known,
             };
-            if let Err(error) = push(alloc, head, &next, out) {
+            if let Err(error) = push(alloc, head, &asked, out) {
                 return Err(error);
             }
             let grown = grown(alloc, known, &cond.right)?;
@@ -124,7 +131,11 @@ fn push_from(
                 term: &cond.right,
                 known,
             };
-            push_from(alloc, symbol + 1, &grown, &head, rest, right, out)
+            let later = Keeper {
+                symbol: symbol + 1,
+                known: &grown,
+            };
+            push_from(alloc, &later, &head, rest, right, out)
         }
     }
 }
@@ -138,7 +149,11 @@ fn push_rules(alloc: Global, symbol: u32, rule: &Rule, out: &mut Vec<Rule>) -> R
 {
     let known = vars(alloc, &rule.left)?;
     let head = Side::Plain(&rule.left);
-    push_from(alloc, symbol, &known, &head, &rule.conds, &rule.right, out)
+    let first = Keeper {
+        symbol,
+        known: &known,
+    };
+    push_from(alloc, &first, &head, &rule.conds, &rule.right, out)
 }
 
 /// The rules that come from one rule, whose first auxiliary symbol has this number.

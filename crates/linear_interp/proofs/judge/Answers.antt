@@ -1,8 +1,6 @@
-use Rattle.std.proofs.Common.{◌≡◌, map, length, None, Some, subst, ap, ◌∙◌, arith}
+use Rattle.std.proofs.Common.{map, length, None, Some, subst, arith}
 use Rattle.interpretations.proofs.Bound.{few_heads}
-use Rattle.rewriting.specs.Unraveling.{heads, unraveled}
 use Rattle.rewriting.proofs.Laws.{well_formed}
-use Rattle.term_core.specs.HeadView.{head_view}
 use Rattle.cert_model.specs.CertificateView.{linear_entry_view}
 use Rattle.linear_interp.specs.Entries.{BadAnswers}
 use Rattle.linear_interp.proofs.Final.{misshapen, shape, bad, all_good_numbers, few_entries, rules_ready, judged}
@@ -10,19 +8,20 @@ use Rattle.linear_interp.proofs.judge.Goals as goal
 
 pub returns-in-Some : goal.returns-in-Some
 returns-in-Some c =
-    let sys = c.args.sys.now in
-    let es = map linear_entry_view c.args.entries.now in
-    let heads_are : map head_view c.deref.result.now ≡ heads sys = ap (map head_view) c.deref.ensures.value ∙ c.requires.heads in
-    let arities_are : c.arities-arities.result.now ≡ (unraveled sys).arities = c.arities-arities.ensures ∙ ap (λ z. z.arities) c.requires.system in
-    (c.requires.fits, (c.in-Some.k, omega arith, misshapen sys es (map head_view c.deref.result.now) c.arities-arities.result.now c.in-Some.k heads_are arities_are c.in-Some.ensures))
+    let es = map linear_entry_view c.args.entries.now in (
+      c.requires.fits,
+      (
+        c.in-Some.k,
+        omega arith,
+        misshapen c.args.sys.now es _ _ _ _ c.deref.ensures.value c.requires.heads c.arities-arities.ensures c.requires.system c.in-Some.k c.in-Some.ensures,
+      ),
+    )
 
 pub overflow_cast-result-in-Some-first_bad : goal.overflow_cast-result-in-Some-first_bad
 overflow_cast-result-in-Some-first_bad c =
     let sys = c.args.sys.now in
     let es = map linear_entry_view c.args.entries.now in
-    let heads_are : map head_view c.deref.result.now ≡ heads sys = ap (map head_view) c.deref.ensures.value ∙ c.requires.heads in
-    let arities_are : c.arities-arities.result.now ≡ (unraveled sys).arities = c.arities-arities.ensures ∙ ap (λ z. z.arities) c.requires.system in
-    let s = shape sys es (map head_view c.deref.result.now) c.arities-arities.result.now heads_are arities_are c.in_default.ensures in
+    let s = shape sys es _ _ _ _ c.deref.ensures.value c.requires.heads c.arities-arities.ensures c.requires.system c.in_default.ensures in
     let few = few_entries sys es s (few_heads sys c.args.unraveled.now.system c.requires.system c.rules-rules.ensures.sound) c.in-Some-first_bad.k
     (subst (λ xs. BadAnswers (length xs) es (Some c.in-Some-first_bad.k)) c.arities.ensures c.in-Some-first_bad.ensures) in
     omega (arith, few)
@@ -31,9 +30,7 @@ pub overflow_add-result-in-Some-first_bad : goal.overflow_add-result-in-Some-fir
 overflow_add-result-in-Some-first_bad c =
     let sys = c.args.sys.now in
     let es = map linear_entry_view c.args.entries.now in
-    let heads_are : map head_view c.deref.result.now ≡ heads sys = ap (map head_view) c.deref.ensures.value ∙ c.requires.heads in
-    let arities_are : c.arities-arities.result.now ≡ (unraveled sys).arities = c.arities-arities.ensures ∙ ap (λ z. z.arities) c.requires.system in
-    let s = shape sys es (map head_view c.deref.result.now) c.arities-arities.result.now heads_are arities_are c.in_default.ensures in
+    let s = shape sys es _ _ _ _ c.deref.ensures.value c.requires.heads c.arities-arities.ensures c.requires.system c.in_default.ensures in
     let few = few_entries sys es s (few_heads sys c.args.unraveled.now.system c.requires.system c.rules-rules.ensures.sound) c.in-Some-first_bad.k
     (subst (λ xs. BadAnswers (length xs) es (Some c.in-Some-first_bad.k)) c.arities.ensures c.in-Some-first_bad.ensures) in
     omega (arith, few)
@@ -41,12 +38,9 @@ overflow_add-result-in-Some-first_bad c =
 pub returns-in-Some-first_bad : goal.returns-in-Some-first_bad
 returns-in-Some-first_bad c =
     let sys = c.args.sys.now in
-    let es = map linear_entry_view c.args.entries.now in
-    let heads_are : map head_view c.deref.result.now ≡ heads sys = ap (map head_view) c.deref.ensures.value ∙ c.requires.heads in
-    let arities_are : c.arities-arities.result.now ≡ (unraveled sys).arities = c.arities-arities.ensures ∙ ap (λ z. z.arities) c.requires.system in
-    let s = shape sys es (map head_view c.deref.result.now) c.arities-arities.result.now heads_are arities_are c.in_default.ensures in (
+    let es = map linear_entry_view c.args.entries.now in (
       c.requires.fits,
-      s,
+      shape sys es _ _ _ _ c.deref.ensures.value c.requires.heads c.arities-arities.ensures c.requires.system c.in_default.ensures,
       (
         c.in-Some-first_bad.k,
         omega arith,
@@ -59,9 +53,7 @@ pub judge_rules-requires-clause-ready : goal.judge_rules-requires-clause-ready
 judge_rules-requires-clause-ready c =
     let sys = c.args.sys.now in
     let es = map linear_entry_view c.args.entries.now in
-    let heads_are : map head_view c.deref.result.now ≡ heads sys = ap (map head_view) c.deref.ensures.value ∙ c.requires.heads in
-    let arities_are : c.arities-arities.result.now ≡ (unraveled sys).arities = c.arities-arities.ensures ∙ ap (λ z. z.arities) c.requires.system in
-    let s = shape sys es (map head_view c.deref.result.now) c.arities-arities.result.now heads_are arities_are c.in_default.ensures in
+    let s = shape sys es _ _ _ _ c.deref.ensures.value c.requires.heads c.arities-arities.ensures c.requires.system c.in_default.ensures in
     let numbers = all_good_numbers sys es (subst (λ xs. BadAnswers (length xs) es None) c.arities.ensures c.in_default-first_bad.ensures) in
     rules_ready sys c.args.unraveled.now.system es c.rules-rules.result.now c.requires.system (well_formed sys c.rules-own_rules.ensures.sound) s numbers
     c.rules-rules.ensures.rules c.rules-rules.ensures.counted c.rules-rules.ensures.sound
@@ -70,8 +62,6 @@ pub returns : goal.returns
 returns c =
     let sys = c.args.sys.now in
     let es = map linear_entry_view c.args.entries.now in
-    let heads_are : map head_view c.deref.result.now ≡ heads sys = ap (map head_view) c.deref.ensures.value ∙ c.requires.heads in
-    let arities_are : c.arities-arities.result.now ≡ (unraveled sys).arities = c.arities-arities.ensures ∙ ap (λ z. z.arities) c.requires.system in
-    let s = shape sys es (map head_view c.deref.result.now) c.arities-arities.result.now heads_are arities_are c.in_default.ensures in
+    let s = shape sys es _ _ _ _ c.deref.ensures.value c.requires.heads c.arities-arities.ensures c.requires.system c.in_default.ensures in
     let numbers = all_good_numbers sys es (subst (λ xs. BadAnswers (length xs) es None) c.arities.ensures c.in_default-first_bad.ensures) in
     judged sys es c.args.unraveled.now.system _ c.requires.system c.rules-rules.ensures.rules c.requires.fits s numbers c.judge_rules.result c.judge_rules.ensures

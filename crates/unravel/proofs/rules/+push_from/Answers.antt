@@ -19,19 +19,19 @@ push_from-requires t c =
     )
 
 pub returns-in-empty-clause-rules : goal.returns-in-empty-clause-rules
-returns-in-empty-clause-rules t c = pushed_none c.args.symbol c.args.known.now (side_view c.args.head.now) (view c.args.right.now) c.args.conds.now _ _ c.push.result
+returns-in-empty-clause-rules t c = pushed_none c.args.next.now.symbol c.args.next.now.known.now (side_view c.args.head.now) (view c.args.right.now) c.args.conds.now _ _ c.push.result
     c.in-empty.len_below c.push.ensures.rule
 
 pub returns-in-Err-clause-rules : goal.returns-in-Err-clause-rules
 returns-in-Err-clause-rules t c =
-    pushed_badly c.args.symbol c.args.known.now (side_view c.args.head.now) (view c.args.right.now) c.args.conds.now c.cond-item.result c.args.out.now.items
+    pushed_badly c.args.next.now.symbol c.args.next.now.known.now (side_view c.args.head.now) (view c.args.right.now) c.args.conds.now c.cond-item.result c.args.out.now.items
     c.push-in-len1-up.new.out.items c.push-in-len1-up.new.out.items c.in-Err.error c.in-len1-up.len_at_least
     c.cond-item.is c.in-Err.ensures.rule
 
 pub returns-in_ok-grown-in-len1-up-clause-rules : goal.returns-in_ok-grown-in-len1-up-clause-rules
 returns-in_ok-grown-in-len1-up-clause-rules t c =
     let grown = c.in_ok-grown-in-len1-up.ensures in
-    pushed_one c.args.symbol c.args.known.now c.deref.result.now (side_view c.args.head.now) (view c.args.right.now) c.args.conds.now c.cond-item.result c.args.out.now.items
+    pushed_one c.args.next.now.symbol c.args.next.now.known.now c.deref.result.now (side_view c.args.head.now) (view c.args.right.now) c.args.conds.now c.cond-item.result c.args.out.now.items
     c.push-in-len1-up.new.out.items c.push_from.new.out.items
     c.in_default.field-0 c.push_from.result c.in-len1-up.len_at_least c.cond-item.is (c.deref.ensures.value ∙ grown.variables) c.in_default.ensures.rule c.push_from.ensures.rules
 
