@@ -1,4 +1,5 @@
 pub mod Judges
+pub mod WhichView
 pub mod Walk
 pub mod Runs
 pub mod Underway

@@ -1,53 +1,64 @@
 //! Derivations under the conditions of an overlap: its sides derive one term, or a condition's left side two irreducible ones that do not unify.
 ghost use Rattle.std.specs.Prelude.{map};
 ghost use Rattle.rewriting.specs.Terms as math;
-ghost use Rattle.certificates.specs.Prelude.{DoConditionsFit, IsShort, join_left, join_right, unfeasible_first, unfeasible_second};
+ghost use Rattle.certificates.specs.Prelude.{DoConditionsFit, IsShort};
 ghost use Rattle.term_core.specs.Prelude.{view, condition_view};
 ghost use Rattle.cert_model.specs.DerivationView.{derivation_view};
+ghost use Rattle.cert_model.specs.ReasonView.{bad_step_view, evidence_reason_view};
 ghost use Rattle.critical_pairs.specs.View.{overlap_view};
 ghost use Rattle.refuter.specs.Answers.{RefutesAnswers};
 ghost use Rattle.valid_certificates.specs.PairEvidence.{IsJoinJudged, IsUnfeasibleJudged};
 ghost use Rattle.pair_check.specs.Judges.{EndAnswers, AreIrreducibleApart};
+ghost use Rattle.pair_check.specs.WhichView.{made_of};
 
-use cert_model::{Derivation, EvidenceReason, condition};
+use cert_model::{BadStep, Derivation, EvidenceReason, condition};
 use critical_pairs::Overlap;
 use derivation::{ReplayError, replay};
 use irreducible::do_all_clash;
 use prepared_system::PreparedSystem;
 use refuter::Refusal;
 use std::alloc::Global;
-use term_core::{System, Term, equal};
+use term_core::{Term, equal};
 use unification::{Unified, unify_terms};
 
-// The end of the derivation from the left side.
-fn left_end(alloc: Global, sys: &System, overlap: &Overlap, d: &Derivation) -> Result<Term, Refusal>
-    requires start { math.Fits (view overlap.now.left) }
-    requires fit { DoConditionsFit (map condition_view overlap.now.conds.items) }
-    requires short { IsShort (derivation_view d.now) }
-    ensures { EndAnswers sys.now (map condition_view overlap.now.conds.items) (view overlap.now.left) (derivation_view d.now) join_left result }
+/// Which derivation of an overlap's evidence it is: from its left or its right side, or the first or the second from a condition's left side.
+#[derive(Clone, Copy)]
+pub enum Which {
+    Left,
+    Right,
+    First,
+    Second,
+}
+
+// Why the derivation is bad, which has a bad step.
+fn reason_of(which: Which, bad: BadStep) -> EvidenceReason
+    ensures { evidence_reason_view result ≡ made_of which (bad_step_view bad) }
 {
-    match replay(alloc, sys, &overlap.conds, &overlap.left, d) {
-        Ok(end) => Ok(end),
-        Err(ReplayError::Bad(bad)) => Err(Refusal::Reason(EvidenceReason::JoinLeft(bad))),
-        Err(ReplayError::NoMemory) => Err(Refusal::NoMemory),
+    match which {
+        Which::Left => EvidenceReason::JoinLeft(bad),
+        Which::Right => EvidenceReason::JoinRight(bad),
+        Which::First => EvidenceReason::UnfeasibleFirst(bad),
+        Which::Second => EvidenceReason::UnfeasibleSecond(bad),
     }
 }
 
-// The end of the derivation from the right side.
-fn right_end(
+// The end of the derivation from the term.
+fn end_of(
     alloc: Global,
-    sys: &System,
+    sys: &PreparedSystem<'_>,
     overlap: &Overlap,
+    start: &Term,
     d: &Derivation,
+    which: Which,
 ) -> Result<Term, Refusal>
-    requires start { math.Fits (view overlap.now.right) }
+    requires start { math.Fits (view start.now) }
     requires fit { DoConditionsFit (map condition_view overlap.now.conds.items) }
     requires short { IsShort (derivation_view d.now) }
-    ensures { EndAnswers sys.now (map condition_view overlap.now.conds.items) (view overlap.now.right) (derivation_view d.now) join_right result }
+    ensures { EndAnswers sys.now (map condition_view overlap.now.conds.items) (view start.now) (derivation_view d.now) (made_of which) result }
 {
-    match replay(alloc, sys, &overlap.conds, &overlap.right, d) {
+    match replay(alloc, sys.system(), &overlap.conds, start, d) {
         Ok(end) => Ok(end),
-        Err(ReplayError::Bad(bad)) => Err(Refusal::Reason(EvidenceReason::JoinRight(bad))),
+        Err(ReplayError::Bad(bad)) => Err(Refusal::Reason(reason_of(which, bad))),
         Err(ReplayError::NoMemory) => Err(Refusal::NoMemory),
     }
 }
@@ -55,7 +66,7 @@ fn right_end(
 /// Judges that both sides of an overlap derive one term.
 pub fn judge_join(
     alloc: Global,
-    sys: &System,
+    sys: &PreparedSystem<'_>,
     overlap: &Overlap,
     left: &Derivation,
     right: &Derivation,
@@ -67,52 +78,12 @@ pub fn judge_join(
     requires right_short { IsShort (derivation_view right.now) }
     ensures { RefutesAnswers (IsJoinJudged sys.now (overlap_view overlap.now) (derivation_view left.now) (derivation_view right.now)) result }
 {
-    let first = left_end(alloc, sys, overlap, left)?;
-    let second = right_end(alloc, sys, overlap, right)?;
+    let first = end_of(alloc, sys, overlap, &overlap.left, left, Which::Left)?;
+    let second = end_of(alloc, sys, overlap, &overlap.right, right, Which::Right)?;
     if equal(&first, &second) {
         Ok(())
     } else {
         Err(Refusal::Reason(EvidenceReason::JoinDiffers))
-    }
-}
-
-// The end of the first derivation from a condition's left side.
-fn first_end(
-    alloc: Global,
-    sys: &PreparedSystem<'_>,
-    overlap: &Overlap,
-    start: &Term,
-    d: &Derivation,
-) -> Result<Term, Refusal>
-    requires start { math.Fits (view start.now) }
-    requires fit { DoConditionsFit (map condition_view overlap.now.conds.items) }
-    requires short { IsShort (derivation_view d.now) }
-    ensures { EndAnswers sys.now (map condition_view overlap.now.conds.items) (view start.now) (derivation_view d.now) unfeasible_first result }
-{
-    match replay(alloc, sys.system(), &overlap.conds, start, d) {
-        Ok(end) => Ok(end),
-        Err(ReplayError::Bad(bad)) => Err(Refusal::Reason(EvidenceReason::UnfeasibleFirst(bad))),
-        Err(ReplayError::NoMemory) => Err(Refusal::NoMemory),
-    }
-}
-
-// The end of the second one.
-fn second_end(
-    alloc: Global,
-    sys: &PreparedSystem<'_>,
-    overlap: &Overlap,
-    start: &Term,
-    d: &Derivation,
-) -> Result<Term, Refusal>
-    requires start { math.Fits (view start.now) }
-    requires fit { DoConditionsFit (map condition_view overlap.now.conds.items) }
-    requires short { IsShort (derivation_view d.now) }
-    ensures { EndAnswers sys.now (map condition_view overlap.now.conds.items) (view start.now) (derivation_view d.now) unfeasible_second result }
-{
-    match replay(alloc, sys.system(), &overlap.conds, start, d) {
-        Ok(end) => Ok(end),
-        Err(ReplayError::Bad(bad)) => Err(Refusal::Reason(EvidenceReason::UnfeasibleSecond(bad))),
-        Err(ReplayError::NoMemory) => Err(Refusal::NoMemory),
     }
 }
 
@@ -150,7 +121,7 @@ pub fn judge_unfeasible(
     let Some(cond) = condition(&overlap.conds, number) else {
         return Err(Refusal::Reason(EvidenceReason::UnfeasibleNumber));
     };
-    let one = first_end(alloc, sys, overlap, &cond.left, first)?;
-    let other = second_end(alloc, sys, overlap, &cond.left, second)?;
+    let one = end_of(alloc, sys, overlap, &cond.left, first, Which::First)?;
+    let other = end_of(alloc, sys, overlap, &cond.left, second, Which::Second)?;
     judge_ends(alloc, sys, &one, &other)
 }

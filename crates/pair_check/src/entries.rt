@@ -40,6 +40,13 @@ fn is_for(entry: &PairEntry, overlap: &Overlap) -> bool
         && entry.pos.as_slice() == overlap.pos.as_slice()
 }
 
+/// An entry of a certificate, and how many are before it.
+#[derive(Clone, Copy)]
+pub struct Placed<'a> {
+    pub taken: u32,
+    pub entry: &'a PairEntry,
+}
+
 /// Why the entry behind so many others fails for the next overlap, or nothing where it settles it. Only where it fails is the
 /// overlap taken away.
 pub fn judge_entry(
@@ -47,19 +54,20 @@ pub fn judge_entry(
     sys: &PreparedSystem<'_>,
     kind: CertKind,
     next: &mut Option<Overlap>,
-    taken: u32,
-    entry: &PairEntry,
+    placed: &Placed<'_>,
     judge: &mut JudgeByKind,
 ) -> Result<Option<Rejected>, NoMemory>
     requires next { IsNextOf sys.now next.old }
-    requires few { taken ≤ 20000 }
-    requires short { IsPairShort (pair_entry_view entry.now).evidence }
+    requires few { placed.now.taken ≤ 20000 }
+    requires short { IsPairShort (pair_entry_view placed.now.entry.now).evidence }
     requires knows { IsKnown judge.old sys.now }
     ensures knows { IsKnown judge.new sys.now }
-    ensures answer { EntryAnswers (kind_view kind) sys.now taken next.old (pair_entry_view entry.now) result }
+    ensures answer { EntryAnswers (kind_view kind) sys.now placed.now.taken next.old (pair_entry_view placed.now.entry.now) result }
     ensures unchanged { OnErr result (next.new ≡ next.old) }
     ensures settled { IfOk result (λ reason. reason ≡ None → next.new ≡ next.old) }
 {
+    let taken = placed.taken;
+    let entry = placed.entry;
     let Some(overlap) = next else {
         return Ok(Some(Rejected::PairExtra { entry: taken + 1 }));
     };

@@ -53,7 +53,7 @@ fn judge_kind(
         PairEvidence::Conflict { inner, outer } => {
             judge_conflict(alloc, sys.indexed(), overlap, *inner, *outer)
         }
-        PairEvidence::Join { left, right } => judge_join(alloc, sys.system(), overlap, left, right),
+        PairEvidence::Join { left, right } => judge_join(alloc, sys, overlap, left, right),
         PairEvidence::Unfeasible {
             cond,
             first,

@@ -11,7 +11,7 @@ ghost use Rattle.pair_check.specs.Runs.{StartAnswers, HasTaken, DoesTake, Finish
 ghost use Rattle.pair_check.specs.Steps.{WalkAnswers, RefusedAnswers, HasList, NextAnswers};
 ghost use Rattle.pair_check.specs.Underway.{AreAll};
 
-use crate::entries::{judge_entry, missing};
+use crate::entries::{Placed, judge_entry, missing};
 use cert_model::{PairEntry, Rejected};
 use critical_pairs::{Overlap, OverlapError, OverlapSearch};
 use infeasible::JudgeByKind;
@@ -149,15 +149,11 @@ impl<'a> PairRun<'a> {
         if self.failed.is_some() {
             return Ok(());
         }
-        let judged = judge_entry(
-            alloc,
-            self.sys,
-            self.kind,
-            &mut self.next,
-            self.taken,
+        let placed = Placed {
+            taken: self.taken,
             entry,
-            judge,
-        )?;
+        };
+        let judged = judge_entry(alloc, self.sys, self.kind, &mut self.next, &placed, judge)?;
         match judged {
             Some(reason) => fail(&mut self.failed, reason),
             None => {
