@@ -32,6 +32,13 @@ pub struct Solution {
     pub by: Vec<Derivation>,
 }
 
+// A condition that is to be met, and those behind it.
+#[derive(Clone, Copy)]
+struct Goal<'a> {
+    cond: &'a Cond,
+    later: &'a [Cond],
+}
+
 // Keeps the solution that a path stands for, where none is known yet.
 fn keep_first(alloc: Global, path: &Path, first: &mut Option<Solution>) -> Result<(), NoMemory>
     ensures { OnOk result (IsSought first.old first.new (path_view path.now ∷ [])) }
@@ -70,7 +77,7 @@ impl<'a> Search<'a> {
         if self.depth == 0 {
             return Ok(());
         }
-        self.seek_condition(means, cond, later, path, first)
+        self.seek_condition(means, Goal { cond, later }, path, first)
     }
 
     // The same, where a condition is to be met first.
@@ -78,26 +85,25 @@ impl<'a> Search<'a> {
     fn seek_condition(
         &self,
         means: &mut Means,
-        cond: &Cond,
-        later: &[Cond],
+        goal: Goal<'_>,
         path: &mut Path,
         first: &mut Option<Solution>,
     ) -> Result<(), ReachStop>
         requires ready { IsReady self.now }
         requires store { HasKept self.now means.old }
-        requires left { math.Fits (view cond.now.left) }
-        requires fit { DoConditionsFit (map condition_view later.now) }
+        requires left { math.Fits (view goal.cond.now.left) }
+        requires fit { DoConditionsFit (map condition_view goal.later.now) }
         requires deep { 0 < self.now.depth }
-        ensures found { Seeks self.now (condition_view cond.now ∷ map condition_view later.now) (path_view path.old) first.old first.new means.old.budget means.new.budget result }
+        ensures found { Seeks self.now (condition_view goal.entry.cond.now ∷ map condition_view goal.entry.later.now) (path_view path.old) first.old first.new means.old.budget means.new.budget result }
         ensures restored { OnOk result (IsSamePath path.old path.new) }
         ensures never_less { OnOk result (HasRisen means.old.work 0 means.new.work) }
         ensures keeps { OnOk result (HasKept self.now means.new) }
     {
-        let Some(start) = start_of(means.alloc, cond, path)? else {
+        let Some(start) = start_of(means.alloc, goal.cond, path)? else {
             return Ok(());
         };
         let inner = self.list_for(means, start)?;
-        self.seek_entries(means, cond, later, path, first, &inner.entries)
+        self.seek_entries(means, goal, path, first, &inner.entries)
     }
 
     // The same, where the condition is met by the terms of its list.
@@ -105,22 +111,21 @@ impl<'a> Search<'a> {
     fn seek_entries(
         &self,
         means: &mut Means,
-        cond: &Cond,
-        later: &[Cond],
+        goal: Goal<'_>,
         path: &mut Path,
         first: &mut Option<Solution>,
         entries: &[Entry],
     ) -> Result<(), ReachStop>
         requires ready { IsReady self.now }
         requires store { HasKept self.now means.old }
-        requires fit { DoConditionsFit (map condition_view later.now) }
-        ensures found { SeeksAll self.now (condition_view cond.now) (map condition_view later.now) (path_view path.old) (table_view entries.now) first.old first.new means.old.budget means.new.budget result }
+        requires fit { DoConditionsFit (map condition_view goal.later.now) }
+        ensures found { SeeksAll self.now (condition_view goal.entry.cond.now) (map condition_view goal.entry.later.now) (path_view path.old) (table_view entries.now) first.old first.new means.old.budget means.new.budget result }
         ensures restored { OnOk result (IsSamePath path.old path.new) }
         ensures never_less { OnOk result (HasRisen means.old.work 0 means.new.work) }
         ensures keeps { OnOk result (HasKept self.now means.new) }
     {
         'entries: for w in entries {
-            self.seek_entry(means, cond, later, path, first, w)?;
+            self.seek_entry(means, goal, path, first, w)?;
         }
         Ok(())
     }
@@ -130,25 +135,24 @@ impl<'a> Search<'a> {
     fn seek_entry(
         &self,
         means: &mut Means,
-        cond: &Cond,
-        later: &[Cond],
+        goal: Goal<'_>,
         path: &mut Path,
         first: &mut Option<Solution>,
         w: &Entry,
     ) -> Result<(), ReachStop>
         requires ready { IsReady self.now }
         requires store { HasKept self.now means.old }
-        requires fit { DoConditionsFit (map condition_view later.now) }
-        ensures found { SeeksOne self.now (condition_view cond.now) (map condition_view later.now) (path_view path.old) (entry_view w.now) first.old first.new means.old.budget means.new.budget result }
+        requires fit { DoConditionsFit (map condition_view goal.later.now) }
+        ensures found { SeeksOne self.now (condition_view goal.entry.cond.now) (map condition_view goal.entry.later.now) (path_view path.old) (entry_view w.now) first.old first.new means.old.budget means.new.budget result }
         ensures restored { OnOk result (IsSamePath path.old path.new) }
         ensures never_less { OnOk result (HasRisen means.old.work 0 means.new.work) }
         ensures keeps { OnOk result (HasKept self.now means.new) }
     {
         let (bound, met) = (path.trail.len(), path.by.len());
-        if !path.enter(means.alloc, cond, w)? {
+        if !path.enter(means.alloc, goal.cond, w)? {
             return Ok(());
         }
-        self.seek(means, later, path, first)?;
+        self.seek(means, goal.later, path, first)?;
         path.leave(bound, met);
         Ok(())
     }
