@@ -10,7 +10,7 @@ ghost use Rattle.reach.specs.Costs.{Costs};
 ghost use Rattle.reach.specs.EntryView.{entry_view, table_view};
 ghost use Rattle.reach.specs.PathView.{path_view, IsSamePath};
 ghost use Rattle.reach.specs.Ready.{IsReady, HasKept, inner, price};
-ghost use Rattle.reach.specs.Seeks.{Seeks, SeeksAll, SeeksOne};
+ghost use Rattle.reach.specs.Seeks.{Seeks, behind_goal, SeeksGoal, SeeksTerms, SeeksTerm};
 ghost use Rattle.reach.specs.SolutionView.{solution_view, first_of, IsSought};
 
 use crate::listed::{Entry, ReachStop};
@@ -34,9 +34,9 @@ pub struct Solution {
 
 // A condition that is to be met, and those behind it.
 #[derive(Clone, Copy)]
-struct Goal<'a> {
-    cond: &'a Cond,
-    later: &'a [Cond],
+pub(crate) struct Goal<'a> {
+    pub(crate) cond: &'a Cond,
+    pub(crate) later: &'a [Cond],
 }
 
 // Keeps the solution that a path stands for, where none is known yet.
@@ -92,9 +92,9 @@ impl<'a> Search<'a> {
         requires ready { IsReady self.now }
         requires store { HasKept self.now means.old }
         requires left { math.Fits (view goal.cond.now.left) }
-        requires fit { DoConditionsFit (map condition_view goal.later.now) }
+        requires fit { DoConditionsFit (behind_goal goal) }
         requires deep { 0 < self.now.depth }
-        ensures found { Seeks self.now (condition_view goal.entry.cond.now ∷ map condition_view goal.entry.later.now) (path_view path.old) first.old first.new means.old.budget means.new.budget result }
+        ensures found { SeeksGoal self.now goal.entry (path_view path.old) first.old first.new means.old.budget means.new.budget result }
         ensures restored { OnOk result (IsSamePath path.old path.new) }
         ensures never_less { OnOk result (HasRisen means.old.work 0 means.new.work) }
         ensures keeps { OnOk result (HasKept self.now means.new) }
@@ -118,8 +118,8 @@ impl<'a> Search<'a> {
     ) -> Result<(), ReachStop>
         requires ready { IsReady self.now }
         requires store { HasKept self.now means.old }
-        requires fit { DoConditionsFit (map condition_view goal.later.now) }
-        ensures found { SeeksAll self.now (condition_view goal.entry.cond.now) (map condition_view goal.entry.later.now) (path_view path.old) (table_view entries.now) first.old first.new means.old.budget means.new.budget result }
+        requires fit { DoConditionsFit (behind_goal goal) }
+        ensures found { SeeksTerms self.now goal.entry (path_view path.old) (table_view entries.now) first.old first.new means.old.budget means.new.budget result }
         ensures restored { OnOk result (IsSamePath path.old path.new) }
         ensures never_less { OnOk result (HasRisen means.old.work 0 means.new.work) }
         ensures keeps { OnOk result (HasKept self.now means.new) }
@@ -142,8 +142,8 @@ impl<'a> Search<'a> {
     ) -> Result<(), ReachStop>
         requires ready { IsReady self.now }
         requires store { HasKept self.now means.old }
-        requires fit { DoConditionsFit (map condition_view goal.later.now) }
-        ensures found { SeeksOne self.now (condition_view goal.entry.cond.now) (map condition_view goal.entry.later.now) (path_view path.old) (entry_view w.now) first.old first.new means.old.budget means.new.budget result }
+        requires fit { DoConditionsFit (behind_goal goal) }
+        ensures found { SeeksTerm self.now goal.entry (path_view path.old) (entry_view w.now) first.old first.new means.old.budget means.new.budget result }
         ensures restored { OnOk result (IsSamePath path.old path.new) }
         ensures never_less { OnOk result (HasRisen means.old.work 0 means.new.work) }
         ensures keeps { OnOk result (HasKept self.now means.new) }
