@@ -1,5 +1,5 @@
 -- Cells of instances that are not built, and the room that they leave.
-use Rattle.std.proofs.Common.{◌≡◌, ℕ, suc, ◌+◌, ◌-◌, ◌*◌, ◌<◌, ◌⊎◌, inl, inr, Result, OnOk, List, [], ◌∷◌, ◌++◌, length, append_assoc, Option, None, Some, IfNone}
+use Rattle.std.proofs.Common.{◌≡◌, ℕ, suc, ◌+◌, ◌*◌, ◌<◌, ◌⊎◌, inl, inr, Result, OnOk, List, [], ◌∷◌, ◌++◌, length, append_assoc, Option, None, Some, IfNone}
 use Rattle.std.proofs.Common.{refl, sym, ap, ◌∙◌, Vec, Global, arith}
 use Rattle.std.specs.FinMap.{get}
 use Rattle.rewriting.specs.Terms as math

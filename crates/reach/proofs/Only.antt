@@ -11,7 +11,6 @@ use Rattle.reach_lists.specs.Solutions as lists
 use Rattle.reach_lists.specs.Solutions.{starts, extended}
 use Rattle.reach_lists.specs.Lists.{total, reach_list, reach_cost, started}
 use Rattle.reach_lists.specs.Paths.{followed, asked_on_paths}
-use Rattle.term_core.specs.declared.terms.Term.{Term}
 use Rattle.reach.specs.declared.listed.ReachStop.{ReachStop}
 use Rattle.reach.specs.declared.sites.Search.{Search}
 use Rattle.reach.specs.Follows.{Follows, FollowsOne, gives_behind, asked_behind}

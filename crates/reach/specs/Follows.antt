@@ -1,13 +1,14 @@
 -- What following the solutions of conditions gives and asks for.
-use Rattle.std.specs.Prelude.{List, flat_map, option_to_list, Result}
+use Rattle.std.specs.Prelude.{List, ◌∷◌, flat_map, map, option_to_list, Result}
 use Rattle.cc_count.specs.Counts.{Counts}
 use Rattle.rewriting.specs.Prelude.{Term, Condition}
 use Rattle.reach_lists.specs.Lists.{total, at_site, asked_at, by_solution}
 use Rattle.reach_lists.specs.Sites.{Site}
 use Rattle.reach_lists.specs.Solutions.{Reached, Solution, extended}
 use Rattle.reach_lists.specs.Paths.{followed, asked_on_paths}
-use Rattle.term_core.specs.RuleView.{rule_view}
+use Rattle.term_core.specs.RuleView.{rule_view, condition_view}
 use Rattle.reach.specs.declared.listed.ReachStop.{ReachStop}
+use Rattle.reach.specs.declared.search.Aim.{Aim}
 use Rattle.reach.specs.declared.sites.Search.{Search}
 use Rattle.reach.specs.declared.splices.Redex.{Redex}
 use Rattle.reach.specs.EntryView.{entry_view}
@@ -50,3 +51,24 @@ FollowsAll s f c cs p ws l m before after result = Offers s (flat_map (gives_beh
 abbrev pub FollowsOne : Search → (Solution → List Reached) → Condition → List Condition → Solution → Reached → List Reached → List Reached → Counts → Counts
     → Result (Unit {0}) ReachStop → Type 0
 FollowsOne s f c cs p w l m before after result = Offers s (gives_behind s f c cs p w) (asked_behind s c cs p w) l m before after result
+
+-- the conditions behind that of an aim
+abbrev pub behind_aim : Aim → List Condition
+behind_aim a = map condition_view a.later.now
+
+-- what a listed term that is to meet its condition gives, and the lists that this asks for
+abbrev pub aim_gives : Search → Aim → Solution → Reached → List Reached
+aim_gives s a = gives_behind s (gives a.redex.now) (condition_view a.cond.now) (behind_aim a)
+
+abbrev pub aim_asks : Search → Aim → Solution → Reached → List Term
+aim_asks s a = asked_behind s (condition_view a.cond.now) (behind_aim a)
+
+-- the list is offered what follows of an aim; of listed terms that are to meet its condition; and of one
+abbrev pub FollowsAim : Search → Aim → Solution → List Reached → List Reached → Counts → Counts → Result (Unit {0}) ReachStop → Type 0
+FollowsAim s a p l m before after result = Follows s (gives a.redex.now) (condition_view a.cond.now ∷ behind_aim a) p l m before after result
+
+abbrev pub FollowsTerms : Search → Aim → Solution → List Reached → List Reached → List Reached → Counts → Counts → Result (Unit {0}) ReachStop → Type 0
+FollowsTerms s a p ws l m before after result = FollowsAll s (gives a.redex.now) (condition_view a.cond.now) (behind_aim a) p ws l m before after result
+
+abbrev pub FollowsTerm : Search → Aim → Solution → Reached → List Reached → List Reached → Counts → Counts → Result (Unit {0}) ReachStop → Type 0
+FollowsTerm s a p w l m before after result = FollowsOne s (gives a.redex.now) (condition_view a.cond.now) (behind_aim a) p w l m before after result

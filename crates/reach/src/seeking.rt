@@ -10,7 +10,7 @@ ghost use Rattle.reach.specs.Costs.{Costs};
 ghost use Rattle.reach.specs.EntryView.{entry_view, table_view};
 ghost use Rattle.reach.specs.PathView.{path_view, IsSamePath};
 ghost use Rattle.reach.specs.Ready.{IsReady, HasKept, inner, price};
-ghost use Rattle.reach.specs.Seeks.{Seeks, SeeksAll, SeeksOne};
+ghost use Rattle.reach.specs.Seeks.{Seeks, behind_goal, SeeksGoal, SeeksTerms, SeeksTerm};
 ghost use Rattle.reach.specs.SolutionView.{solution_view, first_of, IsSought};
 
 use crate::listed::{Entry, ReachStop};
@@ -30,6 +30,13 @@ use term_core::{Cond, NoMemory, Subst};
 pub struct Solution {
     pub values: Subst,
     pub by: Vec<Derivation>,
+}
+
+// A condition that is to be met, and those behind it.
+#[derive(Clone, Copy)]
+pub(crate) struct Goal<'a> {
+    pub(crate) cond: &'a Cond,
+    pub(crate) later: &'a [Cond],
 }
 
 // Keeps the solution that a path stands for, where none is known yet.
@@ -70,7 +77,7 @@ impl<'a> Search<'a> {
         if self.depth == 0 {
             return Ok(());
         }
-        self.seek_condition(means, cond, later, path, first)
+        self.seek_condition(means, Goal { cond, later }, path, first)
     }
 
     // The same, where a condition is to be met first.
@@ -78,26 +85,25 @@ impl<'a> Search<'a> {
     fn seek_condition(
         &self,
         means: &mut Means,
-        cond: &Cond,
-        later: &[Cond],
+        goal: Goal<'_>,
         path: &mut Path,
         first: &mut Option<Solution>,
     ) -> Result<(), ReachStop>
         requires ready { IsReady self.now }
         requires store { HasKept self.now means.old }
-        requires left { math.Fits (view cond.now.left) }
-        requires fit { DoConditionsFit (map condition_view later.now) }
+        requires left { math.Fits (view goal.cond.now.left) }
+        requires fit { DoConditionsFit (behind_goal goal) }
         requires deep { 0 < self.now.depth }
-        ensures found { Seeks self.now (condition_view cond.now ∷ map condition_view later.now) (path_view path.old) first.old first.new means.old.budget means.new.budget result }
+        ensures found { SeeksGoal self.now goal.entry (path_view path.old) first.old first.new means.old.budget means.new.budget result }
         ensures restored { OnOk result (IsSamePath path.old path.new) }
         ensures never_less { OnOk result (HasRisen means.old.work 0 means.new.work) }
         ensures keeps { OnOk result (HasKept self.now means.new) }
     {
-        let Some(start) = start_of(means.alloc, cond, path)? else {
+        let Some(start) = start_of(means.alloc, goal.cond, path)? else {
             return Ok(());
         };
         let inner = self.list_for(means, start)?;
-        self.seek_entries(means, cond, later, path, first, &inner.entries)
+        self.seek_entries(means, goal, path, first, &inner.entries)
     }
 
     // The same, where the condition is met by the terms of its list.
@@ -105,22 +111,21 @@ impl<'a> Search<'a> {
     fn seek_entries(
         &self,
         means: &mut Means,
-        cond: &Cond,
-        later: &[Cond],
+        goal: Goal<'_>,
         path: &mut Path,
         first: &mut Option<Solution>,
         entries: &[Entry],
     ) -> Result<(), ReachStop>
         requires ready { IsReady self.now }
         requires store { HasKept self.now means.old }
-        requires fit { DoConditionsFit (map condition_view later.now) }
-        ensures found { SeeksAll self.now (condition_view cond.now) (map condition_view later.now) (path_view path.old) (table_view entries.now) first.old first.new means.old.budget means.new.budget result }
+        requires fit { DoConditionsFit (behind_goal goal) }
+        ensures found { SeeksTerms self.now goal.entry (path_view path.old) (table_view entries.now) first.old first.new means.old.budget means.new.budget result }
         ensures restored { OnOk result (IsSamePath path.old path.new) }
         ensures never_less { OnOk result (HasRisen means.old.work 0 means.new.work) }
         ensures keeps { OnOk result (HasKept self.now means.new) }
     {
         'entries: for w in entries {
-            self.seek_entry(means, cond, later, path, first, w)?;
+            self.seek_entry(means, goal, path, first, w)?;
         }
         Ok(())
     }
@@ -130,25 +135,24 @@ impl<'a> Search<'a> {
     fn seek_entry(
         &self,
         means: &mut Means,
-        cond: &Cond,
-        later: &[Cond],
+        goal: Goal<'_>,
         path: &mut Path,
         first: &mut Option<Solution>,
         w: &Entry,
     ) -> Result<(), ReachStop>
         requires ready { IsReady self.now }
         requires store { HasKept self.now means.old }
-        requires fit { DoConditionsFit (map condition_view later.now) }
-        ensures found { SeeksOne self.now (condition_view cond.now) (map condition_view later.now) (path_view path.old) (entry_view w.now) first.old first.new means.old.budget means.new.budget result }
+        requires fit { DoConditionsFit (behind_goal goal) }
+        ensures found { SeeksTerm self.now goal.entry (path_view path.old) (entry_view w.now) first.old first.new means.old.budget means.new.budget result }
         ensures restored { OnOk result (IsSamePath path.old path.new) }
         ensures never_less { OnOk result (HasRisen means.old.work 0 means.new.work) }
         ensures keeps { OnOk result (HasKept self.now means.new) }
     {
         let (bound, met) = (path.trail.len(), path.by.len());
-        if !path.enter(means.alloc, cond, w)? {
+        if !path.enter(means.alloc, goal.cond, w)? {
             return Ok(());
         }
-        self.seek(means, later, path, first)?;
+        self.seek(means, goal.later, path, first)?;
         path.leave(bound, met);
         Ok(())
     }

@@ -5,16 +5,16 @@ use Rattle.reach.specs.Keys.{cells}
 use Rattle.reach.proofs.Around.{length-around}
 use Rattle.reach.proofs.splices.instance_between.Goals as goal
 
-pub returns-then-others-gt-MAX_CELLS : goal.returns-then-others-gt-MAX_CELLS
-returns-then-others-gt-MAX_CELLS c =
+pub returns-then-others-gt-MOST_LISTED_NODES : goal.returns-then-others-gt-MOST_LISTED_NODES
+returns-then-others-gt-MOST_LISTED_NODES c =
     let long = length-around c.args.front.now c.args.back.now (apply (values_of c.args.values.now) (view c.args.t.now)) in
-    let big = c.if-others-gt-MAX_CELLS.true in
+    let big = c.if-others-gt-MOST_LISTED_NODES.true in
     omega (arith, long, big)
 
 pub returns-in_default : goal.returns-in_default
 returns-in_default c =
     let long = length-around c.args.front.now c.args.back.now (apply (values_of c.args.values.now) (view c.args.t.now)) in
-    let low = c.if-others-gt-MAX_CELLS.false in
+    let low = c.if-others-gt-MOST_LISTED_NODES.false in
     let none = rw c.in_default.is at c.room_of.ensures.none in
     omega (arith, long, low, none)
 
@@ -32,6 +32,6 @@ returns c =
     ∙ append_assoc c.args.front.now (cells u) c.args.back.now in
     let many = ap length whole in
     let long = length-around c.args.front.now c.args.back.now u in
-    let low = c.if-others-gt-MAX_CELLS.false in
+    let low = c.if-others-gt-MOST_LISTED_NODES.false in
     let left = rw c.in-Some.is at c.room_of.ensures.left in
     (whole, omega (arith, many, long, low, left))

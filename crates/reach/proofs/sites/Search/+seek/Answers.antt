@@ -8,9 +8,8 @@ use Rattle.reach.specs.EntryView.{entry_view, table_view}
 use Rattle.reach.specs.PathView.{path_view}
 use Rattle.reach.specs.SolutionView.{solution_view, or_first}
 use Rattle.reach.specs.declared.kept.KeptList.{KeptList}
-use Rattle.reach.specs.Ready.{inner, price}
-use Rattle.reach.specs.Follows.{behind, asked_behind}
-use Rattle.reach.specs.Seeks.{Seeks}
+use Rattle.reach.specs.Ready.{price}
+use Rattle.reach.specs.Seeks.{Seeks, behind_goal, goal_finds, goal_asks}
 use Rattle.reach.proofs.Paths.{same_view, same_both}
 use Rattle.reach.proofs.Paying.{paying_begins, paying_goes_on}
 use Rattle.general_lemmas.proofs.Places.{map-drop_read}
@@ -38,7 +37,7 @@ pub seek_condition-returns-in_err-inner-clause-found : goal.seek_condition-retur
 seek_condition-returns-in_err-inner-clause-found t c =
     let deep : c.args.self.now.depth ≡ 0 → ⊥ = λ e. let some = c.requires.deep in omega (arith, e, some) in
     let start = (rw c.in-Some.is at c.in_ok-start.ensures) in
-    let low = list_part c.args.self.now (condition_view c.args.cond.now) (map condition_view c.args.later.now) (path_view c.args.path.now) (view c.in-Some.start) deep start 0 in
+    let low = list_part c.args.self.now (condition_view c.args.goal.cond.now) (behind_goal c.args.goal) (path_view c.args.path.now) (view c.in-Some.start) deep start 0 in
     err_part _ _ _ _ _ _ _ _ _ (omega (arith, low))
     (paying_begins _ c.args.means.now.budget) c.from_residual-in_err-inner.ensures.0 c.from_residual-in_err-inner.ensures.1 c.in_err-inner.ensures.listed
 
@@ -48,7 +47,7 @@ seek_condition-returns-clause-found t c =
     let start = (rw c.in-Some.is at c.in_ok-start.ensures) in
     let entries : table_view c.deref-2.result.now ≡ table_view c.in_ok-inner.inner.value.entries.items =
     ap table_view (c.deref-2.ensures.value ∙ ap (λ (k : KeptList). k.entries.items) c.deref.ensures) in
-    condition_sought c.args.self.now (condition_view c.args.cond.now) (map condition_view c.args.later.now) (path_view c.args.path.now) (view c.in-Some.start) deep start
+    condition_sought c.args.self.now (condition_view c.args.goal.cond.now) (behind_goal c.args.goal) (path_view c.args.path.now) (view c.in-Some.start) deep start
     (option_map solution_view c.args.first.now) (option_map solution_view c.seek_entries.new.first) (table_view c.deref-2.result.now)
     c.args.means.now.budget c.list_for.new.means.budget c.seek_entries.new.means.budget
     c.seek_entries.result (entries ∙ c.in_ok-inner.ensures.listed.0) c.in_ok-inner.ensures.listed.1 c.seek_entries.ensures.found
@@ -60,7 +59,7 @@ seek_condition-returns-clause-never_less t c =
 pub seek_entries-returns-in_err-seek_entry-clause-found : goal.seek_entries-returns-in_err-seek_entry-clause-found
 seek_entries-returns-in_err-seek_entry-clause-found t c =
     let self = c.args.self.now in
-    let h = asked_behind self (condition_view c.args.cond.now) (map condition_view c.args.later.now) in
+    let h = goal_asks self c.args.goal in
     let s = path_view c.args.path.now in
     let same = same_view c.args.path.now c.entries.path c.entries.invariant.path in
     let u = entry_view c.w-item.result in
@@ -73,8 +72,8 @@ seek_entries-returns-in_err-seek_entry-clause-found t c =
 pub seek_entries-entries-preserved : goal.seek_entries-entries-preserved
 seek_entries-entries-preserved t c =
     let self = c.args.self.now in
-    let g = behind self (condition_view c.args.cond.now) (map condition_view c.args.later.now) in
-    let h = asked_behind self (condition_view c.args.cond.now) (map condition_view c.args.later.now) in
+    let g = goal_finds self c.args.goal in
+    let h = goal_asks self c.args.goal in
     let s = path_view c.args.path.now in
     let same = same_view c.args.path.now c.entries.path c.entries.invariant.path in
     let u = entry_view c.w-item.result in
