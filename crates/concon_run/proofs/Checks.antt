@@ -1,12 +1,11 @@
 -- A check: its words, that what was read and judged is what it answers, and what is said of that.
-use Rattle.std.proofs.Common.{◌≡◌, ℕ, ◌≤◌, ◌<◌, List, length, Option, Some, None, Result, Ok, Err, inl, inr, refl, sym, ap, subst, arith}
+use Rattle.std.proofs.Common.{◌≡◌, ℕ, ◌≤◌, ◌<◌, List, length, Option, Some, None, Result, Ok, Err, inl, inr, refl, sym, ap, subst}
 use Rattle.std.specs.Prelude.{IfSome, IsErrOf, option_map}
 use Rattle.rewriting.specs.Prelude.{System, IsConfluent}
 use Rattle.join_systems.specs.FileRelation.{IsFromFile, IsFileConfluent}
 use Rattle.certificates.specs.Prelude.{Certificate, ortho_certificate, quasi_certificate, peak_certificate, simplified_certificate, Rejection, simplification_fails}
 use Rattle.valid_certificates.specs.CarriedBack.{IsPeakApart}
 use Rattle.cops_names.specs.NameTable.{NameTable}
-use Rattle.cc_io.specs.Faults.{Rose}
 use Rattle.cc_io.specs.Errors.{IsTooLong}
 use Rattle.cc_io.specs.declared.shelf.ReadAllError.{ReadAllError}
 use Rattle.cc_io.specs.declared.shelf.ReadAllError.TheVariants as reading
@@ -109,10 +108,6 @@ module _ (cert : Bytes) (failed : Type 0) (sys : System) (names : NameTable) (by
         → OnNo {E = BytesError} (Ok v) ((c : Certificate) × IsCertificateText names bytes c × IsPeakApart sys c)
         → CertificateAnswers cert failed sys names (Ok v)
     cert_judged v h confluent file apart = (h.0, (bytes, f, short, h.1), h.2, h.3, shown_by v confluent file apart)
-
--- what rose since a later time, rose since an earlier one
-pub rose_since : (before between now : ℕ) → before ≤ between → Rose between now → Rose before now
-rose_since before between now le rose = omega (arith, le, rose)
 
 module _ (shelf : ShelfRun) (file cert : List ℕ) where
   -- the file gives no system

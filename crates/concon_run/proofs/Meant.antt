@@ -106,43 +106,20 @@ appended_nothing None = refl
 appended_nothing (Some bytes) = ap Some (append-nil bytes)
 
 of_check_but : (status : Status) → (status ≡ statuses.Maybe → ⊥) → (status ≡ statuses.QueryRefused → ⊥) → IsOfCheck status
-of_check_but statuses.Yes h k = tt
-of_check_but statuses.No h k = tt
 of_check_but statuses.Maybe h k = h refl
-of_check_but statuses.Rejected h k = tt
-of_check_but statuses.Usage h k = tt
-of_check_but statuses.FileRefused h k = tt
-of_check_but statuses.CertRefused h k = tt
 of_check_but statuses.QueryRefused h k = k refl
-of_check_but statuses.ReadFault h k = tt
-of_check_but statuses.WriteFault h k = tt
-of_check_but statuses.NoMemory h k = tt
+of_check_but _ h k = tt
 
 of_prove_but : (status : Status) → (status ≡ statuses.Rejected → ⊥) → (status ≡ statuses.CertRefused → ⊥) → (status ≡ statuses.QueryRefused → ⊥) → IsOfProve status
-of_prove_but statuses.Yes h k q = tt
-of_prove_but statuses.No h k q = tt
-of_prove_but statuses.Maybe h k q = tt
 of_prove_but statuses.Rejected h k q = h refl
-of_prove_but statuses.Usage h k q = tt
-of_prove_but statuses.FileRefused h k q = tt
 of_prove_but statuses.CertRefused h k q = k refl
 of_prove_but statuses.QueryRefused h k q = q refl
-of_prove_but statuses.ReadFault h k q = tt
-of_prove_but statuses.WriteFault h k q = tt
-of_prove_but statuses.NoMemory h k q = tt
+of_prove_but _ h k q = tt
 
 of_query_but : (status : Status) → (status ≡ statuses.Rejected → ⊥) → (status ≡ statuses.CertRefused → ⊥) → IsOfQuery status
-of_query_but statuses.Yes h k = tt
-of_query_but statuses.No h k = tt
-of_query_but statuses.Maybe h k = tt
 of_query_but statuses.Rejected h k = h refl
-of_query_but statuses.Usage h k = tt
-of_query_but statuses.FileRefused h k = tt
 of_query_but statuses.CertRefused h k = k refl
-of_query_but statuses.QueryRefused h k = tt
-of_query_but statuses.ReadFault h k = tt
-of_query_but statuses.WriteFault h k = tt
-of_query_but statuses.NoMemory h k = tt
+of_query_but _ h k = tt
 
 module _ (run : Run) (h : IsAnswered run) where
   -- what a status means that is not told of a sink

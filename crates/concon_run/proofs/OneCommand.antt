@@ -44,19 +44,8 @@ pub command_once : (words : List (List ℕ)) (c d : Command) → IsCommand words
 command_once words (check file cert) (check other others) h k = ap₂ check (same_file words file cert other others h k) (same_cert words file cert other others h k)
 command_once words (prove file a) (prove other b) h k = let same = prove_once words file other a b h k in ap₂ prove same.0 same.1
 command_once words (selftest n) (selftest m) h k = ap selftest (test_once words n m h k)
-command_once words (check file cert) (prove other b) h k = absurd (apart words (check file cert) (prove other b) h k (λ e. omega (arith, e)))
-command_once words (check file cert) (selftest m) h k = absurd (apart words (check file cert) (selftest m) h k (λ e. omega (arith, e)))
-command_once words (prove file a) (check other others) h k = absurd (apart words (prove file a) (check other others) h k (λ e. omega (arith, e)))
-command_once words (prove file a) (selftest m) h k = absurd (apart words (prove file a) (selftest m) h k (λ e. omega (arith, e)))
-command_once words (selftest n) (check other others) h k = absurd (apart words (selftest n) (check other others) h k (λ e. omega (arith, e)))
-command_once words (selftest n) (prove other b) h k = absurd (apart words (selftest n) (prove other b) h k (λ e. omega (arith, e)))
 command_once words (query file text a) (query other others b) h k = let same = query_once words file text other others a b h k in same_query file text other others a b same.0 same.1 same.2
-command_once words (check file cert) (query other others b) h k = absurd (apart words (check file cert) (query other others b) h k (λ e. omega (arith, e)))
-command_once words (query file text a) (check other others) h k = absurd (apart words (query file text a) (check other others) h k (λ e. omega (arith, e)))
-command_once words (prove file a) (query other others b) h k = absurd (apart words (prove file a) (query other others b) h k (λ e. omega (arith, e)))
-command_once words (query file text a) (prove other b) h k = absurd (apart words (query file text a) (prove other b) h k (λ e. omega (arith, e)))
-command_once words (selftest n) (query other others b) h k = absurd (apart words (selftest n) (query other others b) h k (λ e. omega (arith, e)))
-command_once words (query file text a) (selftest m) h k = absurd (apart words (query file text a) (selftest m) h k (λ e. omega (arith, e)))
+command_once words c d h k = absurd (apart words c d h k (λ e. omega (arith, e)))
 
 module _ (run : Run) (h : IsAnswered run) where
   -- where the words are this command, what is said is said to it

@@ -55,20 +55,7 @@ fn decide<S: Shelf>(alloc: Global, words: &[&str], shelf: &mut S) -> Reply
     }
 }
 
-fn run_all<S: Shelf, K: Sink, E: Sink>(
-    alloc: Global,
-    words: &[&str],
-    shelf: &mut S,
-    out: &mut K,
-    err: &mut E,
-) -> Status
-    ensures { IsAnswered (run_of S.Shelf K.Sink E.Sink words.now result shelf.old shelf.new out.old out.new err.old err.new) }
-{
-    let reply = decide(alloc, words, shelf);
-    deliver(&reply, out, err)
-}
-
-// The same, with all that it means.
+// Answers, with all that it means.
 fn run_known<S: Shelf, K: Sink, E: Sink>(
     alloc: Global,
     words: &[&str],
@@ -84,7 +71,8 @@ fn run_known<S: Shelf, K: Sink, E: Sink>(
     proof_spaces_are_searchable();
     one_query();
     query_spaces_are_searchable();
-    run_all(alloc, words, shelf, out, err)
+    let reply = decide(alloc, words, shelf);
+    deliver(&reply, out, err)
 }
 
 /// Does what the words say: `check FILE CERT` reads both files and writes the verdict; `prove FILE`, and `prove FILE --budget N`, reads the

@@ -1,12 +1,13 @@
 -- What is said where a file is not read, or refused.
-use Rattle.std.proofs.Common.{◌⊎◌, ℕ, ◌<◌, ◌≤◌, List, length, Option, Some, None, Err, refl, inl, inr, arith}
+use Rattle.std.proofs.Common.{◌≡◌, ◌⊎◌, ℕ, ◌<◌, ◌≤◌, List, length, Option, Some, None, Err, refl, inl, inr, subst}
 use Rattle.std.specs.Prelude.{IfSome, IsErrOf, option_map}
 use Rattle.cc_io.specs.Faults.{Rose}
 use Rattle.cops_names.specs.NameTable.{NameTable}
 use Rattle.cc_io.specs.Errors.{IsTooLong}
 use Rattle.cc_io.specs.declared.shelf.ReadAllError.{ReadAllError}
 use Rattle.cc_io.specs.declared.shelf.ReadAllError.TheVariants.{ReadFault, TooLong, NoMemory}
-use Rattle.run_parts.specs.Bytes.{Bytes, told_or_any}
+use Rattle.run_parts.specs.Bytes.{told_or_any}
+use Rattle.run_parts.proofs.Faults.{rose_since}
 use Rattle.run_parts.proofs.LongTexts.{long_text}
 use Rattle.lens_run.specs.Runs.{IsTooLongSaid, IsPlaced, IsSaidUnread, IsSaidRefused, IsHindered, NoCertSaid}
 use Rattle.lens_run.specs.Said.{Said}
@@ -30,12 +31,12 @@ refused words Refused failed s name bytes said (Some r) h (inl placed) = inl (r.
 refused words Refused failed s name bytes said (Some r) h (inr e) = inr (inr e)
 refused words Refused failed s name bytes said None h e = inr (inr e)
 
--- what failed after something else was done has failed since before that
-pub fails_since : (before between now : ℕ) → before ≤ between → Rose between now → Rose before now
-fails_since before between now le rose = omega arith
-
-pub cert_since : (cert : Bytes) (names : NameTable) (name : List ℕ) (said : Said) {failed since : Type 0} → (failed → since) → NoCertSaid cert names failed name said
-    → NoCertSaid cert names since name said
-cert_since cert names name said go (inl refused) = inl refused
-cert_since cert names name said go (inr (inl fault)) = inr (inl (go fault.0, fault.1))
-cert_since cert names name said go (inr (inr none)) = inr (inr none)
+-- what is said of a certificate that is read later holds of the shelf as it was before
+pub cert_since : (before between : List ℕ → Option (List ℕ)) (names : NameTable) (cert : List ℕ) (said : Said) (first second third : ℕ) → between ≡ before → first ≤ second
+    → NoCertSaid (told_or_any (between cert)) names (Rose second third) cert said → NoCertSaid (told_or_any (before cert)) names (Rose first third) cert said
+cert_since before between names cert said first second third same le none = earlier (subst (λ told. NoCertSaid (told_or_any (told cert)) names (Rose second third) cert said) same none)
+  where
+    earlier : NoCertSaid (told_or_any (before cert)) names (Rose second third) cert said → NoCertSaid (told_or_any (before cert)) names (Rose first third) cert said
+    earlier (inl refused) = inl refused
+    earlier (inr (inl fault)) = inr (inl (rose_since first second third le fault.0, fault.1))
+    earlier (inr (inr none)) = inr (inr none)

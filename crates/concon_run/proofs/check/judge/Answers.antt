@@ -3,7 +3,8 @@ use Rattle.cc_io.specs.Faults.{Rose}
 use Rattle.run_parts.specs.Devices.{shelf_run}
 use Rattle.run_parts.specs.Bytes.{told_or_any}
 use Rattle.concon_run.specs.Checking.{CertificateAnswers}
-use Rattle.concon_run.proofs.Checks.{rose_since, file_gives_none, certificate_answered}
+use Rattle.run_parts.proofs.Faults.{rose_since}
+use Rattle.concon_run.proofs.Checks.{file_gives_none, certificate_answered}
 use Rattle.concon_run.proofs.check.judge.Goals as goal
 
 pub returns-clause-answers : goal.returns-clause-answers

@@ -3,7 +3,7 @@ use Rattle.cc_io.specs.Faults.{Rose}
 use Rattle.run_parts.specs.Devices.{shelf_run}
 use Rattle.run_parts.specs.Bytes.{told_or_any}
 use Rattle.concon_run.specs.Querying.{QueryReplies}
-use Rattle.concon_run.proofs.Checks.{rose_since}
+use Rattle.run_parts.proofs.Faults.{rose_since}
 use Rattle.concon_run.proofs.Asking.{file_gives_none, query_answered}
 use Rattle.concon_run.proofs.queries.answer_to.Goals as goal
 
