@@ -21,6 +21,7 @@ mod sides;
 use crate::limits::{check_widths, count_states};
 use crate::rounds::{round, start};
 use crate::sides::top;
+use automata::MOST_GROWN_STATES;
 use cert_model::Automaton;
 use std::alloc::{AllocError, AllocFailed, Global};
 use term_core::{NoMemory, System, Term};
@@ -77,7 +78,7 @@ fn grow_on(
 ) -> Result<Automaton, GrowError>
     requires fits { Fits (view s.now) }
     requires states { automaton.states ≡ state_count sys.now (view s.now) }
-    requires most { automaton.states ≤ 64 }
+    requires most { automaton.states ≤ MOST_GROWN_STATES }
     requires accepting { automaton.accepting.items ≡ growth.top (λ x. 0) 1 (view s.now) ∷ [] }
     requires narrow { AreNarrowBelow automaton.states sys.now.rules (length sys.now.rules) }
     requires partial { IsPartial sys.now (view s.now) (map transition_view automaton.transitions.items) }
@@ -102,7 +103,7 @@ fn grow_of(alloc: Global, sys: &System, s: &Term, states: u32) -> Result<Automat
     requires fits { Fits (view s.now) }
     requires system { IsSystem sys.now }
     requires states { states ≡ state_count sys.now (view s.now) }
-    requires most { states ≤ 64 }
+    requires most { states ≤ MOST_GROWN_STATES }
     requires narrow { AreNarrowBelow states sys.now.rules (length sys.now.rules) }
     ensures { GrownAnswers sys.now (view s.now) result }
 {

@@ -6,7 +6,7 @@ ghost use Rattle.automaton_grow.specs.Limits.{all_proper, CountAnswers, StatesAn
 
 use crate::GrowError;
 use crate::sides::{inner, proper};
-use automata::{MOST_GROWN_STATES as MOST_STATES, MOST_GROWTH_CHOICES as MOST_CHOICES};
+use automata::{MOST_GROWN_STATES, MOST_GROWTH_CHOICES};
 use automaton_runs::{has_more_choices, occurrences};
 use std::alloc::Global;
 use term_core::{NoMemory, Rule, System, Term};
@@ -19,12 +19,12 @@ fn count_from(rules: &[Rule], first: u32) -> Option<u32>
 {
     let mut count = first;
     for rule in rules {
-        if count > MOST_STATES {
+        if count > MOST_GROWN_STATES {
             return None;
         }
         count += proper(&rule.right);
     }
-    if count > MOST_STATES {
+    if count > MOST_GROWN_STATES {
         return None;
     }
     Some(count)
@@ -43,7 +43,7 @@ fn is_wide(alloc: Global, states: u32, left: &Term) -> Result<bool, NoMemory>
     ensures { IfOk result (λ yes. IsTrue yes ↔ IsWideFor states (view left.now)) }
 {
     let names = occurrences(alloc, left)?;
-    Ok(has_more_choices(states, names.len(), MOST_CHOICES))
+    Ok(has_more_choices(states, names.len(), MOST_GROWTH_CHOICES))
 }
 
 /// Refuses the first rule, from 1, for whose left side there are too many choices of so many states.

@@ -8,7 +8,7 @@ ghost use Rattle.automaton_grow.specs.Placing.{HeadAnswers, CompareAnswers, Plac
 ghost use Rattle.automata.specs.Growth.{IsTransitionBefore};
 
 use crate::GrowError;
-use automata::MOST_GROWN_TRANSITIONS as MOST_TRANSITIONS;
+use automata::MOST_GROWN_TRANSITIONS;
 use cert_model::Transition;
 use std::alloc::Global;
 use std::cmp::Ordering;
@@ -93,14 +93,14 @@ pub fn add(
     transitions: &mut Vec<Transition>,
 ) -> Result<(), GrowError>
     requires sorted { IsSorted IsTransitionBefore (map transition_view transitions.old.items) }
-    requires few { length (map transition_view transitions.old.items) ≤ 5000 }
+    requires few { length (map transition_view transitions.old.items) ≤ MOST_GROWN_TRANSITIONS }
     ensures { AddAnswers (λ d. d ≡ transition_of symbol args.now target) (map transition_view transitions.old.items) (map transition_view transitions.new.items) result }
 {
     match place(transitions, symbol, args, target) {
         Ok(_) => Ok(()),
         Err(at) => {
             put(alloc, symbol, args, target, at, transitions)?;
-            if transitions.len() > MOST_TRANSITIONS {
+            if transitions.len() > MOST_GROWN_TRANSITIONS {
                 return Err(GrowError::TooManyTransitions);
             }
             Ok(())
@@ -115,7 +115,7 @@ pub fn add_all(
     transitions: &mut Vec<Transition>,
 ) -> Result<(), GrowError>
     requires sorted { IsSorted IsTransitionBefore (map transition_view transitions.old.items) }
-    requires few { length (map transition_view transitions.old.items) ≤ 5000 }
+    requires few { length (map transition_view transitions.old.items) ≤ MOST_GROWN_TRANSITIONS }
     ensures { AddAnswers (Contains (map transition_view some.now)) (map transition_view transitions.old.items) (map transition_view transitions.new.items) result }
 {
     for one in some {

@@ -13,6 +13,7 @@ ghost use Rattle.automaton_grow.specs.Rounds.{IsForSymbol, IsBasicOf, IsAskedByR
 use crate::GrowError;
 use crate::ordered::{add, add_all};
 use crate::sides::{Assigned, inner, proper, push_grown, state_of};
+use automata::{MOST_GROWN_STATES, MOST_GROWN_TRANSITIONS, MOST_GROWTH_CHOICES};
 use automaton_runs::{Arrival, AutomatonIndex, arrivals, occurrences};
 use cert_model::{Automaton, Transition};
 use std::alloc::Global;
@@ -26,7 +27,7 @@ fn add_symbols(
 ) -> Result<(), GrowError>
     requires few { length arities.now < 2 ^ 31 }
     requires sorted { IsSorted IsTransitionBefore (map transition_view transitions.old.items) }
-    requires most { length (map transition_view transitions.old.items) ≤ 5000 }
+    requires most { length (map transition_view transitions.old.items) ≤ MOST_GROWN_TRANSITIONS }
     ensures { AddAnswers (IsForSymbol arities.now (length arities.now)) (map transition_view transitions.old.items) (map transition_view transitions.new.items) result }
 {
     for f in 0..arities.len() {
@@ -48,7 +49,7 @@ fn add_basic(
 ) -> Result<(), GrowError>
     requires few { length arities.now < 2 ^ 31 }
     requires sorted { IsSorted IsTransitionBefore (map transition_view transitions.old.items) }
-    requires most { length (map transition_view transitions.old.items) ≤ 5000 }
+    requires most { length (map transition_view transitions.old.items) ≤ MOST_GROWN_TRANSITIONS }
     ensures { AddAnswers (IsBasicOf arities.now (map transition_view inside.now)) (map transition_view transitions.old.items) (map transition_view transitions.new.items) result }
 {
     match add_symbols(alloc, arities, transitions) {
@@ -90,7 +91,7 @@ fn add_twins(
     next: &mut Vec<Transition>,
 ) -> Result<(), GrowError>
     requires sorted { IsSorted IsTransitionBefore (map transition_view next.old.items) }
-    requires few { length (map transition_view next.old.items) ≤ 5000 }
+    requires few { length (map transition_view next.old.items) ≤ MOST_GROWN_TRANSITIONS }
     ensures { AddAnswers (Contains (twins from to (map transition_view current.now))) (map transition_view next.old.items) (map transition_view next.new.items) result }
 {
     for one in current {
@@ -114,7 +115,7 @@ fn add_moved(
 ) -> Result<(), GrowError>
     requires kept { HasAll (map transition_view current.now) (map transition_view next.old.items) }
     requires sorted { IsSorted IsTransitionBefore (map transition_view next.old.items) }
-    requires few { length (map transition_view next.old.items) ≤ 5000 }
+    requires few { length (map transition_view next.old.items) ≤ MOST_GROWN_TRANSITIONS }
     ensures { AddAnswers (Contains (twins from to (map transition_view current.now))) (map transition_view next.old.items) (map transition_view next.new.items) result }
 {
     if from == to {
@@ -143,7 +144,7 @@ fn add_asked(
     requires leaves { values.leaves.now ≡ variable_occurrences (view placed.rule.now.left) }
     requires room { placed.first + size (view placed.rule.now.right) < 2 ^ 32 }
     requires sorted { IsSorted IsTransitionBefore (map transition_view next.old.items) }
-    requires few { length (map transition_view next.old.items) ≤ 5000 }
+    requires few { length (map transition_view next.old.items) ≤ MOST_GROWN_TRANSITIONS }
     ensures { AddAnswers (IsAskedAt placed.entry.first (rule_view placed.entry.rule.now) (map transition_view current.now) values.entry.states.now state) (map transition_view next.old.items) (map transition_view next.new.items) result }
 {
     match &placed.rule.right {
@@ -177,7 +178,7 @@ fn add_rule(
     requires kept { HasAll (map transition_view current.now) (map transition_view next.old.items) }
     requires room { placed.first + size (view placed.rule.now.right) < 2 ^ 32 }
     requires sorted { IsSorted IsTransitionBefore (map transition_view next.old.items) }
-    requires few { length (map transition_view next.old.items) ≤ 5000 }
+    requires few { length (map transition_view next.old.items) ≤ MOST_GROWN_TRANSITIONS }
     ensures { AddAnswers (IsAskedByRows placed.entry.first (rule_view placed.entry.rule.now) (map transition_view current.now) (map arrival_view rows.now)) (map transition_view next.old.items) (map transition_view next.new.items) result }
 {
     let leaves = occurrences(alloc, &placed.rule.left)?;
@@ -205,12 +206,12 @@ fn grow_rule(
 ) -> Result<(), GrowError>
     requires index { index.now ≡ under_all (automaton_view current.now) }
     requires fits { Fits (view rule.now.left) }
-    requires narrow { current.now.states ^ length (variable_occurrences (view rule.now.left)) ≤ 100000 }
+    requires narrow { current.now.states ^ length (variable_occurrences (view rule.now.left)) ≤ MOST_GROWTH_CHOICES }
     requires states { AreAllStates (automaton_view current.now) }
     requires kept { HasAll (map transition_view current.now.transitions.items) (map transition_view next.old.items) }
     requires room { first + size (view rule.now.right) < 2 ^ 32 }
     requires sorted { IsSorted IsTransitionBefore (map transition_view next.old.items) }
-    requires few { length (map transition_view next.old.items) ≤ 5000 }
+    requires few { length (map transition_view next.old.items) ≤ MOST_GROWN_TRANSITIONS }
     ensures { AddAnswers (IsAskedByRule current.now.states first (rule_view rule.now) (map transition_view current.now.transitions.items)) (map transition_view next.old.items) (map transition_view next.new.items) result }
 {
     let rows = arrivals(alloc, index, &rule.left)?;
@@ -235,12 +236,12 @@ fn grow_rules(
     requires index { index.now ≡ under_all (automaton_view current.now) }
     requires fits { Fits (view s.now) }
     requires states { current.now.states ≡ state_count sys.now (view s.now) }
-    requires most { current.now.states ≤ 64 }
+    requires most { current.now.states ≤ MOST_GROWN_STATES }
     requires narrow { AreNarrowBelow current.now.states sys.now.rules (length sys.now.rules) }
     requires partial { IsPartial sys.now (view s.now) (map transition_view current.now.transitions.items) }
     requires kept { HasAll (map transition_view current.now.transitions.items) (map transition_view next.old.items) }
     requires sorted { IsSorted IsTransitionBefore (map transition_view next.old.items) }
-    requires few { length (map transition_view next.old.items) ≤ 5000 }
+    requires few { length (map transition_view next.old.items) ≤ MOST_GROWN_TRANSITIONS }
     ensures { AddAnswers (IsAskedBelow sys.now (view s.now) (length sys.now.rules) (map transition_view current.now.transitions.items)) (map transition_view next.old.items) (map transition_view next.new.items) result }
 {
     let mut first = 1 + inner(s);
@@ -264,7 +265,7 @@ pub fn round(
 ) -> Result<Vec<Transition>, GrowError>
     requires fits { Fits (view s.now) }
     requires states { current.now.states ≡ state_count sys.now (view s.now) }
-    requires most { current.now.states ≤ 64 }
+    requires most { current.now.states ≤ MOST_GROWN_STATES }
     requires narrow { AreNarrowBelow current.now.states sys.now.rules (length sys.now.rules) }
     requires partial { IsPartial sys.now (view s.now) (map transition_view current.now.transitions.items) }
     ensures { RoundAnswers sys.now (view s.now) (map transition_view current.now.transitions.items) result }

@@ -10,6 +10,7 @@ use crate::batch::Batch;
 use crate::batch_runs::reached_by_occurrences;
 use crate::choices::Choices;
 use crate::index::AutomatonIndex;
+use automata::MOST_CHOICES;
 use std::alloc::Global;
 use term_core::{NoMemory, Term};
 
@@ -90,7 +91,7 @@ pub fn arrivals(
     t: &Term,
 ) -> Result<Vec<Arrival>, NoMemory>
     requires fits { math.Fits (view t.now) }
-    requires few { index.now.automaton.states ^ length (variable_occurrences (view t.now)) ≤ 1000000 }
+    requires few { index.now.automaton.states ^ length (variable_occurrences (view t.now)) ≤ MOST_CHOICES }
     ensures { IfOk result (λ rows. AreArrivals index.now (view t.now) (map arrival_view rows.items)) }
 {
     let choices = Choices::new(alloc, index, t)?;

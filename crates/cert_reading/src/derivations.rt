@@ -9,6 +9,7 @@ ghost use Rattle.cert_grammar.specs.WordMarks as marks;
 ghost use Rattle.cert_grammar.specs.Items as spec;
 ghost use Rattle.cert_words.specs.Walks.{Reads};
 
+use cert_grammar::MOST_NESTING;
 use cert_model::{Derivation, Step};
 use cert_words::{BOUND, CertCount, Reading, counted, either, nested, number, position, put, text};
 use std::alloc::Global;
@@ -34,7 +35,7 @@ pub fn derivation(alloc: Global, end: usize, at: &mut Reading, level: u32) -> De
 // As many steps.
 #[cycle(derivation)]
 fn steps(alloc: Global, end: usize, at: &mut Reading, level: u32, count: u32) -> Derivation
-    requires { level ≤ 50 }
+    requires { level ≤ MOST_NESTING }
     ensures read { (names : NameTable) → Reads names end (spec.steps_of level count) (λ u. marks.steps_marks level (derivation_view result)) [] at.old at.new }
     ensures counted { at.new.refused ≡ None → step_count (derivation_view result) ≡ count }
 {
@@ -52,7 +53,7 @@ fn steps(alloc: Global, end: usize, at: &mut Reading, level: u32, count: u32) ->
 // One step.
 #[cycle(derivation)]
 fn step(alloc: Global, end: usize, at: &mut Reading, level: u32) -> Step
-    requires { level ≤ 50 }
+    requires { level ≤ MOST_NESTING }
     ensures { (names : NameTable) (more : ℕ) → Reads names end (spec.steps_left level more ∷ []) (λ u. marks.step_marks level (step_view result)) (spec.steps_of level more) at.old at.new }
 {
     if either(end, at, b"rule ", b"hyp ") {

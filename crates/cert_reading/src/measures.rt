@@ -39,7 +39,7 @@ fn entry_word(end: usize, at: &mut Reading, n: usize) -> Measured
     ensures condition { result ≡ measured.Condition → (names : NameTable) (v : Version) (i low behind : Item) → (s : SymbolAt v n i low behind) → ReadsWhere (WithinOpening v) names end (i ∷ []) (λ u. word (codes "aux") (is_few entries n ∷ []) ∷ []) (spec.between spec.space ∷ spec.any_number spec.space ∷ s.condition ∷ low ∷ []) at.old at.new }
     ensures nothing { result ≡ measured.Nothing → (names : NameTable) (v : Version) (i low behind : Item) → SymbolAt v n i low behind → ReadsWhere (WithinOpening v) names end (i ∷ []) (λ u. []) (i ∷ []) at.old at.new }
     ensures begins { result ≡ measured.Nothing → at.new.refused ≡ None → BeginsEntry at.new.left.now }
-    ensures few { (result ≡ measured.Nothing → ⊥) → at.new.refused ≡ None → n ≤ 25000 }
+    ensures few { (result ≡ measured.Nothing → ⊥) → at.new.refused ≡ None → n ≤ MOST_ENTRIES }
 {
     if at.refused.is_some() {
         return Measured::Nothing;
@@ -84,7 +84,7 @@ fn head(names: &Names, end: usize, at: &mut Reading, n: usize) -> Option<Head>
     ensures head { IfSome result (λ h. (v : Version) (i low behind : Item) → SymbolAt v n i low behind → ReadsWhere (WithinOpening v) names.now end (i ∷ []) (λ u. measured_marks u n (head_view h)) (behind ∷ low ∷ []) at.old at.new) }
     ensures none { IfNone result ((v : Version) (i low behind : Item) → SymbolAt v n i low behind → ReadsWhere (WithinOpening v) names.now end (i ∷ []) (λ u. []) (i ∷ []) at.old at.new) }
     ensures begins { IfNone result (at.new.refused ≡ None → BeginsEntry at.new.left.now) }
-    ensures few { IfSome result (λ h. at.new.refused ≡ None → n ≤ 25000) }
+    ensures few { IfSome result (λ h. at.new.refused ≡ None → n ≤ MOST_ENTRIES) }
 {
     match entry_word(end, at, n) {
         Measured::Symbol => {
@@ -126,7 +126,7 @@ fn next_entry(
     ensures entry { IfSome result (λ e. (v : Version) → ReadsWhere (WithinOpening v) names.now end (spec.entries_from v n ∷ []) (λ u. entries_marks u n (linear_entry_view e ∷ [])) (spec.entries_from v (suc n) ∷ []) at.old at.new) }
     ensures none { IfNone result ((v : Version) → ReadsWhere (WithinOpening v) names.now end (spec.entries_from v n ∷ []) (λ u. []) (spec.entries_from v n ∷ []) at.old at.new) }
     ensures begins { IfNone result (at.new.refused ≡ None → BeginsEntry at.new.left.now) }
-    ensures few { IfSome result (λ e. at.new.refused ≡ None → n ≤ 25000) }
+    ensures few { IfSome result (λ e. at.new.refused ≡ None → n ≤ MOST_ENTRIES) }
 {
     let Some(head) = head(names, end, at, n) else {
         return None;
@@ -155,7 +155,7 @@ fn next_head(names: &Names, end: usize, at: &mut Reading, n: usize) -> Option<He
     ensures head { IfSome result (λ h. ReadsWhere (WithinOpening second_version) names.now end (spec.heads_from n ∷ []) (λ u. heads_marks u n (head_view h ∷ [])) (spec.heads_from (suc n) ∷ []) at.old at.new) }
     ensures none { IfNone result (ReadsWhere (WithinOpening second_version) names.now end (spec.heads_from n ∷ []) (λ u. []) (spec.heads_from n ∷ []) at.old at.new) }
     ensures begins { IfNone result (at.new.refused ≡ None → BeginsEntry at.new.left.now) }
-    ensures few { IfSome result (λ h. at.new.refused ≡ None → n ≤ 25000) }
+    ensures few { IfSome result (λ h. at.new.refused ≡ None → n ≤ MOST_ENTRIES) }
 {
     let Some(head) = head(names, end, at, n) else {
         return None;

@@ -11,6 +11,7 @@ ghost use Rattle.cert_reading.specs.Stops.{ReadsWhere, Anywhere, WithinEntry};
 
 use crate::evidence::evidence;
 use crate::uses::Uses;
+use cert_grammar::MOST_PAIRS;
 use cert_model::PairEntry;
 use cert_words::{
     BOUND, CertCount, Lead, Reading, choose, counted_or, number, position, put, text,
@@ -32,7 +33,7 @@ pub fn next_pair(
     ensures last { IfNone result (ReadsWhere (WithinEntry (version_by uses.entry) n at.old.left.now) names.now end (spec.pairs_from (version_by uses.entry) n ∷ []) (λ u. closing) [] at.old at.new) }
     ensures plain { IfSome result (λ p. at.new.refused ≡ None → EvidenceUses (version_by uses.entry) (automata_by uses.entry) (pair_entry_view p).evidence) }
     ensures known { IfSome result (λ p. AreKnown names.now uses.entry end at.new) }
-    ensures few { IfSome result (λ p. at.new.refused ≡ None → n ≤ 20000) }
+    ensures few { IfSome result (λ p. at.new.refused ≡ None → n ≤ MOST_PAIRS) }
 {
     if !counted_or(end, at, b"pair", CertCount::Pairs, n, b"end") {
         choose(end, at, &[Lead::Text(b"\n")]);

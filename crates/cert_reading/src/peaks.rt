@@ -12,6 +12,7 @@ use crate::derivations::derivation;
 use crate::evidence::infeasibility;
 use crate::terms::start_term;
 use crate::uses::Uses;
+use cert_grammar::MOST_REDEXES;
 use cert_model::{NonJoin, Peak, Redex};
 use cert_words::{
     BOUND, CertCount, Lead, Reading, choose, counted_or, either, last_word, number, position, put,
@@ -34,7 +35,7 @@ fn next_redex(
     ensures last { IfNone result (Reads names.now end (spec.redexes_from (version_by uses.entry) n ∷ []) (λ u. closing) [] at.old at.new) }
     ensures plain { IfSome result (λ r. at.new.refused ≡ None → HasUsed (version_by uses.entry) (automata_by uses.entry) (redex_view r).evidence) }
     ensures known { IfSome result (λ r. AreKnown names.now uses.entry end at.new) }
-    ensures few { IfSome result (λ r. at.new.refused ≡ None → n ≤ 20000) }
+    ensures few { IfSome result (λ r. at.new.refused ≡ None → n ≤ MOST_REDEXES) }
 {
     if !counted_or(end, at, b"redex", CertCount::Redexes, n, b"end") {
         choose(end, at, &[Lead::Text(b"\n")]);

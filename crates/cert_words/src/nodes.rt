@@ -34,8 +34,8 @@ pub enum Next {
 // why a node may not have this depth and this number
 fn missed(depth: usize, n: usize, at: usize) -> Option<CertError>
     ensures refused { MatchOption result ((names : NameTable) → verdict names at (is_node depth n) ≡ None) (λ e. (names : NameTable) → verdict names at (is_node depth n) ≡ told e) }
-    ensures shallow { result ≡ None → depth ≤ 400 }
-    ensures few { result ≡ None → n ≤ 10000 }
+    ensures shallow { result ≡ None → depth ≤ MAX_DEPTH }
+    ensures few { result ≡ None → n ≤ MAX_NODES }
 {
     if n > MAX_NODES as usize {
         return Some(CertError::TooMany {
@@ -63,8 +63,8 @@ fn bar_number(word: &[u8]) -> Option<u32>
 pub fn next_node(names: &Names, end: usize, at: &mut Reading, depth: usize, n: usize) -> Node
     ensures read { (i : Item) (new : List ℕ → List Item) (other : List Item) → leads i ≡ spec.name_lead (is_node depth n) new ∷ spec.variable_lead (is_node depth n) other ∷ [] → NodeRead names.now end i depth n new other at.old at.new result }
     ensures found { at.new.refused ≡ None → IsFoundNode names.now result }
-    ensures shallow { at.new.refused ≡ None → depth ≤ 400 }
-    ensures few { at.new.refused ≡ None → n ≤ 10000 }
+    ensures shallow { at.new.refused ≡ None → depth ≤ MAX_DEPTH }
+    ensures few { at.new.refused ≡ None → n ≤ MAX_NODES }
 {
     if at.refused.is_some() {
         return Node::Variable(0);

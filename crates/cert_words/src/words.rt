@@ -150,8 +150,8 @@ fn few(end: usize, at: &mut Reading, least: u32, what: CertCount, most: usize) -
 
 /// The word before a derivation in this nesting.
 pub fn nested(end: usize, at: &mut Reading, bytes: &'static [u8], level: u32)
-    ensures read { (names : NameTable) (i : Item) (new : List Item) → leads i ≡ spec.keyword bytes.now (is_shallow 50 level ∷ []) new ∷ [] → Reads names end (i ∷ []) (λ u. word bytes.now (is_shallow 50 level ∷ []) ∷ []) new at.old at.new }
-    ensures shallow { at.new.refused ≡ None → level ≤ 50 }
+    ensures read { (names : NameTable) (i : Item) (new : List Item) → leads i ≡ spec.keyword bytes.now (is_shallow MOST_NESTING level ∷ []) new ∷ [] → Reads names end (i ∷ []) (λ u. word bytes.now (is_shallow MOST_NESTING level ∷ []) ∷ []) new at.old at.new }
+    ensures shallow { at.new.refused ≡ None → level ≤ MOST_NESTING }
 {
     if at.refused.is_some() {
         return;

@@ -68,7 +68,7 @@ fn find(
 // Counts the overlap where the cursor stands, and goes behind it.
 fn count(here: &mut Cursor, offered: &mut usize) -> Result<(), OverlapError>
     requires candidates { here.old.candidate + 1 < 2 ^ 32 }
-    requires few { offered.old ≤ 20000 }
+    requires few { offered.old ≤ MOST_OVERLAPS }
     ensures { CountAnswers here.old offered.old here.new offered.new result }
 {
     if *offered == MOST_OVERLAPS {

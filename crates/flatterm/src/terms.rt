@@ -11,7 +11,7 @@ use crate::lone::LoneCell;
 use crate::{Body, Cell, Chain, Node};
 use std::alloc::{AllocError, Global};
 use std::ptr;
-use term_core::{NoMemory, Term};
+use term_core::{MAX_NODES, NoMemory, Term};
 
 // A cell that leads nowhere yet.
 fn unlinked(cell: Option<Cell>) -> Node
@@ -39,7 +39,7 @@ fn opened(alloc: Global, cell: Cell) -> Result<Chain, AllocError>
 
 // The cells of a term, which is gone through once.
 pub(crate) fn laid(alloc: Global, t: &Term) -> Result<Chain, NoMemory>
-    requires { math.size (view t.now) ≤ 10000 }
+    requires { math.size (view t.now) ≤ MAX_NODES }
     ensures { IfOk result (λ c. (c.place ≡ 0) × Laid (view t.now) c.items) }
 {
     match t {

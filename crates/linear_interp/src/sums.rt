@@ -5,6 +5,7 @@ ghost use Rattle.cert_model.specs.CertificateView.{linear_entry_view};
 ghost use Rattle.linear_interp.specs.Parts.{IsReady, AreReady, AreSmall, AddAnswers, SymbolAnswers, SumsAnswers};
 
 use cert_model::LinearEntry;
+use interpretations::MOST_COEFFICIENT;
 use std::alloc::Global;
 use term_core::{NoMemory, Term};
 
@@ -14,7 +15,7 @@ const LIMIT: u128 = 1_267_650_600_228_229_401_496_703_205_376;
 // The factor of an argument: one above the limit stands for all above it.
 fn inner_factor(factor: u128, number: u32) -> u128
     requires factor { factor ≤ 2 ^ 100 + 1 }
-    requires number { number ≤ 1000000 }
+    requires number { number ≤ MOST_COEFFICIENT }
     ensures { result ≡ min (factor * number) (2 ^ 100 + 1) }
 {
     (factor * u128::from(number)).min(LIMIT + 1)
@@ -63,7 +64,7 @@ fn add_symbol(
 ) -> bool
     requires factor { factor ≤ 2 ^ 100 + 1 }
     requires numbers { length numbers.now ≡ length args.now + 1 }
-    requires small { (k : ℕ) → slice_index numbers.now k ≤ 1000000 }
+    requires small { (k : ℕ) → slice_index numbers.now k ≤ MOST_COEFFICIENT }
     requires args { AreReady (map linear_entry_view entries.now) (length sums.old) (views args.now) }
     requires sums { AreSmall sums.old }
     requires some { 0 < length sums.old }

@@ -12,7 +12,7 @@ use infeasible::{Refusal, check_infeasible_in};
 use redex_conditions::conditions_at;
 use rule_index::IndexedSystem;
 use std::alloc::Global;
-use term_core::{Rule, Subst};
+use term_core::{MAX_NODES, Rule, Subst};
 
 /// Judges evidence for the conditions of a rule under the values of a match, with new variables from `own` on.
 pub(crate) fn judge_conditions(
@@ -24,7 +24,7 @@ pub(crate) fn judge_conditions(
     evidence: &InfEvidence,
 ) -> Result<(), Refusal>
     requires sound { IsSound sys.now.arities rule.now }
-    requires own { own ≤ 10000 }
+    requires own { own ≤ MAX_NODES }
     ensures { RefutesAnswers (AreJudged sys.now (conditions_under (match_or_new own values) (map condition_view rule.now.conds.items)) (inf_evidence_view evidence.now)) result }
 {
     match conditions_at(alloc, rule, values, own)? {

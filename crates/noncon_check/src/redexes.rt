@@ -17,7 +17,7 @@ use infeasible::Refusal;
 use matching::{Match, match_term};
 use rule_index::{IndexedSystem, PartWalk};
 use std::alloc::Global;
-use term_core::{Rule, Subst, Term};
+use term_core::{MAX_NODES, Rule, Subst, Term};
 use validity::CheckError;
 
 /// What the redexes of an end are judged by: the end's number, the certificate's entries, and how many variables the
@@ -149,7 +149,7 @@ impl<'a> Judge<'a> {
         at: usize,
     ) -> Result<usize, CheckError>
         requires ready { IsReady self.now.sys.now self.now.rules.now self.now.entries.now self.now.own }
-        requires size { size (view end.now) ≤ 10000 }
+        requires size { size (view end.now) ≤ MAX_NODES }
         ensures { PlacesAnswer (IsJudgedAt self.now.sys.now self.now.own (view end.now)) (map redex_view self.now.entries.now) at (redexes self.now.sys.now self.now.which (view end.now)) result }
     {
         let mut next = at;

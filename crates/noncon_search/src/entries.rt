@@ -19,7 +19,7 @@ use matching::{Match, match_term};
 use redex_conditions::conditions_at;
 use rule_index::IndexedSystem;
 use std::alloc::Global;
-use term_core::{NoMemory, Rule, Subst, Term};
+use term_core::{MAX_NODES, NoMemory, Rule, Subst, Term};
 
 /// Makes entries for the redexes of a term: they have its number, and its variables are the numbers below `own`.
 #[derive(Clone, Copy)]
@@ -38,7 +38,7 @@ impl EntryMaker<'_> {
         values: Subst,
     ) -> Result<Option<InfEvidence>, NoMemory>
         requires sound { IsSound self.now.sys.now.arities rule.now }
-        requires own { self.now.own ≤ 10000 }
+        requires own { self.now.own ≤ MAX_NODES }
         ensures { FirstAnswers self.now.sys.now (conditions_under (match_or_new self.now.own values) (map condition_view rule.now.conds.items)) (refutings (length (map condition_view rule.now.conds.items))) result }
     {
         match conditions_at(alloc, rule, values, self.own)? {
@@ -78,7 +78,7 @@ impl EntryMaker<'_> {
         number: u32,
         entries: &mut Vec<Redex>,
     ) -> Result<bool, NoMemory>
-        requires own { self.now.own ≤ 10000 }
+        requires own { self.now.own ≤ MAX_NODES }
         requires number { IsSome (rule_at self.now.sys.now number) }
         ensures { RulesAnswer self.now.sys.now self.now.own self.now.which (parts.part path.now (view part.now)) (number ∷ []) (map redex_view entries.old.items) (map redex_view entries.new.items) result }
     {
@@ -101,7 +101,7 @@ impl EntryMaker<'_> {
         path: &[u32],
         entries: &mut Vec<Redex>,
     ) -> Result<bool, NoMemory>
-        requires own { self.now.own ≤ 10000 }
+        requires own { self.now.own ≤ MAX_NODES }
         ensures { RulesAnswer self.now.sys.now self.now.own self.now.which (parts.part path.now (view part.now)) (rules_at self.now.sys.now (view part.now)) (map redex_view entries.old.items) (map redex_view entries.new.items) result }
     {
         let numbers = self.sys.rules_at(part);

@@ -18,6 +18,7 @@ use prepared_system::PreparedSystem;
 use refuter::Refusal;
 use std::alloc::Global;
 use term_core::NoMemory;
+use unifier_run::MOST_OVERLAPS;
 use validity::CertKind;
 
 /// The rejection where the overlap has no entry; its position becomes that of the rejection.
@@ -58,7 +59,7 @@ pub fn judge_entry(
     judge: &mut JudgeByKind,
 ) -> Result<Option<Rejected>, NoMemory>
     requires next { IsNextOf sys.now next.old }
-    requires few { placed.now.taken ≤ 20000 }
+    requires few { placed.now.taken ≤ MOST_OVERLAPS }
     requires short { IsPairShort (pair_entry_view placed.now.entry.now).evidence }
     requires knows { IsKnown judge.old sys.now }
     ensures knows { IsKnown judge.new sys.now }

@@ -8,7 +8,7 @@ ghost use Rattle.term_core.specs.Prelude.{view, condition_view};
 ghost use Rattle.redex_conditions.specs.Judged.{value_or_new, match_or_new, IsOfSystem, InstanceAnswers, InstancesAnswer, ConditionsAnswer};
 
 use std::alloc::Global;
-use term_core::{Cond, NoMemory, Rule, Subst, Term, TermError};
+use term_core::{Cond, MAX_NODES, NoMemory, Rule, Subst, Term, TermError};
 
 // Gives a variable that has no value the number `own + k`.
 fn complete_one(values: &mut Subst, own: u32, k: u32) -> Result<(), NoMemory>
@@ -64,7 +64,7 @@ pub fn conditions_at(
     own: u32,
 ) -> Result<Option<Vec<Cond>>, NoMemory>
     requires sound { IsOfSystem rule.now }
-    requires own { own ≤ 10000 }
+    requires own { own ≤ MAX_NODES }
     ensures { ConditionsAnswer (conditions_under (match_or_new own values) (map condition_view rule.now.conds.items)) result }
 {
     complete(&mut values, own, rule.vars)?;

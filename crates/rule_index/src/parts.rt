@@ -7,7 +7,7 @@ ghost use Rattle.rule_index.specs.Levels.{AreLevels, AreArgumentsOf, Leads, leve
 
 use std::alloc::Global;
 use std::marker::Model;
-use term_core::{NoMemory, Term};
+use term_core::{MAX_NODES, NoMemory, Term};
 
 // What a walk gives before it goes on beside the part given last.
 #[derive(Debug, Drop, Clone, Copy)]
@@ -90,7 +90,7 @@ fn next_argument<'a>(path: &mut Vec<u32>, later: &mut Vec<&'a [Term]>) -> Option
 impl<'a> PartWalk<'a> {
     /// The walk over a term, before its first part.
     pub fn new(alloc: Global, term: &'a Term) -> PartWalk<'a>
-        requires { size (view term.now) ≤ 10000 }
+        requires { size (view term.now) ≤ MAX_NODES }
         ensures { result ≡ walk_of (view term.now) }
     {
         PartWalk {

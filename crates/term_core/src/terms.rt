@@ -100,7 +100,7 @@ pub fn fits(t: &Term) -> bool
 
 // The nodes of a term that has few enough.
 fn count(t: &Term) -> u32
-    requires { math.size (view t.now) ≤ 10000 }
+    requires { math.size (view t.now) ≤ MAX_NODES }
     ensures { result ≡ math.size (view t.now) }
 {
     match t {
@@ -124,7 +124,7 @@ pub fn size(t: &Term) -> u32
 }
 
 fn levels(t: &Term) -> u32
-    requires { math.depth (view t.now) ≤ 400 }
+    requires { math.depth (view t.now) ≤ MAX_DEPTH }
     ensures { result ≡ math.depth (view t.now) }
 {
     match t {

@@ -10,11 +10,11 @@ use cert_model::Redex;
 use lens_pages::{Naming, Page, Piece};
 use matching::{Match, match_term};
 use redex_conditions::conditions_at;
-use term_core::{Cond, Rule, Subst, Term, subterm};
+use term_core::{Cond, MAX_NODES, Rule, Subst, Term, subterm};
 
 // A number above those of all variables, or 10,000 where these are larger.
 fn above(t: &Term) -> u32
-    ensures { result ≤ 10000 }
+    ensures { result ≤ MAX_NODES }
 {
     match t {
         Term::Var(x) => x.saturating_add(1).min(10_000),
@@ -65,7 +65,7 @@ fn tell_here(page: &mut Page<'_>, conds: &[Cond]) {
 // Tells that the conditions under these values are never met.
 fn tell_conditions(page: &mut Page<'_>, own: u32, redex: &Redex, rule: &Rule, values: Subst)
     requires sound { IsOfSystem rule.now }
-    requires own { own ≤ 10000 }
+    requires own { own ≤ MAX_NODES }
 {
     let made = conditions_at(page.alloc, rule, values, own);
     let Some(found) = page.got(made) else {

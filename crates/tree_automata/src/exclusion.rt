@@ -9,7 +9,7 @@ ghost use Rattle.refuter.specs.Answers.{RefutesAnswers};
 ghost use Rattle.automaton_runs.specs.Choices.{AreChoices};
 
 use crate::accepts::is_one_accepting;
-use crate::width::MAX_CHOICES;
+use crate::width::MOST_CHOICES;
 use automaton_runs::{
     AutomatonIndex, Choices, has_more_choices, occurrences, reached_by_occurrences,
 };
@@ -53,7 +53,7 @@ pub(crate) fn judge_exclusion(
     ensures { RefutesAnswers (λ o. IsExclusionJudged index.now.symbols (automaton_view a.now) (view t.now) o) result }
 {
     let length = occurrences(alloc, t)?.len();
-    if has_more_choices(a.states, length, MAX_CHOICES) {
+    if has_more_choices(a.states, length, MOST_CHOICES) {
         return Err(Refusal::Reason(EvidenceReason::AutoWideRight));
     }
     let choices = Choices::new(alloc, index, t)?;

@@ -3,7 +3,7 @@ ghost use Rattle.cert_model.specs.EvidenceView.{automaton_view};
 ghost use Rattle.refuter.specs.Answers.{RefutesAnswers};
 ghost use Rattle.tree_automata.specs.Open.{IsWidthJudged};
 
-pub(crate) use automata::MOST_CHOICES as MAX_CHOICES;
+pub(crate) use automata::MOST_CHOICES;
 use automaton_runs::{has_more_choices, occurrences};
 use cert_model::{Automaton, EvidenceReason};
 use refuter::Refusal;
@@ -18,7 +18,7 @@ pub(crate) fn judge_widths(alloc: Global, sys: &System, a: &Automaton) -> Result
     'rules: for rule in sys.rules() {
         number += 1;
         let names = occurrences(alloc, &rule.left)?;
-        if has_more_choices(a.states, names.len(), MAX_CHOICES) {
+        if has_more_choices(a.states, names.len(), MOST_CHOICES) {
             return Err(Refusal::Reason(EvidenceReason::AutoWide { rule: number }));
         }
     }

@@ -6,7 +6,7 @@ ghost use Rattle.term_core.specs.View.{view, views};
 ghost use Rattle.unravel.specs.SideView.{side_view, DoesPartFit, numbered};
 
 use std::alloc::Global;
-use term_core::{NoMemory, Term, depth, size};
+use term_core::{MAX_DEPTH, MAX_NODES, NoMemory, Term, depth, size};
 
 /// A side: a term of a rule, or the auxiliary symbol that keeps a term of a condition with the known variables.
 #[derive(Clone, Copy, Debug)]
@@ -76,7 +76,7 @@ fn add_kept(term: &Term, known: &[u32], order: &mut Vec<u32>) -> Result<(), NoMe
 #[tactic(auto, using(crate::proofs::Kept::kept_fits, crate::proofs::Kept::fits_kept))]
 fn kept_fits(term: &Term, known: &[u32]) -> bool
     requires { math.Fits (view term.now) }
-    ensures { IsTrue result ↔ ((math.size (view term.now) + length known.now < 10000) × (math.depth (view term.now) < 400)) }
+    ensures { IsTrue result ↔ ((math.size (view term.now) + length known.now < MAX_NODES) × (math.depth (view term.now) < MAX_DEPTH)) }
 {
     if known.len() >= 10_000 {
         return false;
