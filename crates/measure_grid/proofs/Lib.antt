@@ -3,4 +3,5 @@ pub mod Chosen
 pub mod Dead
 pub mod Grid
 pub mod Pruned
+pub mod PrunedTrees
 pub mod Shape

@@ -1,20 +1,19 @@
 -- The pruned grid against the grid.
-use Rattle.std.proofs.Common.{ℕ, zero, suc, ◌≡◌, ◌<◌, ◌≤◌, inl, inr, List, [], ◌∷◌, ◌++◌, map, flat_map, length, sym, ap, ◌∙◌, subst, arith}
-use Rattle.std.proofs.lemmas.List.{length-map}
+use Rattle.std.proofs.Common.{ℕ, zero, suc, ◌≡◌, ◌<◌, ◌≤◌, List, [], ◌∷◌, ◌++◌, map, flat_map, length, sym, ◌∙◌}
 use Rattle.rewriting.specs.Rules.{System}
 use Rattle.certificates.specs.Certificates.{LinearEntry, MeasureCertificate}
 use Rattle.interpretations.specs.Linear.{Interpretation}
-use Rattle.first_found.specs.Items.{GivesNothing, NoneGives, cost_of, IsFirst, one}
+use Rattle.first_found.specs.Items.{GivesNothing, NoneGives, IsFirst, one}
 use Rattle.first_found.specs.Trees.{leaves}
-use Rattle.first_found.proofs.Items.{none_append, cost_of_ones}
-use Rattle.first_found.proofs.Lists.{none_mapped, first_mapped}
-use Rattle.first_found.proofs.Trees.{barren_or_first, barren_once, below_once, stops_in_barren, stops_before_first, there_below, barren_within, nothing_below, place_below}
+use Rattle.first_found.proofs.Items.{none_append}
 use Rattle.measure_grid.specs.Grid.{columns, grid, GivesMeasure}
 use Rattle.measure_grid.specs.Dead.{IsDead}
 use Rattle.measure_grid.specs.Pruned.{Prefix, extended, extensions, IsDeadPrefix, PrefixGives, start, IsPrunedFirst, IsPrunedBarren, PrunedStops, IsPrunedWhole}
 use Rattle.measure_grid.specs.Laws.{EndsOnce}
 use Rattle.measure_grid.proofs.Dead.{dead_more, dead_or_good}
 use Rattle.measure_grid.proofs.Grid.{node, leaf, leaves_are, columns_full}
+use Rattle.measure_grid.proofs.PrunedTrees as trees
+use Rattle.measure_grid.proofs.PrunedTrees.{ComesToOne, tree_comes_to_one, stopped_before_whole, first_of_list, none_of_list}
 
 module _ (sys : System) where
   abbrev Gives : Prefix → MeasureCertificate → Type 0
@@ -47,39 +46,24 @@ module _ (sys : System) where
   leaves_grid = leaves_are (columns sys) []
 
   pub firsts_are : (m : MeasureCertificate) (n : ℕ) → IsPrunedFirst sys m n → (k : ℕ) × IsFirst one (GivesMeasure sys) (grid sys) m k × (n ≤ k)
-  firsts_are m n f =
-      let at = place_below extensions (IsDeadPrefix sys) Gives empty (length (columns sys)) m (start sys) n (columns_full sys []) f in
-      (at.0, first_mapped (leaf []) Gives (GivesMeasure sys) (λ a b g. g) (λ a b g. g) (grid sys) m at.0 (subst (λ z. IsFirst one Gives z m at.0) leaves_grid at.1), at.2)
+  firsts_are =
+      first_of_list extensions (IsDeadPrefix sys) Gives (length (columns sys)) (start sys) (leaf []) (GivesMeasure sys) (λ a b g. g) (λ a b g. g) (grid sys) leaves_grid (columns_full sys []) empty
 
   pub barren_is : (n : ℕ) → IsPrunedBarren sys n → NoneGives (GivesMeasure sys) (grid sys) × (n ≤ length (grid sys))
-  barren_is n h =
-      let bare = nothing_below extensions (IsDeadPrefix sys) Gives empty (length (columns sys)) (start sys) n h in
-      let most = barren_within extensions (IsDeadPrefix sys) Gives (length (columns sys)) (start sys) n (columns_full sys []) h in
-      let units : cost_of one (leaves extensions (length (columns sys)) (start sys)) ≡ length (grid sys) =
-      cost_of_ones (leaves extensions (length (columns sys)) (start sys)) ∙ ap (λ (z : List Prefix). length z) leaves_grid ∙ length-map (grid sys) (leaf []) in (
-        none_mapped (leaf []) Gives (GivesMeasure sys) (λ a b g. g) (grid sys) (subst (NoneGives Gives) leaves_grid bare),
-        omega (arith, most, units),
-      )
+  barren_is =
+      none_of_list extensions (IsDeadPrefix sys) Gives (length (columns sys)) (start sys) (leaf []) (GivesMeasure sys) (λ a b g. g) (λ a b g. g) (grid sys) leaves_grid (columns_full sys []) empty
 
-  pub pruned_once : (m k : MeasureCertificate) (i j : ℕ) → IsPrunedFirst sys m i → IsPrunedFirst sys k j → (i ≡ j) × (m ≡ k)
-  pruned_once m k i j f g =
-      let same = below_once extensions (IsDeadPrefix sys) Gives (length (columns sys)) m k (start sys) i j f g in (same.0, same.1.1.0 ∙ sym same.1.2.0)
+  pub comes_to_one : ComesToOne (IsPrunedFirst sys) (IsPrunedBarren sys)
+  comes_to_one = tree_comes_to_one extensions (IsDeadPrefix sys) Gives (length (columns sys)) (start sys) (λ p m k x y. x.0 ∙ sym y.0)
 
   pub first_or_barren : (m : MeasureCertificate) (i j : ℕ) → IsPrunedBarren sys i → IsPrunedFirst sys m j → ⊥
-  first_or_barren m i j h f = barren_or_first extensions (IsDeadPrefix sys) Gives (length (columns sys)) m (start sys) i j h f
-
-  pub whole_once : (n m : ℕ) → IsPrunedWhole sys n → IsPrunedWhole sys m → n ≡ m
-  whole_once n m (inl (a, f)) (inl (b, g)) = (pruned_once a b n m f g).0
-  whole_once n m (inl (a, f)) (inr k) = absurd (first_or_barren a m n k f)
-  whole_once n m (inr h) (inl (b, g)) = absurd (first_or_barren b n m h g)
-  whole_once n m (inr h) (inr k) = barren_once extensions (IsDeadPrefix sys) Gives (length (columns sys)) (start sys) n m h k
-
-  pub whole_there : ((n : ℕ) → IsPrunedWhole sys n → ⊥) → ⊥
-  whole_there none = there_below extensions (IsDeadPrefix sys) Gives (length (columns sys)) (start sys) (λ n h. none n (inr h)) (λ m n f. none n (inl (m, f)))
+  first_or_barren = comes_to_one.first_or_barren
 
   pub ends_once : EndsOnce sys
-  ends_once = record { one_at_most = whole_once; not_none = whole_there }
+  ends_once = record { one_at_most = trees.whole_once (IsPrunedFirst sys) (IsPrunedBarren sys) comes_to_one; not_none = comes_to_one.not_none }
+
+  pub whole_once : (n m : ℕ) → IsPrunedWhole sys n → IsPrunedWhole sys m → n ≡ m
+  whole_once = ends_once.one_at_most
 
   pub stops_before_whole : (n m : ℕ) → PrunedStops sys n → IsPrunedWhole sys m → n < m
-  stops_before_whole n m s (inl (a, f)) = let less = stops_before_first extensions (IsDeadPrefix sys) Gives (length (columns sys)) a (start sys) n m s f in omega (arith, less)
-  stops_before_whole n m s (inr h) = let less = stops_in_barren extensions (IsDeadPrefix sys) Gives (length (columns sys)) (start sys) n m s h in omega (arith, less)
+  stops_before_whole = stopped_before_whole extensions (IsDeadPrefix sys) Gives (length (columns sys)) (start sys)

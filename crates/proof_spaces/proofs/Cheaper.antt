@@ -1,60 +1,21 @@
 -- A search that tries nothing behind dead prefixes is one that tries each measure, behind the steps, too.
-use Rattle.std.proofs.Common.{ℕ, ◌+◌, ◌≤◌, List, [], ◌∷◌, inl, inr, refl, subst, arith}
+use Rattle.std.proofs.Common.{ℕ, ◌+◌, ◌≤◌, List, [], ◌∷◌, inl, inr, refl, arith}
 use Rattle.rewriting.specs.Rules.{System}
 use Rattle.certificates.specs.Certificates.{Simplification, Certificate, simplified_certificate}
 use Rattle.cops_names.specs.NameTable.{NameTable}
-use Rattle.first_found.specs.Spaces.{Space, IsBarren, Ending, found, nothing}
+use Rattle.first_found.specs.Spaces.{Space, Ending, found, nothing}
 use Rattle.search_spaces.specs.Texts.{HasText}
 use Rattle.quasi_space.specs.Endings.{MayEndLast}
 use Rattle.quasi_space.specs.Measures.{each_measure, pruned_measures}
 use Rattle.quasi_space.specs.Quasi.{quasi_space, quasi_space_by}
-use Rattle.quasi_space.proofs.AllSpaces.{each_searchable, pruned_searchable, pruned_search, all_pruned_search}
+use Rattle.quasi_space.proofs.AllSpaces.{quasi_cheaper, all_pruned_search}
 use Rattle.quasi_space.proofs.Cheaper.{IsCheaper, cheaper_search, cheaper_behind}
 use Rattle.proof_spaces.specs.Combined.{only_found}
 use Rattle.proof_spaces.specs.Proofs.{with_steps, two_with_steps, three_with_steps, if_some}
 use Rattle.proof_spaces.specs.Laws.{PrunedProofsAreProofs}
 use Rattle.proof_spaces.proofs.Costs.{spaces_cost}
 
-module _ (names : NameTable) (sys : System) where
-  abbrev Pruned : Space Certificate
-  Pruned = quasi_space_by (pruned_measures sys) names sys
-
-  abbrev Whole : Space Certificate
-  Whole = quasi_space names sys
-
-  -- where something is found, the pruned measures end with that
-  found_cost : (c : Certificate) (n : ℕ) → Pruned.Finds c n → Pruned.Costs n
-  found_cost c n f = inl (f.overlaps, f.is_open, (f.units, inl (f.measure, f.first), f.up_to))
-
-  dearer_found : (c : Certificate) (n : ℕ) → Pruned.Finds c n → (k : ℕ) × Whole.Finds c k × (n ≤ k)
-  dearer_found c n f = pruned_search names sys 0 n (found c) (n, f, omega arith)
-
-  barren_whole : IsBarren Pruned → IsBarren Whole
-  barren_whole b = (pruned_search names sys 0 0 nothing (b, λ n x. omega arith)).0
-
-  cheaper_found : (c : Certificate) (n : ℕ) → Whole.Finds c n → ((k : ℕ) → Pruned.Finds c k → k ≤ n → ⊥) → ⊥
-  cheaper_found c n f none = barren_whole bare c n f
-    where
-      bare : IsBarren Pruned
-      bare d k g =
-          let at = dearer_found d k g in
-          let same = (each_searchable names sys).finds_once d c at.0 n at.1 f in
-          let units = same.0 in
-          let most = at.2 in none k (subst (λ z. Pruned.Finds z k) same.1 g) (omega (arith, units, most))
-
-  cheaper_cost : (n : ℕ) → Whole.Costs n → ((k : ℕ) → Pruned.Costs k → k ≤ n → ⊥) → ⊥
-  cheaper_cost n x none =
-      let bare : IsBarren Pruned = λ c k g.
-      (let at = dearer_found c k g in
-      let low = at.2 in
-      let most = (each_searchable names sys).finds_within c at.0 n at.1 x in none k (found_cost c k g) (omega (arith, low, most))) in
-      (pruned_searchable names sys).has_cost (λ k y.
-      none k y ((pruned_search names sys 0 k nothing (bare, λ j z. (let same = (pruned_searchable names sys).costs_once k j y z in omega (arith, same)))).1 n x))
-
-  quasi_cheaper : IsCheaper Pruned Whole
-  quasi_cheaper = record { dearer_found = dearer_found; cheaper_found = cheaper_found; cheaper_cost = cheaper_cost }
-
--- so it is in another form
+-- what is cheaper is so in another form
 module _ {C D : Type 0} (form : C → D) (InPlace : D → Type 0) (S T : Space C) (h : IsCheaper S T) where
   only_dearer : (d : D) (n : ℕ) → (only_found form InPlace S).Finds d n → (k : ℕ) × (only_found form InPlace T).Finds d k × (n ≤ k)
   only_dearer d n (c, f, e, place) = let at = h.dearer_found c n f in (at.0, (c, at.1, e, place), at.2)
@@ -70,8 +31,8 @@ module _ {C D : Type 0} (form : C → D) (InPlace : D → Type 0) (S T : Space C
 module _ (names : NameTable) (steps : List Simplification) (last : System) where
   three_cheaper : IsCheaper (three_with_steps pruned_measures names steps last) (three_with_steps each_measure names steps last)
   three_cheaper =
-      cheaper_behind (two_with_steps names steps last) (with_steps names steps (Pruned names last)) (with_steps names steps (Whole names last))
-      (only_cheaper (simplified_certificate steps) (HasText names) (Pruned names last) (Whole names last) (quasi_cheaper names last))
+      cheaper_behind (two_with_steps names steps last) (with_steps names steps (quasi_space_by (pruned_measures last) names last)) (with_steps names steps (quasi_space names last))
+      (only_cheaper (simplified_certificate steps) (HasText names) (quasi_space_by (pruned_measures last) names last) (quasi_space names last) (quasi_cheaper names last))
 
   pub three_search : (left paid : ℕ) (e : Ending Certificate) → MayEndLast (three_with_steps pruned_measures names steps last) left paid e
       → MayEndLast (three_with_steps each_measure names steps last) left paid e

@@ -6,7 +6,7 @@ use Rattle.cops_names.specs.NameTable.{NameTable}
 use Rattle.search_spaces.specs.OrthoThenPeak.{ortho_then_peak_space}
 use Rattle.search_spaces.specs.Laws.{IsSearchable}
 use Rattle.search_spaces.proofs.OrthoThenPeak.{whole_searchable, both_searchable}
-use Rattle.quasi_space.proofs.PrunedMeasures.{firsts_are, whole_there}
+use Rattle.quasi_space.proofs.PrunedMeasures.{firsts_are, ends_once}
 use Rattle.quasi_space.specs.Measures.{MeasureTrials, each_measure, pruned_measures}
 use Rattle.quasi_space.specs.Quasi.{all_items_cost, IsQuasiFound, IsQuasiCost, quasi_space, quasi_space_by}
 use Rattle.quasi_space.specs.AllSpaces.{all_spaces_by, all_spaces, pruned_spaces}
@@ -59,7 +59,7 @@ module _ (names : NameTable) (sys : System) where
 
   pruned_found : (c : Certificate) (n : ℕ) → IsQuasiFound (each_measure sys) names sys c n
       → ((k : ℕ) → IsQuasiFound (pruned_measures sys) names sys c k → k ≤ n → ⊥) → ⊥
-  pruned_found c n f none = whole_there sys (λ u w. by_units u (same_first sys f.measure f.units u f.first w))
+  pruned_found c n f none = (ends_once sys).not_none (λ u w. by_units u (same_first sys f.measure f.units u f.first w))
     where
       by_units : (u : ℕ) → (pruned_measures sys).First f.measure u × (u ≤ f.units) → ⊥
       by_units u (first, most) =
@@ -68,9 +68,9 @@ module _ (names : NameTable) (sys : System) where
   pruned_cost : (n : ℕ) → IsQuasiCost (each_measure sys) sys n → ((k : ℕ) → IsQuasiCost (pruned_measures sys) sys k → k ≤ n → ⊥) → ⊥
   pruned_cost n (inr (bare, e)) none = none 0 (inr (bare, refl)) (omega arith)
   pruned_cost n (inl (os, h, (u, x, e))) none =
-      whole_there sys (λ w y. (let less = whole_within sys w y in none (all_items_cost sys os + w) (inl (os, h, (w, y, refl))) (omega (arith, less, x, e))))
+      (ends_once sys).not_none (λ w y. (let less = whole_within sys w y in none (all_items_cost sys os + w) (inl (os, h, (w, y, refl))) (omega (arith, less, x, e))))
 
-  quasi_cheaper : IsCheaper (quasi_space_by (pruned_measures sys) names sys) (quasi_space names sys)
+  pub quasi_cheaper : IsCheaper (quasi_space_by (pruned_measures sys) names sys) (quasi_space names sys)
   quasi_cheaper = record { dearer_found = whole_found; cheaper_found = pruned_found; cheaper_cost = pruned_cost }
 
 pub pruned_search : PrunedSearchesAreSearches

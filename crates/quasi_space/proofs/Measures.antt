@@ -8,7 +8,7 @@ use Rattle.first_found.specs.Items.{IsFirst, one}
 use Rattle.first_found.proofs.Items.{first_once, first_within, not_both, cost_of_ones}
 use Rattle.quasi_space.specs.MeasureLists.{Trial, try_interpretation, try_precedence, trials, GivesMeasure}
 use Rattle.quasi_space.specs.PrunedMeasures.{IsPrunedFirst, IsPrunedWhole}
-use Rattle.quasi_space.proofs.PrunedMeasures.{firsts_are, barren_is, pruned_once, first_or_barren, whole_once, whole_there}
+use Rattle.quasi_space.proofs.PrunedMeasures.{firsts_are, barren_is, comes_to_one, ends_once}
 use Rattle.quasi_space.specs.Measures.{MeasureTrials, each_measure, pruned_measures}
 
 -- what is found first is good and one, and the units are at most those of the whole, which are one number
@@ -46,16 +46,16 @@ module _ (sys : System) where
       }
 
   pruned_within : (m : MeasureCertificate) (i j : ℕ) → IsPrunedFirst sys m i → IsPrunedWhole sys j → i ≤ j
-  pruned_within m i j f (inl (k, g)) = let same = (pruned_once sys m k i j f g).0 in omega (arith, same)
-  pruned_within m i j f (inr h) = absurd (first_or_barren sys m j i h f)
+  pruned_within m i j f (inl (k, g)) = let same = ((comes_to_one sys).first_once m k i j f g).0 in omega (arith, same)
+  pruned_within m i j f (inr h) = absurd ((comes_to_one sys).first_or_barren m j i h f)
 
   pub pruned_tried : AreTrials sys (pruned_measures sys)
   pruned_tried =
       record {
         found_good = λ m n f. measure_good (firsts_are sys m n f).1.item m (firsts_are sys m n f).1.gives;
-        found_once = pruned_once sys;
-        all_once = whole_once sys;
-        not_none = whole_there sys;
+        found_once = (comes_to_one sys).first_once;
+        all_once = (ends_once sys).one_at_most;
+        not_none = (ends_once sys).not_none;
         within = pruned_within;
       }
 
