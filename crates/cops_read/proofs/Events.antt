@@ -21,13 +21,19 @@ Table = List (List ℕ × ℕ)
 abbrev Names : Type 0
 Names = List (List ℕ)
 
+pub uses_after : (side : Side) (n : ℕ) (xs ys : List Spot) → uses_from side n (xs ++ ys) ≡ uses_from side n xs ++ uses_from side (n + length xs) ys
+uses_after side n [] ys = ap (λ (k : ℕ). uses_from side k ys) (let e : n ≡ n + 0 = omega arith in e)
+uses_after side n (x ∷ xs) ys =
+    ap (λ (es : List Event). use_of record { side = side; spot = x; number = n } ∷ es)
+    (uses_after side (suc n) xs ys ∙ ap (λ (k : ℕ). uses_from side (suc n) xs ++ uses_from side k ys) (let e : suc n + length xs ≡ n + suc (length xs) = omega arith in e))
+
 module _ (block : Names) where
   symbols_after : (table : Table) (xs ys : List Event) → symbols_used block table (xs ++ ys) ≡ symbols_used block (symbols_used block table xs) ys
   symbols_after table [] ys = refl
   symbols_after table (bar_at at ∷ xs) ys = symbols_after table xs ys
   symbols_after table (use_of u ∷ xs) ys = symbols_after (if is_among block u.spot.node.name.text then table else with_symbol table u.spot.node.name.text u.spot.node.arguments) xs ys
 
-  variables_after : (rule : ℕ) (names : Names) (xs ys : List Event) → variables_used block rule names (xs ++ ys) ≡ variables_used block rule (variables_used block rule names xs) ys
+  pub variables_after : (rule : ℕ) (names : Names) (xs ys : List Event) → variables_used block rule names (xs ++ ys) ≡ variables_used block rule (variables_used block rule names xs) ys
   variables_after rule names [] ys = refl
   variables_after rule names (bar_at at ∷ xs) ys = variables_after rule names xs ys
   variables_after rule names (use_of u ∷ xs) ys =
@@ -119,12 +125,6 @@ module _ (block : Names) where
           ap (λ (b : Bool). if b then with_name names u.spot.node.name.text else names) (same_rule u.side.rule (is_among block u.spot.node.name.text) ∙ free);
       others = λ r names h. rw h refl;
     }
-
-    pub uses_after : (side : Side) (n : ℕ) (xs ys : List Spot) → uses_from side n (xs ++ ys) ≡ uses_from side n xs ++ uses_from side (n + length xs) ys
-    uses_after side n [] ys = ap (λ (k : ℕ). uses_from side k ys) (let e : n ≡ n + 0 = omega arith in e)
-    uses_after side n (x ∷ xs) ys =
-        ap (λ (es : List Event). use_of record { side = side; spot = x; number = n } ∷ es)
-        (uses_after side (suc n) xs ys ∙ ap (λ (k : ℕ). uses_from side (suc n) xs ++ uses_from side k ys) (let e : suc n + length xs ≡ n + suc (length xs) = omega arith in e))
 
     mutual
       pub spots_length : (depth argument : ℕ) (p : Phrase) → length (spots depth argument p) ≡ nodes p

@@ -42,6 +42,9 @@ module _ {C : Type 0} where
   no_later None at o h = h
   no_later (Some cause) at o h = cc
 
+  pub nothing_first : (c : Option C) (at : ℕ) (o : Option (C × ℕ)) → c ≡ None → o ≡ None → first_or c at o ≡ None
+  nothing_first c at o h g = ap (λ (c : Option C). first_or c at o) h ∙ g
+
 -- where one call hands on the error of another
 module _ {A E : Type 0} (P : Result A E → Type 0) where
   pub handed : (e : E) (r : Result A E) → IsErrAnd r (λ d. d ≡ e) → P (Err e) → P r

@@ -64,12 +64,16 @@ symbol_kept table u h small t = by (number_of table u.spot.node.name.text) refl
           arguments = All-push (λ (s : List ℕ × ℕ). s.1 ≤ 20) table (u.spot.node.name.text, u.spot.node.arguments) t.arguments small;
         }
 
-variable_kept : (names : List (List ℕ)) (u : Use) → variable_cause names u ≡ None → length names ≤ 100 → length (with_name names u.spot.node.name.text) ≤ 100
-variable_kept names u h few = by (is_among names u.spot.node.name.text) refl
+-- one name more, where there is room if it is new
+pub name_kept : (names : List (List ℕ)) (name : List ℕ) → length names ≤ 100 → (is_among names name ≡ false → length names < 100) → length (with_name names name) ≤ 100
+name_kept names name few room = by (is_among names name) refl
   where
-    by : (b : Bool) → is_among names u.spot.node.name.text ≡ b → length (if b then names else (names ++ u.spot.node.name.text ∷ [])) ≤ 100
+    by : (b : Bool) → is_among names name ≡ b → length (if b then names else (names ++ name ∷ [])) ≤ 100
     by true e = few
-    by false e = let less = few_variables names u h e in omega (arith, length-append names (u.spot.node.name.text ∷ []))
+    by false e = let less = room e in omega (arith, length-append names (name ∷ []))
+
+variable_kept : (names : List (List ℕ)) (u : Use) → variable_cause names u ≡ None → length names ≤ 100 → length (with_name names u.spot.node.name.text) ≤ 100
+variable_kept names u h few = name_kept names u.spot.node.name.text few (few_variables names u h)
 
 module _ (block : List (List ℕ)) where
   within : (table : List (List ℕ × ℕ)) (names : List (List ℕ)) (u : Use) → cause_at block table names u ≡ None → IsWithin u

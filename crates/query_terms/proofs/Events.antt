@@ -8,10 +8,10 @@ use Rattle.cops_read.specs.Uses.{Spot, spots, spots_of_all, Side, side_of, Use, 
 use Rattle.cops_read.specs.Refusals.{variables_used, first_or}
 use Rattle.cops_read.specs.Steps.{nodes}
 use Rattle.cops_read.proofs.Firsts.{or_assoc, or_same, none_first, none_then, first_or_or, no_cause}
-use Rattle.cops_read.proofs.Events.{uses_after, spots_length}
+use Rattle.cops_read.proofs.Events.{uses_after, variables_after, spots_length}
 use Rattle.query_text.specs.Grammar.{QueryTree, conditions_of}
 use Rattle.query_text.specs.Meaning.{QueryCause, cause_at, first_refusal, variables_of, refusal_of}
-use Rattle.query_text.proofs.Facts.{clear, used_both}
+use Rattle.query_text.proofs.Facts.{clear}
 use Rattle.query_terms.specs.Steps.{term_refusal, terms_refusal}
 use Rattle.query_terms.specs.Conditions.{side_refusal, condition_refusal, conditions_refusal}
 
@@ -44,9 +44,9 @@ module _ (block : Names) (table : List (List ℕ × ℕ)) where
         let names = variables_used block 1 [] front in
         refusal_after front xs ys
         ∙ or_same (first_refusal block table front xs) (f names) (first_refusal block table (front ++ xs) ys) (g (v names)) (p.refusal front)
-        (λ h. q.refusal (front ++ xs) ∙ ap g (used_both block table front xs [] ∙ p.variables names h));
+        (λ h. q.refusal (front ++ xs) ∙ ap g (variables_after block 1 [] front xs ∙ p.variables names h));
     variables = λ names h.
-        used_both block table xs ys names ∙ ap (λ (x : Names). variables_used block 1 x ys) (p.variables names (none_first _ _ h)) ∙ q.variables (v names) (none_then _ _ h);
+        variables_after block 1 names xs ys ∙ ap (λ (x : Names). variables_used block 1 x ys) (p.variables names (none_first _ _ h)) ∙ q.variables (v names) (none_then _ _ h);
   }
 
   part_none : IsPart [] (λ names. None) (λ names. names)
@@ -108,7 +108,7 @@ module _ (block : Names) (table : List (List ℕ × ℕ)) where
         let later = uses_from (side_at k) (suc (before + nodes t)) (spots_of_all depth (suc argument) ts) in
         let number : suc before + length (spots depth argument t) ≡ suc (before + nodes t) = omega (arith, spots_length block true depth argument t) in
         let split : first ++ later ≡ uses_from (side_at k) (suc before) (spots_of_all depth argument (more t ts)) =
-        sym (uses_after block true (side_at k) (suc before) (spots depth argument t) (spots_of_all depth (suc argument) ts)
+        sym (uses_after (side_at k) (suc before) (spots depth argument t) (spots_of_all depth (suc argument) ts)
         ∙ ap (λ (m : ℕ). first ++ uses_from (side_at k) m (spots_of_all depth (suc argument) ts)) number) in
         let whole = part_then first later (λ names. term_refusal block table names k depth before t) (λ names. terms_refusal block table names k depth (before + nodes t) ts)
         (λ names. with_variables block names t) (λ names. with_all_variables block names ts) (part_term k depth argument before t) (part_terms k depth (suc argument) (before + nodes t) ts) in
