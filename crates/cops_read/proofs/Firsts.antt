@@ -30,6 +30,11 @@ module _ {C : Type 0} where
   first_or_or None at a b = refl
   first_or_or (Some cause) at a b = refl
 
+  -- equal others where there is no cause
+  pub first_same : (c : Option C) (at : ℕ) (a b : Option (C × ℕ)) → (c ≡ None → a ≡ b) → first_or c at a ≡ first_or c at b
+  first_same None at a b h = h refl
+  first_same (Some cause) at a b h = refl
+
   pub first_stays : (c : Option C) (at : ℕ) (others : Option (C × ℕ)) (r : C × ℕ) → first_or c at None ≡ Some r → first_or c at others ≡ Some r
   first_stays None at others r h = cc
   first_stays (Some cause) at others r h = h

@@ -13,7 +13,8 @@ use Rattle.cops_read.specs.Meaning.{with_symbol, sides, phrases_of_rule, variabl
 use Rattle.cops_read.specs.Meaning.{rule_variables, IsTermOf, AreTermsOf, AreConditionsOf, IsRuleOf, AreRulesOf}
 use Rattle.cops_read.specs.Uses.{Side, side_of, Use}
 use Rattle.cops_read.specs.Refusals.{limit_cause, variable_cause, symbol_cause, known_symbol_cause, arity_in, cause_at}
-use Rattle.cops_read.specs.Steps.{nodes, all_nodes, use_at, term_refusal, terms_refusal}
+use Rattle.cops_read.specs.Walks.{nodes, all_nodes, use_at}
+use Rattle.cops_read.specs.Steps.{term_refusal, terms_refusal}
 use Rattle.cops_read.specs.RuleSteps.{side_refusal, condition_refusal, conditions_refusal, bar_refusal, rule_refusal, rules_refusal}
 use Rattle.cops_read.specs.Limits.{IsSmall, IsAllowed, IsWithinLimits}
 use Rattle.cops_read.specs.File.{IsSystemOf}

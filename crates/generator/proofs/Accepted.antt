@@ -14,7 +14,8 @@ use Rattle.cops_read.specs.Meaning.{phrases_of_rule, sides, rule_variables, with
 use Rattle.cops_read.specs.Meaning.{IsTermOf, AreTermsOf, AreConditionsOf, IsRuleOf, AreRulesOf}
 use Rattle.cops_read.specs.Uses.{Use, Side, side_of}
 use Rattle.cops_read.specs.Refusals.{limit_cause, variable_cause, symbol_cause, known_symbol_cause, arity_in, cause_at}
-use Rattle.cops_read.specs.Steps.{nodes, all_nodes, use_at, term_refusal, terms_refusal}
+use Rattle.cops_read.specs.Walks.{nodes, all_nodes, use_at}
+use Rattle.cops_read.specs.Steps.{term_refusal, terms_refusal}
 use Rattle.cops_read.specs.RuleSteps.{bar_refusal, side_refusal, conditions_refusal, rule_refusal, rules_refusal}
 use Rattle.cops_read.proofs.Firsts.{none_of_both, nothing_first}
 use Rattle.cops_read.proofs.Growth.{symbols_extend, all_symbols_extend, variables_extend, all_variables_extend, rule_symbols_extend}
