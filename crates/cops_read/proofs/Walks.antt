@@ -157,7 +157,8 @@ module _ {C : Type 0} {cause : List (List ℕ × ℕ) → List (List ℕ) → Us
   pub nodes_here : (n : IsNext ps i) → nodes_view (drop before ns) ≡ flat n.phrase ++ (flat_all (drop_phrases (suc i) ps) ++ rest)
   nodes_here n = h.nodes_left ∙ ap (λ (qs : Phrases). flat_all qs ++ rest) n.later ∙ append_assoc (flat n.phrase) (flat_all (drop_phrases (suc i) ps)) rest
 
-  pub loop_fails : {E : Type 0} {T : E → Option (C × ℕ) → Type 0} (goes_on : GoesOn T) (n : IsNext ps i) (e : E) → T e (term_refusal cause block now later side depth (i + 1) before n.phrase) → T e (terms_refusal cause block table names side depth 1 start ps)
+  pub loop_fails : {E : Type 0} {T : E → Option (C × ℕ) → Type 0} (goes_on : GoesOn T) (n : IsNext ps i) (e : E)
+      → T e (term_refusal cause block now later side depth (i + 1) before n.phrase) → T e (terms_refusal cause block table names side depth 1 start ps)
   loop_fails {T = T} goes_on n e t =
       let whole = ap (terms_refusal cause block now later side depth (i + 1) before) n.later in
       subst (T e) (sym whole ∙ h.refusal) (tells_here goes_on (term_refusal cause block now later side depth (i + 1) before n.phrase) _ e t)

@@ -18,6 +18,7 @@ use Rattle.cops_read.specs.Walks.{nodes, all_nodes, use_at}
 use Rattle.cops_read.specs.Steps.{term_refusal, terms_refusal}
 use Rattle.cops_read.specs.RuleSteps.{bar_refusal, side_refusal, conditions_refusal, rule_refusal, rules_refusal}
 use Rattle.cops_read.proofs.Firsts.{none_of_both, nothing_first}
+use Rattle.cops_read.proofs.Identifiers.{cause_of_variable, cause_of_symbol}
 use Rattle.cops_read.proofs.Growth.{symbols_extend, all_symbols_extend, variables_extend, all_variables_extend, rule_symbols_extend}
 
 abbrev Table : Type 0
@@ -84,13 +85,6 @@ module _ (block : Names) (whole : Table) (few : length whole < 1000) where
   variable_passes : (names : Names) (u : Use) → u.spot.node.brackets ≡ false → (u.side.is_left && (u.spot.depth == 1)) ≡ false → length names < 100 → variable_cause names u ≡ None
   variable_passes names u b l h = rw (b, l, and_right (not (is_among names u.spot.node.name.text)) (nat_le 100 (length names)) (lt-leb 100 (length names) h)) refl
 
-  cause_of_variable : (table : Table) (names : Names) (u : Use) → limit_cause u ≡ None → is_among block u.spot.node.name.text ≡ true → variable_cause names u ≡ None
-      → cause_at block table names u ≡ None
-  cause_of_variable table names u l b v = rw (l, b) v
-
-  cause_of_symbol : (table : Table) (names : Names) (u : Use) → limit_cause u ≡ None → is_among block u.spot.node.name.text ≡ false → symbol_cause table u ≡ None → cause_at block table names u ≡ None
-  cause_of_symbol table names u l b v = rw (l, b) v
-
   module _ (vars : Names) (few_vars : length vars < 100) (side : Side) (rule : side.rule ≤ 1000) (condition : side.condition ≤ 20) where
     mutual
       term_passes : (table : Table) (names : Names) (d a b : ℕ) (p : Phrase) (t : Term) → Extends (with_symbols block table p) whole → Extends (with_variables block names p) vars
@@ -101,19 +95,19 @@ module _ (block : Names) (whole : Table) (few : length whole < 1000) where
           let u = use_at side d a b node in
           let l = extends_length names vars (extends_trans _ _ _ (variables_extend block names (word f)) v) in
           nothing_first (cause_at block table names u) f.at None
-          (cause_of_variable table names u (in_limits side d a b node rule condition an (omega arith) (omega arith)) h.0 (variable_passes names u refl (left tt) (omega arith))) refl
+          (cause_of_variable block table names u (in_limits side d a b node rule condition an (omega arith) (omega arith)) h.0 (variable_passes names u refl (left tt) (omega arith))) refl
       term_passes table names d a b (word f) (app g us) e v h low dn an bn left =
           let node : Node = record { name = f; brackets = false; arguments = 0 } in
           let u = use_at side d a b node in
           nothing_first (cause_at block table names u) f.at None
-          (cause_of_symbol table names u (in_limits side d a b node rule condition an (omega arith) (omega arith)) h.0.0
+          (cause_of_symbol block table names u (in_limits side d a b node rule condition an (omega arith) (omega arith)) h.0.0
           (symbol_passes table (extends_trans _ _ _ (symbols_extend block table (word f)) e) u g h.0)) refl
       term_passes table names d a b (call f ts) (var x) e v h low dn an bn left = absurd h
       term_passes table names d a b (call f ts) (app g us) e v h low dn an bn left =
           let node : Node = record { name = f; brackets = true; arguments = count ts } in
           let u = use_at side d a b node in
           nothing_first (cause_at block table names u) f.at _
-          (cause_of_symbol table names u (in_limits side d a b node rule condition an (omega arith) (omega arith)) h.0.0
+          (cause_of_symbol block table names u (in_limits side d a b node rule condition an (omega arith) (omega arith)) h.0.0
           (symbol_passes table (extends_trans _ _ _ (symbols_extend block table (call f ts)) e) u g h.0))
           (terms_pass _ names (d + 1) 1 (b + 1) ts us e v h.1 (omega arith) (omega arith) (omega arith) (omega arith) (and_right side.is_left (d + 1 == 1) (ne_eqb (d + 1) 1 (λ q. omega arith))))
 

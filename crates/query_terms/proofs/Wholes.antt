@@ -28,8 +28,8 @@ module _ (table : List (List ℕ × ℕ)) (tree : QueryTree) (block names : List
       (subst (λ (ns : List (List ℕ)). Tells e (conditions_refusal (cause_at (variables_of tree)) (variables_of tree) table ns 1 1 (conditions_of tree))) none
       (subst (λ (b : List (List ℕ)). Tells e (conditions_refusal (cause_at b) b table names 1 1 (conditions_of tree))) is t))
 
-  pub meaning_read : (later : List (List ℕ)) (ds : List rules.Condition) (texts : List (List ℕ)) → texts ≡ later → AreConditionsRead (cause_at block) block table names 1 (conditions_of tree) table later ds
-      → IsMeantBy table tree ds texts
+  pub meaning_read : (later : List (List ℕ)) (ds : List rules.Condition) (texts : List (List ℕ)) → texts ≡ later
+      → AreConditionsRead (cause_at block) block table names 1 (conditions_of tree) table later ds → IsMeantBy table tree ds texts
   meaning_read later ds texts e h =
       let a = subst (λ (b : List (List ℕ)). AreConditionsRead (cause_at b) b table names 1 (conditions_of tree) table later ds) is h in
       let b = subst (λ (ns : List (List ℕ)). AreConditionsRead (cause_at (variables_of tree)) (variables_of tree) table ns 1 (conditions_of tree) table later ds) none a in
