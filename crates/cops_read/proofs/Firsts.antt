@@ -50,6 +50,12 @@ module _ {C : Type 0} where
   pub nothing_first : (c : Option C) (at : ℕ) (o : Option (C × ℕ)) → c ≡ None → o ≡ None → first_or c at o ≡ None
   nothing_first c at o h g = ap (λ (c : Option C). first_or c at o) h ∙ g
 
+-- a refusal has one cause, also where it is a part of another
+pub same_refusal : {C D : Type 0} (f : C → D) (o : Option (C × ℕ)) (c d : C) (at place : ℕ) → o ≡ Some (c, at) → o ≡ Some (d, place) → (f c ≡ f d) × (at ≡ place)
+same_refusal {C} f o c d at place h g =
+    let pair : (c, at) ≡ (d, place) = cc in
+    (ap (λ (r : C × ℕ). f r.0) pair, ap (λ (r : C × ℕ). r.1) pair)
+
 -- where one call hands on the error of another
 module _ {A E : Type 0} (P : Result A E → Type 0) where
   pub handed : (e : E) (r : Result A E) → IsErrAnd r (λ d. d ≡ e) → P (Err e) → P r

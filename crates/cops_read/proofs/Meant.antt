@@ -1,5 +1,5 @@
 -- What a tree means is one system, is a system, and tells what its file's symbols are.
-use Rattle.std.proofs.Common.{◌≡◌, inl, inr, ℕ, suc, ◌*◌, ◌-◌, ◌^◌, ◌<◌, ◌≤◌, max, Bool, true, false, ◌||◌, ◌&&◌, Result, Ok, Err, Option, Some, option_map, is_some, List, []}
+use Rattle.std.proofs.Common.{◌≡◌, inl, inr, ℕ, suc, ◌*◌, ◌^◌, ◌<◌, ◌≤◌, max, Bool, true, false, ◌||◌, ◌&&◌, Result, Ok, Err, Option, Some, option_map, is_some, List, []}
 use Rattle.std.proofs.Common.{◌∷◌, map, length, length-append, None, refl, sym, ap, ap₂, ◌∙◌, subst, arith, All}
 use Rattle.std.proofs.lemmas.List.Elements.{All-head, All-tail}
 use Rattle.std.proofs.Math.Nat.{max-le}

@@ -18,6 +18,7 @@ use Rattle.cops_read.specs.Steps.{term_refusal, terms_refusal}
 use Rattle.cops_read.specs.RuleSteps.{side_refusal, condition_refusal, conditions_refusal, bar_refusal, rule_refusal, rules_refusal}
 use Rattle.cops_read.specs.Limits.{IsSmall, IsAllowed, IsWithinLimits}
 use Rattle.cops_read.specs.File.{IsSystemOf}
+use Rattle.cops_read.proofs.Phrases.{head_of}
 use Rattle.cops_read.proofs.Firsts.{none_first, none_then, no_cause, no_later}
 use Rattle.cops_read.proofs.Events.{refusal_is}
 
@@ -99,29 +100,16 @@ module _ (block : List (List ℕ)) where
 
   -- the head of a phrase
   abbrev pub head_use : Side → ℕ → ℕ → ℕ → Phrase → Use
-  head_use side depth argument before (word f) = use_at side depth argument before record { name = f; brackets = false; arguments = 0 }
-  head_use side depth argument before (call f ts) = use_at side depth argument before record { name = f; brackets = true; arguments = count ts }
+  head_use side depth argument before p = use_at side depth argument before (head_of p)
 
   pub head_accepted : (table : List (List ℕ × ℕ)) (names : List (List ℕ)) (side : Side) (depth argument before : ℕ) (p : Phrase) → term_refusal block table names side depth argument before p ≡ None
       → cause_at block table names (head_use side depth argument before p) ≡ None
   head_accepted table names side depth argument before (word f) h = no_cause _ _ _ h
   head_accepted table names side depth argument before (call f ts) h = no_cause _ _ _ h
 
-  pub record IsHeadWithin (side : Side) (depth argument before : ℕ) : Type 0 where
-    pub rules : side.rule ≤ 1000
-    pub conditions : side.condition ≤ 20
-    pub arguments : argument ≤ 20
-    pub levels : depth ≤ 200
-    pub number : suc before ≤ 2000
-
   pub head_within : (table : List (List ℕ × ℕ)) (names : List (List ℕ)) (side : Side) (depth argument before : ℕ) (p : Phrase) → term_refusal block table names side depth argument before p ≡ None
-      → IsHeadWithin side depth argument before
-  head_within table names side depth argument before (word f) h =
-      let w = within table names (head_use side depth argument before (word f)) (head_accepted table names side depth argument before (word f) h) in
-      record { rules = w.rules; conditions = w.conditions; arguments = w.arguments; levels = w.depth; number = w.number }
-  head_within table names side depth argument before (call f ts) h =
-      let w = within table names (head_use side depth argument before (call f ts)) (head_accepted table names side depth argument before (call f ts) h) in
-      record { rules = w.rules; conditions = w.conditions; arguments = w.arguments; levels = w.depth; number = w.number }
+      → IsWithin (head_use side depth argument before p)
+  head_within table names side depth argument before p h = within table names (head_use side depth argument before p) (head_accepted table names side depth argument before p h)
 
   -- arguments from a number on
   few_arguments : (table : List (List ℕ × ℕ)) (names : List (List ℕ)) (side : Side) (depth argument before : ℕ) (ps : Phrases) → terms_refusal block table names side depth argument before ps ≡ None

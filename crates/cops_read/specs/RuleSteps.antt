@@ -4,7 +4,6 @@ use Rattle.std.specs.Option.{is_some, option_or}
 use Rattle.cops_syntax.specs.declared.tree.RuleText.{RuleText}
 use Rattle.std.specs.Global.{Vec}
 use Rattle.file_text.specs.Syntax.{Phrase, ConditionTree, RuleTree, conditions_of, FileTree}
-use Rattle.rewriting.specs.Terms as math
 use Rattle.rewriting.specs.Rules as rules
 use Rattle.term_core.specs.Prelude.{rule_view}
 use Rattle.term_core.specs.declared.terms.Term.{Term}

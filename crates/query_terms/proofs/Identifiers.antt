@@ -1,6 +1,5 @@
 -- An identifier that was read is a variable or a symbol of the table, and it is not refused; then the table has what it would get.
-use Rattle.std.proofs.Common.{◌≡◌, ℕ, ◌≤◌, List, Some, None, refl, sym, arith}
-use Rattle.std.proofs.lemmas.Bool.Decides.{nat_tests}
+use Rattle.std.proofs.Common.{◌≡◌, ℕ, List, Some, None, refl, sym}
 use Rattle.cops_names.specs.NameTable.{number_of}
 use Rattle.cops_read.specs.Meaning.{with_symbol}
 use Rattle.cops_read.specs.Uses.{Use}
@@ -9,9 +8,6 @@ use Rattle.cops_read.proofs.Walks.{IsVariable, IsSymbol}
 use Rattle.query_text.specs.Meaning.{place_cause, cause_at}
 use Rattle.query_text.proofs.Facts.{no_brackets}
 use Rattle.query_terms.specs.Heads.{IsHead}
-
-pub shallow : (u : Use) → place_cause u ≡ None → u.spot.depth ≤ 200
-shallow u h = grind (arith, nat_tests)
 
 pub has_symbol : (table : List (List ℕ × ℕ)) (name : List ℕ) (n f : ℕ) → number_of table name ≡ Some f → with_symbol table name n ≡ table
 has_symbol table name n f e = rw e refl
