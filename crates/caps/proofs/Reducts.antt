@@ -3,7 +3,7 @@ use Rattle.std.proofs.Common.{ℕ, ◌≡◌, refl, sym, ap₂, ◌∙◌, subst
 use Rattle.rewriting.specs.Prelude.{Term, var, Terms, nil, cons, Substitution, apply, apply_all, values_of, Matches, even, odd, Condition, System, left_sides, right_sides, Reaches}
 use Rattle.rewriting.specs.Prelude.{Meets, Steps, IsInfeasible}
 use Rattle.rewriting.proofs.Closures.{Star-mono}
-use Rattle.rewriting.proofs.Instances.{apply-var}
+use Rattle.rewriting.proofs.Instances.{apply-var, apply_all-var}
 use Rattle.rewriting.proofs.Unifiers.{both, apply-even, apply-odd}
 use Rattle.unifier_run.specs.Run.{clash}
 use Rattle.unifier_run.proofs.General.{no_unifier}

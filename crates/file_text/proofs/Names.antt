@@ -161,9 +161,6 @@ pub oriented_name : IsName (codes "ORIENTED")
 unfolding run_len
 oriented_name = record { some = omega arith; whole = refl; short = omega arith }
 
-unfolding run_len
-join_name = record { some = omega arith; whole = refl; short = omega arith }
-
 pub variables_name : IsName (codes "VAR")
 unfolding run_len
 variables_name = record { some = omega arith; whole = refl; short = omega arith }
