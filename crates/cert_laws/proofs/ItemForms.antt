@@ -193,8 +193,7 @@ derivation_then names s ms h =
       d,
       record {
         back = h.1;
-        text = h.2 ∙ ap (λ (x : List Mark). x ++ h.1) (h.3.3 ∙ ap (λ (x : List Mark). derivation_marks d ++ x) (no_more 1 h.3.1 h.3.2)
-            ∙ append-nil (derivation_marks d));
+        text = cc (no_more 1 h.3.1 h.3.2, append-nil (derivation_marks d));
         forms = h.4;
       },
     )
