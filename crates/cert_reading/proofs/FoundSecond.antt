@@ -76,7 +76,7 @@ second_found c names all given bytes p q h s e =
     let met = shares_met x (number_in names all) all given c behind.0 closing behind.1.0 in
     let along = split {names = names} lines (λ y. body y ++ closing) (body_along {names = names} given (λ y. lines y ++ (body y ++ closing)) h) in
     let inner = split {names = names} body (λ y. closing) along.1 in
-    let front = second_front c names all given (length all) p q along.0 inner.0 (record { new = met.new; uses = met.uses; most = uses_whole _ _ _ _ met.behind ∙ marked_size x all }) in
+    let front = second_front c names all given (length all) p q along.0 inner.0 (record { new = met.new; uses = met.uses; most = uses_whole x (number_in names all) all c met ∙ marked_size x all }) in
     record {
       spelt = (plain_version second_version all c p, front.within, (subst (λ (l : List Automaton). length l ≤ 1000) (all_used names c all) front.are_left.0, front.are_left.3));
       text = second_text c names all given bytes front inner.0.passed e;
