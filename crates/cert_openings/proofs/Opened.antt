@@ -30,13 +30,13 @@ place_more t (u ∷ us) rest e = by (same_bytes t u) e (λ f. place_more t us re
     by false e each = ap suc (each e)
 
 number_more : (names : NameTable) (all left : List Automaton) (a : Automaton) → is_among (automaton_text names a) (texts_of names all) ≡ true → number_in names (all ++ left) a ≡ number_in names all a
-number_more names all left a e = ap (place_among (automaton_text names a)) (texts_both names all left) ∙ place_more (automaton_text names a) (texts_of names all) (texts_of names left) e
+number_more names all left a e = cc (texts_both names all left, place_more (automaton_text names a) (texts_of names all) (texts_of names left) e)
 
 numbers_more : (used : List Automaton) (names : NameTable) (all left : List Automaton) → AreAmong names used (texts_of names all)
     → map (number_in names (all ++ left)) used ≡ map (number_in names all) used
 numbers_more [] names all left h = refl
 numbers_more (a ∷ used) names all left h =
-    ap (λ (n : ℕ). n ∷ map (number_in names (all ++ left)) used) (number_more names all left a h.0) ∙ ap (λ (l : List ℕ). number_in names all a ∷ l) (numbers_more used names all left h.1)
+    cc (number_more names all left a h.0, numbers_more used names all left h.1)
 
 pub among_all : (used : List Automaton) (names : NameTable) (all left : List Automaton) → AreAmong names used (texts_of names all) → AreAmong names used (texts_of names (all ++ left))
 among_all [] names all left h = tt
@@ -134,8 +134,7 @@ gone names bytes o es end h =
     (spelt_heading u names bs (heading_with v names c h.left h.are_left))
     (spelt_body c names u g.0 (short_with v names c h.left h.are_left) (ap (λ (b : Bool). is_answer b g.0) (told_is o es) ∙ g.2) h.within)) in
     let text : bytes ≡ marks_text ms ++ h.rest =
-    h.text ∙ ap (λ (w : Version). h.answer ++ (heading_text w names bs ++ (body_text names u c ++ h.rest))) (sym version)
-    ∙ three_parts h.answer (heading_text (version_of u) names bs) (body_text names u c) h.rest ∙ ap (λ (w : List ℕ). w ++ h.rest) (sym spells.text) in
+    cc (three_parts h.answer (heading_text (version_of u) names bs) (body_text names u c) h.rest) in
     record {
       uses = u;
       shared = bs;
