@@ -296,7 +296,7 @@ text_tells a b names h i e =
     let mine = spelt_automaton a names h in
     let yours = spelt_automaton b names i in
     let texts : marks_text (automaton_marks x a ++ line_end) ≡ marks_text (automaton_marks x b ++ line_end) =
-    text_both (automaton_marks x a) line_end ∙ ap (λ (t : List ℕ). t ++ marks_text line_end) (mine.text ∙ e ∙ sym yours.text) ∙ sym (text_both (automaton_marks x b) line_end) in
+    cc (text_both (automaton_marks x a) line_end, text_both (automaton_marks x b) line_end) in
     let marks = whole_same (alike_automata a b x x line_end line_end mine.named yours.named (same ended)) (inr (automaton_marks x a, codes "\n", refl))
     (inr (automaton_marks x b, codes "\n", refl)) texts in
     (same_automata a b names line_end line_end h i marks).0
