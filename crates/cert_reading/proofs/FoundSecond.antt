@@ -11,7 +11,7 @@ use Rattle.cert_grammar.specs.Prelude.{marks_text, heading_marks, body_marks, ce
 use Rattle.cert_grammar.specs.Marks as marks
 use Rattle.cert_laws.proofs.SpeltWhole.{spelt_alone, spelt_answered}
 use Rattle.cert_sharing.proofs.UseMarks.{marked_texts}
-use Rattle.cert_sharing.proofs.PassShares.{shares_met}
+use Rattle.cert_sharing.proofs.PassShares.{shares_met, uses_whole}
 use Rattle.cert_openings.specs.Openings.{uses_with}
 use Rattle.cert_shares.specs.SharesView.{with_begun}
 use Rattle.cert_words.specs.declared.reading.Reading.{Reading}
@@ -73,10 +73,10 @@ second_found c names all given bytes p q h s e =
     let lines = λ (y : Naming). heading_marks y u all in
     let body = λ (y : Naming). body_marks y u given c in
     let behind = behind_answer given (lines x ++ (body x ++ closing)) _ s refl in
-    let met = shares_met x (number_in names all) all given c behind.0 behind.1.0 in
+    let met = shares_met x (number_in names all) all given c behind.0 closing behind.1.0 in
     let along = split {names = names} lines (λ y. body y ++ closing) (body_along {names = names} given (λ y. lines y ++ (body y ++ closing)) h) in
     let inner = split {names = names} body (λ y. closing) along.1 in
-    let front = second_front c names all given (length all) p q along.0 inner.0 (record { new = met.new; uses = met.uses; most = met.whole ∙ marked_size x all }) in
+    let front = second_front c names all given (length all) p q along.0 inner.0 (record { new = met.new; uses = met.uses; most = uses_whole x (number_in names all) all c met ∙ marked_size x all }) in
     record {
       spelt = (plain_version second_version all c p, front.within, (subst (λ (l : List Automaton). length l ≤ 1000) (all_used names c all) front.are_left.0, front.are_left.3));
       text = second_text c names all given bytes front inner.0.passed e;
