@@ -1,4 +1,5 @@
 pub mod Stops
+pub mod Arguments
 pub mod Plain
 pub mod Headings
 pub mod Shared
