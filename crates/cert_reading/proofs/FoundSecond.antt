@@ -1,8 +1,8 @@
 -- A certificate that is read along its marks is that of its text, in either version.
-use Rattle.std.proofs.Common.{◌≡◌, ◌⊎◌, inl, inr, ◌≤◌, ℕ, zero, suc, Bool, List, [], ◌∷◌, ◌++◌, length, drop, Option, Some, None, codes, refl, ap, ◌∙◌, subst, arith}
+use Rattle.std.proofs.Common.{◌≡◌, ◌⊎◌, inl, inr, ◌≤◌, ℕ, suc, Bool, List, [], ◌∷◌, ◌++◌, length, drop, Option, Some, None, codes, refl, ap, ◌∙◌, subst, arith}
 use Rattle.std.proofs.lemmas.List.{append-nil}
-use Rattle.certificates.specs.Prelude.{Automaton}
-use Rattle.certificates.specs.Prelude.{Certificate}
+use Rattle.general_lemmas.proofs.Lists.{drop_whole}
+use Rattle.certificates.specs.Prelude.{Automaton, Certificate}
 use Rattle.cops_names.specs.NameTable.{NameTable}
 use Rattle.cert_grammar.specs.Prelude.{name_of, Version, first_version, second_version, in_full, by_number}
 use Rattle.cert_grammar.specs.Prelude.{shared_by, number_in}
@@ -30,12 +30,6 @@ use Rattle.cert_reading.proofs.FoundFront.{Front, second_front, behind_answer, b
 marked_size : (x : Naming) (bs : List Automaton) → length (marked_texts x bs) ≡ length bs
 marked_size x [] = refl
 marked_size x (b ∷ bs) = ap suc (marked_size x bs)
-
-pub drop_whole : {A : Type 0} (a : List A) (n : ℕ) → n ≡ length a → drop n a ≡ []
-drop_whole (x ∷ a) zero e = absurd cc
-drop_whole (x ∷ a) (suc n) e = drop_whole a n (let q : suc n ≡ suc (length a) = e in omega arith)
-drop_whole [] zero e = refl
-drop_whole [] (suc n) e = refl
 
 -- every shared automaton is used
 all_used : (names : NameTable) (c : Certificate) (all : List Automaton) → shared_by names c ++ drop (length all) all ≡ shared_by names c
