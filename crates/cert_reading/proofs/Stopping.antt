@@ -113,17 +113,20 @@ already_where {t = t} e q x = as_where (λ none. absurd (not_both t.refused e q 
 -- where nothing is refused nothing was
 pub open_before_where : {P : Place} {names : NameTable} {end : ℕ} {from to : List Item} {f : Naming → List Mark} {s t : Reading} → ReadsWhere P names end from f to s t
     → t.refused ≡ None → s.refused ≡ None
-open_before_where {P} {names} {end} {from} {to} {f} {s} {t} x e = goes_open (Run names end from f to s.left.now t.left.now s.shares t.shares) (IsStoppedWhere P names end from s.left.now s.shares) s.refused t.refused e x.on
+open_before_where {P} {names} {end} {from} {to} {f} {s} {t} x e =
+    goes_open (Run names end from f to s.left.now t.left.now s.shares t.shares) (IsStoppedWhere P names end from s.left.now s.shares) s.refused t.refused e x.on
 
 -- a word
 pub word_where : {P : Place} {names : NameTable} {end : ℕ} {i : Item} {to : List Item} {f : Naming → List Mark} {s t : Reading} → ((t.refused ≡ None → ⊥) → P (i ∷ []) s.left.now)
     → (s.refused ≡ None → IfSome t.refused (λ e. IsStuckAt names end i s.left.now s.shares (told e))) → Reads names end (i ∷ []) f to s t → ReadsWhere P names end (i ∷ []) f to s t
-word_where {P} {names} {end} {i} {to} {f} {s} {t} p h x = record { front = x.front; on = word_on P names end i to f s.left.now t.left.now s.shares t.shares s.refused t.refused (λ none some. p some) h x.on }
+word_where {P} {names} {end} {i} {to} {f} {s} {t} p h x =
+    record { front = x.front; on = word_on P names end i to f s.left.now t.left.now s.shares t.shares s.refused t.refused (λ none some. p some) h x.on }
 
 -- a word behind what is not refused
 pub word_behind : {P : Place} {names : NameTable} {end : ℕ} {i : Item} {to : List Item} {f : Naming → List Mark} {s t : Reading} → (s.refused ≡ None → P (i ∷ []) s.left.now)
     → (s.refused ≡ None → IfSome t.refused (λ e. IsStuckAt names end i s.left.now s.shares (told e))) → Reads names end (i ∷ []) f to s t → ReadsWhere P names end (i ∷ []) f to s t
-word_behind {P} {names} {end} {i} {to} {f} {s} {t} p h x = record { front = x.front; on = word_on P names end i to f s.left.now t.left.now s.shares t.shares s.refused t.refused (λ none some. p none) h x.on }
+word_behind {P} {names} {end} {i} {to} {f} {s} {t} p h x =
+    record { front = x.front; on = word_on P names end i to f s.left.now t.left.now s.shares t.shares s.refused t.refused (λ none some. p none) h x.on }
 
 -- a word that is judged behind others
 pub sealed_where : {P : Place} {names : NameTable} {end : ℕ} {i : Item} {from to : List Item} {f g : Naming → List Mark} {a s t : Reading} → P (i ∷ []) s.left.now

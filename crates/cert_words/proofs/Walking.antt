@@ -231,7 +231,8 @@ stopped e g h k r = record { front = k; on = rw (g, h) r }
 
 -- where nothing is refused nothing was
 pub open_before : {names : NameTable} {end : ℕ} {from to : List Item} {f : Naming → List Mark} {s t : Reading} → Reads names end from f to s t → t.refused ≡ None → s.refused ≡ None
-open_before {names} {end} {from} {to} {f} {s} {t} x e = goes_open (Run names end from f to s.left.now t.left.now s.shares t.shares) (IsStopped names end from s.left.now s.shares) s.refused t.refused e x.on
+open_before {names} {end} {from} {to} {f} {s} {t} x e =
+    goes_open (Run names end from f to s.left.now t.left.now s.shares t.shares) (IsStopped names end from s.left.now s.shares) s.refused t.refused e x.on
 
 -- no marks behind others
 pub then_nothing : {names : NameTable} {end : ℕ} {from mid to : List Item} {f : Naming → List Mark} {s t u : Reading} → Reads names end from f mid s t

@@ -32,11 +32,12 @@ evidence-evidence-requires c =
     let names = c.args.names.now in
     let n = c.args.n in
     let v = version_by c.args.uses in
+    let numbers = c.between_numbers-inner.result in
     let rest = evidence v ∷ pairs_from v (suc n) ∷ [] in
     known_behind v (automata_by c.args.uses)
     (then_reads (c.counted_or.ensures.word c.if-not-counted_or.false names (pairs_from v n) (line_items ++ rest) (between Items.line ∷ []) refl)
     (framed rest (c.between_numbers-inner.ensures names))) []
-    (front_counts (word (codes "pair") (is_few pairs n ∷ [])) c.between_numbers-inner.result.0 c.between_numbers-inner.result.1.items c.between_numbers-inner.result.2 tt) c.requires
+    (front_counts (word (codes "pair") (is_few pairs n ∷ [])) numbers.0 numbers.1.items numbers.2 tt) c.requires
 
 pub returns-clause-pair : goal.returns-clause-pair
 returns-clause-pair c =
@@ -55,7 +56,8 @@ pub returns-clause-known : goal.returns-clause-known
 returns-clause-known c =
     let names = c.args.names.now in
     let v = version_by c.args.uses in
-    let ps = pair_entry_view (record { inner = c.between_numbers-inner.result.0; pos = c.between_numbers-inner.result.1; outer = c.between_numbers-inner.result.2; evidence = c.evidence-evidence.result }) ∷ [] in
+    let numbers = c.between_numbers-inner.result in
+    let ps = pair_entry_view (record { inner = numbers.0; pos = numbers.1; outer = numbers.2; evidence = c.evidence-evidence.result }) ∷ [] in
     let w = uses_by names c.args.uses in
     known_where v (automata_by c.args.uses) (returns-clause-pair c) (numbers_of w (used_by_pairs ps)) (counts_pairs ps (name_of names) w c.args.n) c.requires
 

@@ -44,7 +44,8 @@ pub returns-clause-known : goal.returns-clause-known
 returns-clause-known c =
     let names = c.args.names.now in
     let v = version_by c.args.uses in
-    let rs = redex_view (record { which = c.between_numbers-which.result.0; pos = c.between_numbers-which.result.1; rule = c.between_numbers-which.result.2; evidence = c.infeasibility-evidence.result }) ∷ [] in
+    let numbers = c.between_numbers-which.result in
+    let rs = redex_view (record { which = numbers.0; pos = numbers.1; rule = numbers.2; evidence = c.infeasibility-evidence.result }) ∷ [] in
     let w = uses_by names c.args.uses in
     known_behind v (automata_by c.args.uses) (returns-clause-redex c) (numbers_of w (used_by_redexes rs)) (counts_redexes rs (name_of names) w c.args.n) c.requires
 

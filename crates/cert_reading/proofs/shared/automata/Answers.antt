@@ -34,4 +34,5 @@ automata-preserved c =
     }
 
 pub returns-clause-read : goal.returns-clause-read
-returns-clause-read c = λ given. as_where (λ none. (left_end (λ (m : ℕ). behind_automata m given ∷ []) c.args.count c.automata.counter c.automata-test.false, λ u. refl)) (c.automata.invariant.read given)
+returns-clause-read c = λ given.
+    as_where (λ none. (left_end (λ (m : ℕ). behind_automata m given ∷ []) c.args.count c.automata.counter c.automata-test.false, λ u. refl)) (c.automata.invariant.read given)
