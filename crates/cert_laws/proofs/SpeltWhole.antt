@@ -16,7 +16,7 @@ use Rattle.cert_grammar.specs.Prelude.{simplifications_marks, state, accepting_m
 use Rattle.cert_grammar.specs.Prelude.{infeasibility_marks, evidence_marks, pairs_marks, coefficients_marks, measured_marks, entries_marks, measure_marks, redexes_marks, apart_marks}
 use Rattle.cert_grammar.specs.Prelude.{body_marks, certificate_marks}
 use Rattle.cert_grammar.specs.WordMarks.{numeral}
-use Rattle.cert_grammar.proofs.OneTerm.{name_is}
+use Rattle.cert_grammar.proofs.Names.{name_is}
 use Rattle.cert_laws.proofs.Spelt.{Spells, nothing, put_fixed, put_word, put_both, put_number, put_count, put_position, put_symbol, put_arity, numeral_fits, met_first, pass_range, pass_few}
 use Rattle.cert_laws.proofs.SpeltTerms.{spelt_term, spelt_derivation, same_text}
 
