@@ -2,7 +2,7 @@
 use Rattle.std.proofs.Common.{ℕ, zero, suc, ◌≡◌, ◌+◌, ◌-◌, ◌<◌, ◌≤◌, List, [], ◌∷◌, ◌++◌, map, take, drop, set, length, get_or, slice_get, Option, Some, None, refl, sym, ap, ◌∙◌, subst, arith}
 use Rattle.std.specs.List.{remove}
 use Rattle.std.proofs.lemmas.List.{drop_all}
-use Rattle.general_lemmas.proofs.Places.{map-drop_read}
+use Rattle.general_lemmas.proofs.Places.{map-drop_read, slice_get_inside}
 use Rattle.rewriting.specs.Rules.{Rule, System, rule_at}
 use Rattle.certificates.specs.Certificates.{Simplification, dropped, inlined}
 use Rattle.simplifications.specs.Simplifying.{Simplifies, AllSimplify}
@@ -13,6 +13,7 @@ use Rattle.cert_model.specs.CertificateView.{simp_view}
 use Rattle.cert_model.specs.declared.model.Simp.{Simp}
 use Rattle.portfolio.specs.Following.{rule_of, followed}
 use Rattle.critical_pairs.specs.Kept.{AreOriginsFrom, AreOrigins}
+use Rattle.critical_pairs.proofs.Origins.{length_same}
 
 -- the numbers behind n, so many of them
 abbrev pub numbers_behind : ℕ → ℕ → List (Option ℕ)
@@ -69,27 +70,12 @@ exchanged n e (None ∷ os) (r ∷ rs) (suc k) q inside h = exchanged n e os rs 
 exchanged n e (Some l ∷ os) (r ∷ rs) zero q inside (a, s, h) = weaker l n e os rs a h
 exchanged n e (Some l ∷ os) (r ∷ rs) (suc k) q inside (a, s, h) = (a, s, exchanged l e os rs k q (omega (arith, inside)) h)
 
-there : (rs : List Rule) (k : ℕ) (r : Rule) → slice_get rs k ≡ Some r → k < length rs
-there [] k r e = absurd (cc)
-there (s ∷ rs) zero r e = omega arith
-there (s ∷ rs) (suc k) r e = let h = there rs k r e in omega (arith, h)
-
 is_there : (here next : System) (s : Simplification) → Simplifies here s next → (0 < rule_of s) × (rule_of s ≤ length here.rules)
 is_there here next (dropped zero e) h = absurd h
-is_there here next (dropped (suc n) e) h = (let l = there here.rules n h.rule h.is_rule in (omega arith, omega (arith, l)))
+is_there here next (dropped (suc n) e) h = (let l = slice_get_inside here.rules n h.rule h.is_rule in (omega arith, omega (arith, l)))
 is_there here next (inlined zero k) h = absurd h
 is_there here next (inlined (suc n) zero) h = absurd h
-is_there here next (inlined (suc n) (suc k)) h = (let l = there here.rules n h.rule h.is_rule in (omega arith, omega (arith, l)))
-
-long : (n : ℕ) (e : System) (os : List (Option ℕ)) (rs : List Rule) → AreOriginsFrom n e os rs → length os ≡ length rs
-long n e [] [] h = refl
-long n e [] (r ∷ rs) h = absurd h
-long n e (o ∷ os) [] h = absurd h
-long n e (None ∷ os) (r ∷ rs) h = ap suc (long n e os rs h)
-long n e (Some m ∷ os) (r ∷ rs) (a, s, h) = ap suc (long m e os rs h)
-
-pub as_many : (sys here : System) (os : List (Option ℕ)) → AreOrigins sys here os → length os ≡ length here.rules
-as_many sys here os h = long 0 sys os here.rules h
+is_there here next (inlined (suc n) (suc k)) h = (let l = slice_get_inside here.rules n h.rule h.is_rule in (omega arith, omega (arith, l)))
 
 -- one step
 module _ (sys here next : System) (os : List (Option ℕ)) (are : AreOrigins sys here os) where
@@ -102,8 +88,8 @@ module _ (sys here next : System) (os : List (Option ℕ)) (are : AreOrigins sys
   follows (inlined (suc n) zero) h = absurd h
   follows (inlined (suc n) (suc k)) h =
       let one : suc n - 1 ≡ n = omega arith in
-      let l = there here.rules n h.rule h.is_rule in
-      let many = as_many sys here os are in
+      let l = slice_get_inside here.rules n h.rule h.is_rule in
+      let many = length_same sys here os are in
       subst (λ z. AreOrigins sys next (set os z None)) (sym one) (subst (λ z. AreOrigins sys z (set os n None)) (sym h.result) (exchanged 0 sys os here.rules n _ (omega (arith, l, many)) are))
 
 -- steps that lead on from a system in which some rules have origins
@@ -128,7 +114,7 @@ module _ (sys last : System) (os : List (Option ℕ)) (steps : List Simp) (i : �
   first = subst (λ z. AllSimplify h.here z last) (map-drop_read simp_view steps i step inside at) h.rest
 
   pub step_there : (0 < rule_of (simp_view step)) × (rule_of (simp_view step) ≤ length os)
-  step_there = (let r = is_there h.here first.0 (simp_view step) first.1 in let many = as_many sys h.here os h.origins in (r.0, subst (λ z. rule_of (simp_view step) ≤ z) (sym many) r.1))
+  step_there = (let r = is_there h.here first.0 (simp_view step) first.1 in let many = length_same sys h.here os h.origins in (r.0, subst (λ z. rule_of (simp_view step) ≤ z) (sym many) r.1))
 
   pub step_followed : LeadOn sys last (followed (simp_view step) os) (map simp_view (drop (i + 1) steps))
   step_followed = record { here = first.0; origins = follows sys h.here first.0 os h.origins (simp_view step) first.1; rest = first.2 }
