@@ -5,6 +5,5 @@ pub mod Conditions
 pub mod Parts
 pub mod Named
 pub mod Spelt
-pub mod SameLists
 pub mod Functions
 pub mod Written

@@ -6,6 +6,7 @@ use Rattle.cops_syntax.specs.declared.tree.Node as program
 use Rattle.cops_syntax.specs.View.{nodes_view, node_view}
 use Rattle.cops_syntax.specs.declared.tree.Name as program_name
 use Rattle.cops_syntax.specs.View.{name_view}
+use Rattle.cops_syntax.proofs.FlatTrees.{flat-last}
 use Rattle.ari_text.specs.Signs.{Sign, opening, closing, name}
 use Rattle.ari_text.specs.Grammar.{term_signs, terms_signs}
 use Rattle.ari_text.specs.Reads.{IsTermRead, AreTermsRead, IsBarePut}
@@ -13,10 +14,6 @@ use Rattle.ari_text.specs.Reads.{IsTermRead, AreTermsRead, IsBarePut}
 pub last_count : (ts : Phrases) (u : Phrase) → count (with_last ts u) ≡ suc (count ts)
 last_count none u = refl
 last_count (more t ts) u = ap suc (last_count ts u)
-
-last_flat : (ts : Phrases) (u : Phrase) → flat_all (with_last ts u) ≡ flat_all ts ++ flat u
-last_flat none u = append-nil (flat u)
-last_flat (more t ts) u = ap (λ (w : List Node). flat t ++ w) (last_flat ts u) ∙ sym (append_assoc (flat t) (flat_all ts) (flat u))
 
 last_signs : (ts : Phrases) (u : Phrase) (k : List Sign) → terms_signs (with_last ts u) k ≡ terms_signs ts (term_signs u k)
 last_signs none u k = refl
@@ -32,7 +29,7 @@ one_term_more old mid new before between after n ts t = record {
   many = omega (arith, ts.many, last_count ts.phrases t.phrase);
   words = ts.words ∙ ap (terms_signs ts.phrases) t.words ∙ sym (last_signs ts.phrases t.phrase new);
   listed = t.listed ∙ ap (λ (w : List Node). w ++ flat t.phrase) ts.listed ∙ append_assoc (nodes_view before) (flat_all ts.phrases) (flat t.phrase)
-      ∙ ap (λ (w : List Node). nodes_view before ++ w) (sym (last_flat ts.phrases t.phrase));
+      ∙ ap (λ (w : List Node). nodes_view before ++ w) (sym (flat-last ts.phrases t.phrase));
 }
 
 -- a name alone

@@ -13,18 +13,13 @@ fn is_same_condition(a: &Cond, b: &Cond) -> bool
 fn are_same_conditions(first: &[Cond], second: &[Cond]) -> bool
     ensures { IsTrue result → map condition_view first.now ≡ map condition_view second.now }
 {
-    if first.len() != second.len() {
-        return false;
-    }
-    'conds: for i in 0..first.len() {
-        let (Some(a), Some(b)) = (first.get(i), second.get(i)) else {
-            return false;
-        };
-        if !is_same_condition(a, b) {
-            return false;
+    match (first, second) {
+        ([], []) => true,
+        ([a, others @ ..], [b, rest @ ..]) => {
+            is_same_condition(a, b) && are_same_conditions(others, rest)
         }
+        _ => false,
     }
-    true
 }
 
 fn is_same_rule(a: &Rule, b: &Rule) -> bool
@@ -36,18 +31,11 @@ fn is_same_rule(a: &Rule, b: &Rule) -> bool
 fn are_same_rules(first: &[Rule], second: &[Rule]) -> bool
     ensures { IsTrue result → map rule_view first.now ≡ map rule_view second.now }
 {
-    if first.len() != second.len() {
-        return false;
+    match (first, second) {
+        ([], []) => true,
+        ([a, others @ ..], [b, rest @ ..]) => { is_same_rule(a, b) && are_same_rules(others, rest) }
+        _ => false,
     }
-    'rules: for i in 0..first.len() {
-        let (Some(a), Some(b)) = (first.get(i), second.get(i)) else {
-            return false;
-        };
-        if !is_same_rule(a, b) {
-            return false;
-        }
-    }
-    true
 }
 
 /// Whether both have the same symbols, and the same rules in order.

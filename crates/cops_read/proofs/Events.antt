@@ -8,7 +8,8 @@ use Rattle.cops_names.specs.NameLists.{is_among, with_name}
 use Rattle.cops_read.specs.Meaning.{with_symbol, with_symbols, with_all_symbols, with_variables, with_all_variables, sides, phrases_of_rule, variables_of}
 use Rattle.cops_read.specs.Uses.{Spot, spots, spots_of_all, Side, side_of, Use, Event, use_of, bar_at, uses_from, term_events, condition_events, rule_events, rules_events}
 use Rattle.cops_read.specs.Refusals.{MeaningCause, conditions_without_type, limit_cause, variable_cause, symbol_cause, first_or, symbols_used, variables_used, cause_at, first_refusal, refusal_of}
-use Rattle.cops_read.specs.Steps.{nodes, all_nodes, use_at, term_refusal, terms_refusal}
+use Rattle.cops_read.specs.Walks.{nodes, all_nodes, use_at}
+use Rattle.cops_read.specs.Steps.{term_refusal, terms_refusal}
 use Rattle.cops_read.specs.RuleSteps.{side_refusal, condition_refusal, conditions_refusal, bar_refusal, rule_refusal, rules_refusal}
 use Rattle.cops_read.proofs.Firsts.{or_assoc, or_same, none_first, none_then, first_or_or}
 
@@ -21,13 +22,31 @@ Table = List (List ℕ × ℕ)
 abbrev Names : Type 0
 Names = List (List ℕ)
 
+pub uses_after : (side : Side) (n : ℕ) (xs ys : List Spot) → uses_from side n (xs ++ ys) ≡ uses_from side n xs ++ uses_from side (n + length xs) ys
+uses_after side n [] ys = ap (λ (k : ℕ). uses_from side k ys) (let e : n ≡ n + 0 = omega arith in e)
+uses_after side n (x ∷ xs) ys =
+    ap (λ (es : List Event). use_of record { side = side; spot = x; number = n } ∷ es)
+    (uses_after side (suc n) xs ys ∙ ap (λ (k : ℕ). uses_from side (suc n) xs ++ uses_from side k ys) (let e : suc n + length xs ≡ n + suc (length xs) = omega arith in e))
+
+mutual
+  pub spots_length : (depth argument : ℕ) (p : Phrase) → length (spots depth argument p) ≡ nodes p
+  spots_length depth argument (word f) = refl
+  spots_length depth argument (call f ts) = ap suc (all_spots_length (suc depth) 1 ts)
+
+  all_spots_length : (depth argument : ℕ) (ps : Phrases) → length (spots_of_all depth argument ps) ≡ all_nodes ps
+  all_spots_length depth argument none = refl
+  all_spots_length depth argument (more t ts) =
+      let a = spots_length depth argument t in
+      let b = all_spots_length depth (suc argument) ts in
+      omega (arith, length-append (spots depth argument t) (spots_of_all depth (suc argument) ts))
+
 module _ (block : Names) where
   symbols_after : (table : Table) (xs ys : List Event) → symbols_used block table (xs ++ ys) ≡ symbols_used block (symbols_used block table xs) ys
   symbols_after table [] ys = refl
   symbols_after table (bar_at at ∷ xs) ys = symbols_after table xs ys
   symbols_after table (use_of u ∷ xs) ys = symbols_after (if is_among block u.spot.node.name.text then table else with_symbol table u.spot.node.name.text u.spot.node.arguments) xs ys
 
-  variables_after : (rule : ℕ) (names : Names) (xs ys : List Event) → variables_used block rule names (xs ++ ys) ≡ variables_used block rule (variables_used block rule names xs) ys
+  pub variables_after : (rule : ℕ) (names : Names) (xs ys : List Event) → variables_used block rule names (xs ++ ys) ≡ variables_used block rule (variables_used block rule names xs) ys
   variables_after rule names [] ys = refl
   variables_after rule names (bar_at at ∷ xs) ys = variables_after rule names xs ys
   variables_after rule names (use_of u ∷ xs) ys =
@@ -119,24 +138,6 @@ module _ (block : Names) where
           ap (λ (b : Bool). if b then with_name names u.spot.node.name.text else names) (same_rule u.side.rule (is_among block u.spot.node.name.text) ∙ free);
       others = λ r names h. rw h refl;
     }
-
-    pub uses_after : (side : Side) (n : ℕ) (xs ys : List Spot) → uses_from side n (xs ++ ys) ≡ uses_from side n xs ++ uses_from side (n + length xs) ys
-    uses_after side n [] ys = ap (λ (k : ℕ). uses_from side k ys) (let e : n ≡ n + 0 = omega arith in e)
-    uses_after side n (x ∷ xs) ys =
-        ap (λ (es : List Event). use_of record { side = side; spot = x; number = n } ∷ es)
-        (uses_after side (suc n) xs ys ∙ ap (λ (k : ℕ). uses_from side (suc n) xs ++ uses_from side k ys) (let e : suc n + length xs ≡ n + suc (length xs) = omega arith in e))
-
-    mutual
-      pub spots_length : (depth argument : ℕ) (p : Phrase) → length (spots depth argument p) ≡ nodes p
-      spots_length depth argument (word f) = refl
-      spots_length depth argument (call f ts) = ap suc (all_spots_length (suc depth) 1 ts)
-
-      all_spots_length : (depth argument : ℕ) (ps : Phrases) → length (spots_of_all depth argument ps) ≡ all_nodes ps
-      all_spots_length depth argument none = refl
-      all_spots_length depth argument (more t ts) =
-          let a = spots_length depth argument t in
-          let b = all_spots_length depth (suc argument) ts in
-          omega (arith, length-append (spots depth argument t) (spots_of_all depth (suc argument) ts))
 
     mutual
       part_term : (side : Side) (depth argument before : ℕ) (p : Phrase) → IsPart side.rule (uses_from side (suc before) (spots depth argument p))

@@ -30,6 +30,11 @@ module _ {C : Type 0} where
   first_or_or None at a b = refl
   first_or_or (Some cause) at a b = refl
 
+  -- equal others where there is no cause
+  pub first_same : (c : Option C) (at : ℕ) (a b : Option (C × ℕ)) → (c ≡ None → a ≡ b) → first_or c at a ≡ first_or c at b
+  first_same None at a b h = h refl
+  first_same (Some cause) at a b h = refl
+
   pub first_stays : (c : Option C) (at : ℕ) (others : Option (C × ℕ)) (r : C × ℕ) → first_or c at None ≡ Some r → first_or c at others ≡ Some r
   first_stays None at others r h = cc
   first_stays (Some cause) at others r h = h
@@ -41,6 +46,15 @@ module _ {C : Type 0} where
   pub no_later : (c : Option C) (at : ℕ) (o : Option (C × ℕ)) → first_or c at o ≡ None → o ≡ None
   no_later None at o h = h
   no_later (Some cause) at o h = cc
+
+  pub nothing_first : (c : Option C) (at : ℕ) (o : Option (C × ℕ)) → c ≡ None → o ≡ None → first_or c at o ≡ None
+  nothing_first c at o h g = ap (λ (c : Option C). first_or c at o) h ∙ g
+
+-- a refusal has one cause, also where it is a part of another
+pub same_refusal : {C D : Type 0} (f : C → D) (o : Option (C × ℕ)) (c d : C) (at place : ℕ) → o ≡ Some (c, at) → o ≡ Some (d, place) → (f c ≡ f d) × (at ≡ place)
+same_refusal {C} f o c d at place h g =
+    let pair : (c, at) ≡ (d, place) = cc in
+    (ap (λ (r : C × ℕ). f r.0) pair, ap (λ (r : C × ℕ). r.1) pair)
 
 -- where one call hands on the error of another
 module _ {A E : Type 0} (P : Result A E → Type 0) where

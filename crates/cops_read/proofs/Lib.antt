@@ -5,6 +5,7 @@ pub mod Firsts
 pub mod Tells
 pub mod Phrases
 pub mod Walks
+pub mod Identifiers
 pub mod Parts
 pub mod Repeats
 pub mod Events

@@ -14,7 +14,8 @@ use Rattle.cops_read.specs.Meaning.{with_symbol, sides, phrases_of_rule, variabl
 use Rattle.cops_read.specs.Meaning.{rule_variables, IsSymbolOf, IsTermOf, AreTermsOf, AreConditionsOf, IsRuleOf, AreRulesOf}
 use Rattle.cops_read.specs.Uses.{Side, side_of, Use}
 use Rattle.cops_read.specs.Refusals.{known_symbol_cause, arity_in, symbol_cause, refusal_of}
-use Rattle.cops_read.specs.Steps.{nodes, term_refusal, terms_refusal}
+use Rattle.cops_read.specs.Walks.{nodes}
+use Rattle.cops_read.specs.Steps.{term_refusal, terms_refusal}
 use Rattle.cops_read.specs.RuleSteps.{side_refusal, condition_refusal, conditions_refusal, rule_refusal, rules_refusal}
 use Rattle.cops_read.specs.File.{IsSystemOf}
 use Rattle.cops_names.proofs.Lists.{Extends, extends_refl, extends_trans, extends_position}

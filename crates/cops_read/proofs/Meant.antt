@@ -1,11 +1,11 @@
 -- What a tree means is one system, is a system, and tells what its file's symbols are.
-use Rattle.std.proofs.Common.{◌≡◌, inl, inr, ℕ, suc, ◌+◌, ◌*◌, ◌-◌, ◌^◌, ◌<◌, ◌≤◌, max, Bool, true, false, ◌||◌, ◌&&◌, Result, Ok, Err, Option, Some, option_map, is_some, List, []}
+use Rattle.std.proofs.Common.{◌≡◌, inl, inr, ℕ, suc, ◌*◌, ◌^◌, ◌<◌, ◌≤◌, max, Bool, true, false, ◌||◌, ◌&&◌, Result, Ok, Err, Option, Some, option_map, is_some, List, []}
 use Rattle.std.proofs.Common.{◌∷◌, map, length, length-append, None, refl, sym, ap, ap₂, ◌∙◌, subst, arith, All}
 use Rattle.std.proofs.lemmas.List.Elements.{All-head, All-tail}
 use Rattle.std.proofs.Math.Nat.{max-le}
 use Rattle.std.proofs.lemmas.List.{length-map}
 use Rattle.file_text.specs.Syntax.{Guard, RuleTree, FileTree, has_type}
-use Rattle.rewriting.specs.Prelude.{Fits, depth, Condition, Rule, System, sides, Each, IsSystem, condition_count}
+use Rattle.rewriting.specs.Prelude.{Fits, depth, Condition, Rule, System, sides, Each, IsSystem}
 use Rattle.rewriting.proofs.Laws.{well_formed}
 use Rattle.cops_names.specs.NameTable.{NameTable}
 use Rattle.join_systems.specs.Joined.{join_of, joined, IsJoined, DoJoinsFit, DoAllJoinsFit}
@@ -25,7 +25,7 @@ use Rattle.cops_read.specs.Limits.{IsSmall, IsAllowed}
 use Rattle.cops_read.specs.Refusals.{refusal_of}
 use Rattle.cops_read.specs.File.{IsSystemOf, is_join, have_conditions, asks_joins, IsJoinedFile, IsMeant}
 use Rattle.cops_read.proofs.Within.{is_within_limits}
-use Rattle.cops_read.proofs.Sound.{system_is, conditions_few}
+use Rattle.cops_read.proofs.Sound.{system_is, few_listed, listed_rules}
 use Rattle.cops_read.proofs.Means.{meaning}
 use Rattle.cops_read.proofs.Unique.{one_table, one_system}
 
@@ -69,13 +69,7 @@ listed_fit file sys names h = all_fit (has_type file) sys.rules (is_within_limit
 
 pub joined_listed : (file : FileTree) (sys : System) (names : NameTable) → IsSystemOf file sys names → IsSystem (joined sys)
 joined_listed file sys names h =
-    let limits = is_within_limits file sys names h in
-    let few = conditions_few (has_type file) sys.rules limits.rules in
-    let rules = limits.few_rules in
-    let symbols = limits.few_symbols in
-    let arities = ap length h.arities in
-    let same = length-map names.symbols (λ (s : List ℕ × ℕ). s.1) in
-    joined_is_system sys (system_is file sys names h).rules (listed_fit file sys names h) (omega (arith, few, rules, symbols, arities, same)) (omega (arith, few, rules))
+    joined_is_system sys (system_is file sys names h).rules (listed_fit file sys names h) (few_listed file sys names h) (listed_rules file sys names h)
 
 -- what a tree means is a system
 pub meant_is_system : (file : FileTree) (sys : System) (names : NameTable) → IsMeant file sys names → IsSystem sys
@@ -131,23 +125,6 @@ few_names file sys names h =
 
 pub listed_symbols : (file : FileTree) (sys : System) (names : NameTable) → IsSystemOf file sys names → length names.symbols ≤ 1000
 listed_symbols file sys names h = (is_within_limits file sys names h).few_symbols
-
-pub few_listed : (file : FileTree) (sys : System) (names : NameTable) → IsSystemOf file sys names → length sys.arities + condition_count sys.rules < 2 ^ 31 - 2
-few_listed file sys names h =
-    let limits = is_within_limits file sys names h in
-    let few = conditions_few (has_type file) sys.rules limits.rules in
-    let rules = limits.few_rules in
-    let symbols = limits.few_symbols in
-    let arities = ap length h.arities in
-    let same = length-map names.symbols (λ (s : List ℕ × ℕ). s.1) in
-    omega (arith, few, rules, symbols, arities, same)
-
-pub listed_rules : (file : FileTree) (sys : System) (names : NameTable) → IsSystemOf file sys names → length sys.rules + condition_count sys.rules < 2 ^ 31 - 2
-listed_rules file sys names h =
-    let limits = is_within_limits file sys names h in
-    let few = conditions_few (has_type file) sys.rules limits.rules in
-    let rules = limits.few_rules in
-    omega (arith, few, rules)
 
 -- bars are where there are conditions
 bar_or_none : {A : Type 0} {B : Type 0} (f : A → B) (o : Option A) → is_some (option_map f o) ≡ is_some o

@@ -5,7 +5,7 @@ use Rattle.std.specs.Prelude.{slice_get}
 use Rattle.file_text.specs.Syntax.{Phrase, Phrases, word, call, none, more, with_last, count, Node, flat, flat_all}
 use Rattle.cops_syntax.specs.View.{node_view, nodes_view}
 use Rattle.cops_syntax.specs.declared.tree.Node as program
-use Rattle.cops_read.specs.Steps.{nodes, all_nodes}
+use Rattle.cops_read.specs.Walks.{nodes, all_nodes}
 
 -- the first identifier of a phrase, and its arguments
 abbrev pub head_of : Phrase → Node

@@ -13,17 +13,13 @@ use Rattle.cops_names.specs.NameTable.{NameTable}
 use Rattle.cops_read.specs.Refusals.{MeaningCause, refusal_of}
 use Rattle.cops_read.specs.File.{IsFile, IsMeant, FileCause, no_tokens, no_tree, no_meaning, IsNoFile}
 use Rattle.cops_read.specs.Answers.{OneSystem, OneRefusal, NeverSystemAndRefusal, SystemOrRefusal}
+use Rattle.cops_read.proofs.Firsts.{same_refusal}
 use Rattle.cops_read.proofs.Meant.{one_meaning, meant_accepted, some_meaning}
 
 pub one_reading : OneSystem
 one_reading bytes sys other names others h g =
     let again = subst (λ (t : FileTree). IsMeant t other others) (one_tree_of bytes g.tree h.tree g.spelled h.spelled) g.meant in
     one_meaning h.tree sys other names others h.meant again
-
-same_refusal : (o : Option (MeaningCause × ℕ)) (c d : MeaningCause) (at place : ℕ) → o ≡ Some (c, at) → o ≡ Some (d, place) → (no_meaning c ≡ no_meaning d) × (at ≡ place)
-same_refusal o c d at place h g =
-    let pair : (c, at) ≡ (d, place) = cc in
-    (ap (λ (r : MeaningCause × ℕ). no_meaning r.0) pair, ap (λ (r : MeaningCause × ℕ). r.1) pair)
 
 pub one_refusal : OneRefusal
 one_refusal bytes (no_tokens c) (no_tokens d) at by h g = let e = one_bad_place bytes c d at by h g in (ap no_tokens e.0, e.1)
@@ -35,7 +31,7 @@ one_refusal bytes (no_tree c) (no_meaning d) at by h g = absurd (never_tree_and_
 one_refusal bytes (no_meaning c) (no_tokens d) at by h g = absurd (never_tokens_and_refusal bytes h.spelled.tokens d by h.spelled.spelled g)
 one_refusal bytes (no_meaning c) (no_tree d) at by h g = absurd (never_tree_and_refusal bytes h.tree d by h.spelled g)
 one_refusal bytes (no_meaning c) (no_meaning d) at by h g =
-    same_refusal (refusal_of h.tree) c d at by h.refused (ap refusal_of (one_tree_of bytes h.tree g.tree h.spelled g.spelled) ∙ g.refused)
+    same_refusal no_meaning (refusal_of h.tree) c d at by h.refused (ap refusal_of (one_tree_of bytes h.tree g.tree h.spelled g.spelled) ∙ g.refused)
 
 pub never_both : NeverSystemAndRefusal
 never_both bytes sys names (no_tokens c) at f h = never_tokens_and_refusal bytes f.spelled.tokens c at f.spelled.spelled h

@@ -1,5 +1,5 @@
 -- What a tree means is a system.
-use Rattle.std.proofs.Common.{◌≡◌, ℕ, zero, suc, ◌+◌, ◌*◌, ◌^◌, ◌<◌, ◌≤◌, Bool, true, false, List, [], ◌∷◌, ◌++◌, length, map, Some, All, refl, sym, ap, subst, ◌∙◌, arith}
+use Rattle.std.proofs.Common.{◌≡◌, ℕ, zero, suc, ◌+◌, ◌-◌, ◌*◌, ◌^◌, ◌<◌, ◌≤◌, Bool, true, false, List, [], ◌∷◌, ◌++◌, length, map, Some, All, refl, sym, ap, subst, ◌∙◌, arith}
 use Rattle.std.proofs.Common.{length-append, eq-eqb, ne_eqb, inl, inr, ◌⊎◌}
 use Rattle.std.specs.Prelude.{if◌then◌else◌, nat_eq, ◌||◌}
 use Rattle.std.specs.List.{list_any, position_or_len}
@@ -182,22 +182,36 @@ module _ (block : List (List ℕ)) (table : List (List ℕ × ℕ)) where
     rules_are typed ts rs h.1 (All-tail (IsAllowed typed) r rs a) (All-tail (λ list. length list ≤ 100) (rule_variables block t) (map (rule_variables block) ts) few),
   )
 
-pub conditions_few : (typed : Bool) (rs : List Rule) → All (IsAllowed typed) rs → condition_count rs ≤ 20 * length rs
+conditions_few : (typed : Bool) (rs : List Rule) → All (IsAllowed typed) rs → condition_count rs ≤ 20 * length rs
 conditions_few typed [] h = omega arith
 conditions_few typed (r ∷ rs) h = let here = (All-head (IsAllowed typed) r rs h).few_conditions in let rest = conditions_few typed rs (All-tail (IsAllowed typed) r rs h) in omega arith
 
-pub system_is : (file : FileTree) (sys : System) (names : NameTable) → IsSystemOf file sys names → IsSystem sys
-system_is file sys names h =
+pub few_listed : (file : FileTree) (sys : System) (names : NameTable) → IsSystemOf file sys names → length sys.arities + condition_count sys.rules < 2 ^ 31 - 2
+few_listed file sys names h =
     let limits = is_within_limits file sys names h in
     let few = conditions_few (has_type file) sys.rules limits.rules in
     let rules = limits.few_rules in
     let symbols = limits.few_symbols in
     let arities = ap length h.arities in
     let same = length-map names.symbols (λ (s : List ℕ × ℕ). s.1) in
+    omega (arith, few, rules, symbols, arities, same)
+
+pub listed_rules : (file : FileTree) (sys : System) (names : NameTable) → IsSystemOf file sys names → length sys.rules + condition_count sys.rules < 2 ^ 31 - 2
+listed_rules file sys names h =
+    let limits = is_within_limits file sys names h in
+    let few = conditions_few (has_type file) sys.rules limits.rules in
+    let rules = limits.few_rules in
+    omega (arith, few, rules)
+
+pub system_is : (file : FileTree) (sys : System) (names : NameTable) → IsSystemOf file sys names → IsSystem sys
+system_is file sys names h =
+    let limits = is_within_limits file sys names h in
+    let symbols = few_listed file sys names h in
+    let rules = listed_rules file sys names h in
     record {
       rules = subst (λ (a : List ℕ). AreRules a sys.rules) (sym h.arities)
           (rules_are (variables_of file) names.symbols (has_type file) file.rules sys.rules h.rules limits.rules
           (subst (All (λ (list : List (List ℕ)). length list ≤ 100)) h.variables limits.few_variables));
-      few_symbols = omega (arith, few, rules, symbols, arities, same);
-      few_rules = omega (arith, few, rules);
+      few_symbols = omega (arith, symbols);
+      few_rules = omega (arith, rules);
     }

@@ -13,10 +13,12 @@ use Rattle.cops_read.specs.Meaning.{with_symbol, sides, phrases_of_rule, variabl
 use Rattle.cops_read.specs.Meaning.{rule_variables, IsTermOf, AreTermsOf, AreConditionsOf, IsRuleOf, AreRulesOf}
 use Rattle.cops_read.specs.Uses.{Side, side_of, Use}
 use Rattle.cops_read.specs.Refusals.{limit_cause, variable_cause, symbol_cause, known_symbol_cause, arity_in, cause_at}
-use Rattle.cops_read.specs.Steps.{nodes, all_nodes, use_at, term_refusal, terms_refusal}
+use Rattle.cops_read.specs.Walks.{nodes, all_nodes, use_at}
+use Rattle.cops_read.specs.Steps.{term_refusal, terms_refusal}
 use Rattle.cops_read.specs.RuleSteps.{side_refusal, condition_refusal, conditions_refusal, bar_refusal, rule_refusal, rules_refusal}
 use Rattle.cops_read.specs.Limits.{IsSmall, IsAllowed, IsWithinLimits}
 use Rattle.cops_read.specs.File.{IsSystemOf}
+use Rattle.cops_read.proofs.Phrases.{head_of}
 use Rattle.cops_read.proofs.Firsts.{none_first, none_then, no_cause, no_later}
 use Rattle.cops_read.proofs.Events.{refusal_is}
 
@@ -64,12 +66,16 @@ symbol_kept table u h small t = by (number_of table u.spot.node.name.text) refl
           arguments = All-push (λ (s : List ℕ × ℕ). s.1 ≤ 20) table (u.spot.node.name.text, u.spot.node.arguments) t.arguments small;
         }
 
-variable_kept : (names : List (List ℕ)) (u : Use) → variable_cause names u ≡ None → length names ≤ 100 → length (with_name names u.spot.node.name.text) ≤ 100
-variable_kept names u h few = by (is_among names u.spot.node.name.text) refl
+-- one name more, where there is room if it is new
+pub name_kept : (names : List (List ℕ)) (name : List ℕ) → length names ≤ 100 → (is_among names name ≡ false → length names < 100) → length (with_name names name) ≤ 100
+name_kept names name few room = by (is_among names name) refl
   where
-    by : (b : Bool) → is_among names u.spot.node.name.text ≡ b → length (if b then names else (names ++ u.spot.node.name.text ∷ [])) ≤ 100
+    by : (b : Bool) → is_among names name ≡ b → length (if b then names else (names ++ name ∷ [])) ≤ 100
     by true e = few
-    by false e = let less = few_variables names u h e in omega (arith, length-append names (u.spot.node.name.text ∷ []))
+    by false e = let less = room e in omega (arith, length-append names (name ∷ []))
+
+variable_kept : (names : List (List ℕ)) (u : Use) → variable_cause names u ≡ None → length names ≤ 100 → length (with_name names u.spot.node.name.text) ≤ 100
+variable_kept names u h few = name_kept names u.spot.node.name.text few (few_variables names u h)
 
 module _ (block : List (List ℕ)) where
   within : (table : List (List ℕ × ℕ)) (names : List (List ℕ)) (u : Use) → cause_at block table names u ≡ None → IsWithin u
@@ -94,29 +100,16 @@ module _ (block : List (List ℕ)) where
 
   -- the head of a phrase
   abbrev pub head_use : Side → ℕ → ℕ → ℕ → Phrase → Use
-  head_use side depth argument before (word f) = use_at side depth argument before record { name = f; brackets = false; arguments = 0 }
-  head_use side depth argument before (call f ts) = use_at side depth argument before record { name = f; brackets = true; arguments = count ts }
+  head_use side depth argument before p = use_at side depth argument before (head_of p)
 
   pub head_accepted : (table : List (List ℕ × ℕ)) (names : List (List ℕ)) (side : Side) (depth argument before : ℕ) (p : Phrase) → term_refusal block table names side depth argument before p ≡ None
       → cause_at block table names (head_use side depth argument before p) ≡ None
   head_accepted table names side depth argument before (word f) h = no_cause _ _ _ h
   head_accepted table names side depth argument before (call f ts) h = no_cause _ _ _ h
 
-  pub record IsHeadWithin (side : Side) (depth argument before : ℕ) : Type 0 where
-    pub rules : side.rule ≤ 1000
-    pub conditions : side.condition ≤ 20
-    pub arguments : argument ≤ 20
-    pub levels : depth ≤ 200
-    pub number : suc before ≤ 2000
-
   pub head_within : (table : List (List ℕ × ℕ)) (names : List (List ℕ)) (side : Side) (depth argument before : ℕ) (p : Phrase) → term_refusal block table names side depth argument before p ≡ None
-      → IsHeadWithin side depth argument before
-  head_within table names side depth argument before (word f) h =
-      let w = within table names (head_use side depth argument before (word f)) (head_accepted table names side depth argument before (word f) h) in
-      record { rules = w.rules; conditions = w.conditions; arguments = w.arguments; levels = w.depth; number = w.number }
-  head_within table names side depth argument before (call f ts) h =
-      let w = within table names (head_use side depth argument before (call f ts)) (head_accepted table names side depth argument before (call f ts) h) in
-      record { rules = w.rules; conditions = w.conditions; arguments = w.arguments; levels = w.depth; number = w.number }
+      → IsWithin (head_use side depth argument before p)
+  head_within table names side depth argument before p h = within table names (head_use side depth argument before p) (head_accepted table names side depth argument before p h)
 
   -- arguments from a number on
   few_arguments : (table : List (List ℕ × ℕ)) (names : List (List ℕ)) (side : Side) (depth argument before : ℕ) (ps : Phrases) → terms_refusal block table names side depth argument before ps ≡ None

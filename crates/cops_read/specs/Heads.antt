@@ -7,7 +7,8 @@ use Rattle.cops_read.specs.Meaning.{with_symbol}
 use Rattle.cops_read.specs.Uses.{Side, side_of, Use}
 use Rattle.cops_read.specs.Refusals.{MeaningCause, limit_cause, variable_cause, symbol_cause, cause_at, first_or}
 use Rattle.cops_read.specs.Counts.{most_of}
-use Rattle.cops_read.specs.Steps.{Tells, use_at}
+use Rattle.cops_read.specs.Walks.{use_at}
+use Rattle.cops_read.specs.Steps.{Tells}
 use Rattle.cops_read.specs.declared.heads.NodePlace.{NodePlace}
 use Rattle.cops_read.specs.declared.heads.VariableOrSymbol.{VariableOrSymbol}
 use Rattle.cops_read.specs.declared.heads.VariableOrSymbol.TheVariants.{Variable, Symbol}

@@ -5,6 +5,7 @@ pub mod Refusals
 pub mod Limits
 pub mod File
 pub mod Counts
+pub mod Walks
 pub mod Steps
 pub mod RuleSteps
 pub mod Heads

@@ -4,19 +4,19 @@ use Rattle.std.specs.Option.{is_some, option_or}
 use Rattle.cops_syntax.specs.declared.tree.RuleText.{RuleText}
 use Rattle.std.specs.Global.{Vec}
 use Rattle.file_text.specs.Syntax.{Phrase, ConditionTree, RuleTree, conditions_of, FileTree}
-use Rattle.rewriting.specs.Terms as math
 use Rattle.rewriting.specs.Rules as rules
-use Rattle.term_core.specs.Prelude.{view, rule_view, condition_view}
+use Rattle.term_core.specs.Prelude.{rule_view}
 use Rattle.term_core.specs.declared.terms.Term.{Term}
 use Rattle.term_core.specs.declared.systems.Cond.{Cond}
 use Rattle.term_core.specs.declared.systems.Rule.{Rule}
-use Rattle.cops_read.specs.Meaning.{sides, phrases_of_rule, with_symbols, with_all_symbols, with_variables, with_all_variables, with_rule_symbols, rule_variables, IsTermOf}
-use Rattle.cops_read.specs.Meaning.{AreConditionsOf, IsRuleOf, AreRulesOf}
+use Rattle.cops_read.specs.Meaning.{phrases_of_rule, with_symbols, with_all_symbols, with_variables, with_rule_symbols, rule_variables}
+use Rattle.cops_read.specs.Meaning.{IsRuleOf, AreRulesOf}
 use Rattle.cops_read.specs.Uses.{Side, side_of}
 use Rattle.cops_names.specs.NameTable.{NameTable}
 use Rattle.cops_read.specs.File.{IsSystemOf, IsJoinedFile, IsMeant}
-use Rattle.cops_read.specs.Refusals.{MeaningCause, conditions_without_type, refusal_of}
-use Rattle.cops_read.specs.Steps.{Tells, term_refusal}
+use Rattle.cops_read.specs.Refusals.{MeaningCause, conditions_without_type, cause_at, refusal_of}
+use Rattle.cops_read.specs.Walks as walks
+use Rattle.cops_read.specs.Steps.{Tells}
 use Rattle.cops_read.specs.declared.errors.ReadError.{ReadError}
 use Rattle.cops_read.specs.declared.errors.ReadError.TheVariants.{NoMemory}
 
@@ -31,22 +31,14 @@ BarAnswers typed bar (Err e) = Tells e (bar_refusal typed bar)
 
 -- Of the identifiers, those of the block are variables. Refusals come with the symbols and the rule's variables so far.
 module _ (block : List (List ℕ)) where
-  -- in a side of a rule or of a condition
   abbrev pub side_refusal : List (List ℕ × ℕ) → List (List ℕ) → Side → Phrase → Option (MeaningCause × ℕ)
-  side_refusal table names side p = term_refusal block table names side 1 0 0 p
+  side_refusal = walks.side_refusal (cause_at block) block
 
-  -- in the condition with a number
   abbrev pub condition_refusal : List (List ℕ × ℕ) → List (List ℕ) → ℕ → ℕ → ConditionTree → Option (MeaningCause × ℕ)
-  condition_refusal table names rule number c =
-      option_or (side_refusal table names (side_of rule number false) c.left)
-      (side_refusal (with_symbols block table c.left) (with_variables block names c.left) (side_of rule number false) c.right)
+  condition_refusal = walks.condition_refusal (cause_at block) block
 
-  -- in conditions from a number on
   abbrev pub conditions_refusal : List (List ℕ × ℕ) → List (List ℕ) → ℕ → ℕ → List ConditionTree → Option (MeaningCause × ℕ)
-  conditions_refusal table names rule number [] = None
-  conditions_refusal table names rule number (c ∷ cs) =
-      option_or (condition_refusal table names rule number c)
-      (conditions_refusal (with_symbols block (with_symbols block table c.left) c.right) (with_variables block (with_variables block names c.left) c.right) rule (number + 1) cs)
+  conditions_refusal = walks.conditions_refusal (cause_at block) block
 
   -- in the rule with a number
   abbrev pub rule_refusal : Bool → List (List ℕ × ℕ) → ℕ → RuleTree → Option (MeaningCause × ℕ)
@@ -62,41 +54,14 @@ module _ (block : List (List ℕ)) where
   rules_refusal typed table number (r ∷ rs) =
       option_or (rule_refusal typed table number r) (rules_refusal typed (with_all_symbols block table (phrases_of_rule r)) (number + 1) rs)
 
-  -- a side of a rule or a condition was read: what it adds to the symbols and the variables, and what it means
-  pub record IsSideRead (table : List (List ℕ × ℕ)) (names : List (List ℕ)) (side : Side) (p : Phrase) (after : List (List ℕ × ℕ)) (later : List (List ℕ)) (t : math.Term) : Type 0 where
-    pub accepted : side_refusal table names side p ≡ None
-    pub symbols : after ≡ with_symbols block table p
-    pub variables : later ≡ with_variables block names p
-    pub means : IsTermOf block after later p t
-
   abbrev pub SideAnswers : List (List ℕ × ℕ) → List (List ℕ) → Side → Phrase → List (List ℕ × ℕ) → List (List ℕ) → Result Term ReadError → Type 0
-  SideAnswers table names side p after later (Ok t) = IsSideRead table names side p after later (view t)
-  SideAnswers table names side p after later (Err e) = Tells e (side_refusal table names side p)
-
-  -- the same of a condition
-  pub record IsConditionRead (table : List (List ℕ × ℕ)) (names : List (List ℕ)) (rule number : ℕ) (c : ConditionTree) (after : List (List ℕ × ℕ)) (later : List (List ℕ))
-      (d : rules.Condition) : Type 0 where
-    pub accepted : condition_refusal table names rule number c ≡ None
-    pub symbols : after ≡ with_symbols block (with_symbols block table c.left) c.right
-    pub variables : later ≡ with_variables block (with_variables block names c.left) c.right
-    pub left : IsTermOf block after later c.left d.left
-    pub right : IsTermOf block after later c.right d.right
+  SideAnswers = walks.SideAnswers (cause_at block) block Tells
 
   abbrev pub ConditionAnswers : List (List ℕ × ℕ) → List (List ℕ) → ℕ → ℕ → ConditionTree → List (List ℕ × ℕ) → List (List ℕ) → Result Cond ReadError → Type 0
-  ConditionAnswers table names rule number c after later (Ok d) = IsConditionRead table names rule number c after later (condition_view d)
-  ConditionAnswers table names rule number c after later (Err e) = Tells e (condition_refusal table names rule number c)
-
-  -- the same of conditions, from the first on
-  pub record AreConditionsRead (table : List (List ℕ × ℕ)) (names : List (List ℕ)) (rule : ℕ) (cs : List ConditionTree) (after : List (List ℕ × ℕ)) (later : List (List ℕ))
-      (ds : List rules.Condition) : Type 0 where
-    pub accepted : conditions_refusal table names rule 1 cs ≡ None
-    pub symbols : after ≡ with_all_symbols block table (sides cs)
-    pub variables : later ≡ with_all_variables block names (sides cs)
-    pub mean : AreConditionsOf block after later cs ds
+  ConditionAnswers = walks.ConditionAnswers (cause_at block) block Tells
 
   abbrev pub ConditionsAnswers : List (List ℕ × ℕ) → List (List ℕ) → ℕ → List ConditionTree → List (List ℕ × ℕ) → List (List ℕ) → Result (Vec Cond) ReadError → Type 0
-  ConditionsAnswers table names rule cs after later (Ok v) = AreConditionsRead table names rule cs after later (map condition_view v.items)
-  ConditionsAnswers table names rule cs after later (Err e) = Tells e (conditions_refusal table names rule 1 cs)
+  ConditionsAnswers = walks.ConditionsAnswers (cause_at block) block Tells
 
   -- a rule was read: its symbols, the names of its variables, and what it means
   pub record IsRuleRead (typed : Bool) (table : List (List ℕ × ℕ)) (number : ℕ) (tree : RuleTree) (after : List (List ℕ × ℕ)) (later : List (List ℕ)) (r : Rule) : Type 0 where

@@ -22,21 +22,21 @@ pub(crate) struct Scope<'a> {
     pub(crate) variables: NameSet<'a>,
 }
 
-// Where an identifier stands: in a rule, from 1, in a condition, from 1, or 0 in a side of the rule,
-// and whether in the left side; its depth, from 1; which argument begins with it, 0 at the root; and
-// how many identifiers of its term stand before it.
+/// Where an identifier stands: in a rule, from 1, in a condition, from 1, or 0 in a side of the rule,
+/// and whether in the left side; its depth, from 1; which argument begins with it, 0 at the root; and
+/// how many identifiers of its term stand before it.
 #[derive(Clone, Copy)]
-pub(crate) struct NodePlace {
-    pub(crate) rule: usize,
-    pub(crate) condition: usize,
-    pub(crate) is_left: bool,
-    pub(crate) depth: usize,
-    pub(crate) argument: usize,
-    pub(crate) before: usize,
+pub struct NodePlace {
+    pub rule: usize,
+    pub condition: usize,
+    pub is_left: bool,
+    pub depth: usize,
+    pub argument: usize,
+    pub before: usize,
 }
 
-// A variable or a symbol, by its number.
-pub(crate) enum VariableOrSymbol {
+/// A variable or a symbol, by its number.
+pub enum VariableOrSymbol {
     Variable(u32),
     Symbol(u32),
 }

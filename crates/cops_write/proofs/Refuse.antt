@@ -8,7 +8,8 @@ use Rattle.cops_names.specs.NameLists.{is_among, with_name}
 use Rattle.cops_read.specs.Meaning.{with_symbol, sides, phrases_of_rule}
 use Rattle.cops_read.specs.Uses.{Spot, spots, spots_of_all, Side, side_of, Use, Event, use_of, bar_at, uses_from, term_events, condition_events, guard_events, rule_events, rules_events}
 use Rattle.cops_read.specs.Refusals.{MeaningCause, limit_cause, variable_cause, symbol_cause, known_symbol_cause, arity_in, arity_differs, variable_with_arguments, left_variable}
-use Rattle.cops_read.specs.Refusals.{too_many_variables, first_or, symbols_used, variables_used, cause_at, event_cause, first_refusal}
+use Rattle.cops_read.specs.Refusals.{too_many_variables, symbols_used, variables_used, cause_at, event_cause, first_refusal}
+use Rattle.cops_read.proofs.Firsts.{no_cause, no_later, nothing_first}
 use Rattle.cops_write.proofs.Trees.{Alike, AreAlike, ConditionsAlike, GuardsAlike, RulesAlike}
 use Rattle.cops_write.proofs.Agree.{Names, Agree, AgreeAll, RulesAgree}
 use Rattle.cops_write.proofs.SameText.{has_guard, some_guard}
@@ -229,14 +230,6 @@ module _ (block other : Names) (oriented : Bool) where
       (is_among other v.spot.node.name.text)
       (same_limits u v l) l.spot.told (variable_fine vars u v l) (same_symbol_cause now u v l) here
 
-  first_fine : (c : Option MeaningCause) (at : ℕ) (rest : Option (MeaningCause × ℕ)) → first_or c at rest ≡ None → (c ≡ None) × (rest ≡ None)
-  first_fine None at rest h = (refl, h)
-  first_fine (Some c) at rest h = absurd cc
-
-  fine_first : (c : Option MeaningCause) (at : ℕ) (rest : Option (MeaningCause × ℕ)) → c ≡ None → rest ≡ None → first_or c at rest ≡ None
-  fine_first None at rest h k = k
-  fine_first (Some c) at rest h k = absurd cc
-
   pub not_refused : (before : Bool) (front gone es fs : List Event) → EventsAlike front gone → EventsAlike es fs → first_refusal block before front es ≡ None
       → first_refusal other oriented gone fs ≡ None
   not_refused before front gone [] [] k l h = refl
@@ -245,12 +238,13 @@ module _ (block other : Names) (oriented : Bool) where
   not_refused before front gone (use_of u ∷ es) (bar_at at ∷ fs) k l h = absurd l
   not_refused before front gone (bar_at at ∷ es) (use_of v ∷ fs) k l h = absurd l
   not_refused before front gone (use_of u ∷ es) (use_of v ∷ fs) k l h =
-      let both = first_fine (cause_at block (symbols_used block [] front) (variables_used block u.side.rule [] front) u) u.spot.node.name.at
-      (first_refusal block before (front ++ use_of u ∷ []) es) h in
-      fine_first (cause_at other (symbols_used other [] gone) (variables_used other v.side.rule [] gone) v) v.spot.node.name.at (first_refusal other oriented (gone ++ use_of v ∷ []) fs)
-      (use_fine front gone u v k l.0 both.0)
-      (not_refused before (front ++ use_of u ∷ []) (gone ++ use_of v ∷ []) es fs (events_then front gone (use_of u ∷ []) (use_of v ∷ []) k (l.0, tt)) l.1 both.1)
+      let cause = cause_at block (symbols_used block [] front) (variables_used block u.side.rule [] front) u in
+      let others = first_refusal block before (front ++ use_of u ∷ []) es in
+      nothing_first (cause_at other (symbols_used other [] gone) (variables_used other v.side.rule [] gone) v) v.spot.node.name.at (first_refusal other oriented (gone ++ use_of v ∷ []) fs)
+      (use_fine front gone u v k l.0 (no_cause cause u.spot.node.name.at others h))
+      (not_refused before (front ++ use_of u ∷ []) (gone ++ use_of v ∷ []) es fs (events_then front gone (use_of u ∷ []) (use_of v ∷ []) k (l.0, tt)) l.1
+      (no_later cause u.spot.node.name.at others h))
   not_refused before front gone (bar_at at ∷ es) (bar_at place ∷ fs) k l h =
-      let both = first_fine (event_cause block before front (bar_at at)) at (first_refusal block before (front ++ bar_at at ∷ []) es) h in
-      fine_first (event_cause other oriented gone (bar_at place)) place (first_refusal other oriented (gone ++ bar_at place ∷ []) fs) (rw l.0 refl)
-      (not_refused before (front ++ bar_at at ∷ []) (gone ++ bar_at place ∷ []) es fs (events_then front gone (bar_at at ∷ []) (bar_at place ∷ []) k (l.0, tt)) l.1 both.1)
+      nothing_first (event_cause other oriented gone (bar_at place)) place (first_refusal other oriented (gone ++ bar_at place ∷ []) fs) (rw l.0 refl)
+      (not_refused before (front ++ bar_at at ∷ []) (gone ++ bar_at place ∷ []) es fs (events_then front gone (bar_at at ∷ []) (bar_at place ∷ []) k (l.0, tt)) l.1
+      (no_later (event_cause block before front (bar_at at)) at (first_refusal block before (front ++ bar_at at ∷ []) es) h))

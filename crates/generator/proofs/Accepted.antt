@@ -5,7 +5,6 @@ use Rattle.std.proofs.lemmas.Bool.{le-ltb, lt-leb, and_right}
 use Rattle.std.proofs.lemmas.List.Quantifiers.{position-Some}
 use Rattle.std.proofs.lemmas.Option.{slice_get-get_or}
 use Rattle.std.specs.Str.{bytes_eq}
-use Rattle.std.specs.Option.{option_or}
 use Rattle.file_text.specs.Syntax.{Phrase, Phrases, word, call, none, more, count, Node, ConditionTree, RuleTree, conditions_of, Guard}
 use Rattle.rewriting.specs.Prelude.{Term, var, app, Terms, nil, cons, IsVariable, Condition, Rule}
 use Rattle.cops_names.specs.NameTable.{number_of}
@@ -14,9 +13,12 @@ use Rattle.cops_names.proofs.Lists.{Extends, extends_refl, extends_trans, extend
 use Rattle.cops_read.specs.Meaning.{phrases_of_rule, sides, rule_variables, with_variables, with_all_variables, with_symbols, with_all_symbols, with_rule_symbols, IsSymbolOf}
 use Rattle.cops_read.specs.Meaning.{IsTermOf, AreTermsOf, AreConditionsOf, IsRuleOf, AreRulesOf}
 use Rattle.cops_read.specs.Uses.{Use, Side, side_of}
-use Rattle.cops_read.specs.Refusals.{MeaningCause, limit_cause, variable_cause, symbol_cause, known_symbol_cause, arity_in, first_or, cause_at}
-use Rattle.cops_read.specs.Steps.{nodes, all_nodes, use_at, term_refusal, terms_refusal}
+use Rattle.cops_read.specs.Refusals.{limit_cause, variable_cause, symbol_cause, known_symbol_cause, arity_in, cause_at}
+use Rattle.cops_read.specs.Walks.{nodes, all_nodes, use_at}
+use Rattle.cops_read.specs.Steps.{term_refusal, terms_refusal}
 use Rattle.cops_read.specs.RuleSteps.{bar_refusal, side_refusal, conditions_refusal, rule_refusal, rules_refusal}
+use Rattle.cops_read.proofs.Firsts.{none_of_both, nothing_first}
+use Rattle.cops_read.proofs.Identifiers.{cause_of_variable, cause_of_symbol}
 use Rattle.cops_read.proofs.Growth.{symbols_extend, all_symbols_extend, variables_extend, all_variables_extend, rule_symbols_extend}
 
 abbrev Table : Type 0
@@ -83,19 +85,6 @@ module _ (block : Names) (whole : Table) (few : length whole < 1000) where
   variable_passes : (names : Names) (u : Use) → u.spot.node.brackets ≡ false → (u.side.is_left && (u.spot.depth == 1)) ≡ false → length names < 100 → variable_cause names u ≡ None
   variable_passes names u b l h = rw (b, l, and_right (not (is_among names u.spot.node.name.text)) (nat_le 100 (length names)) (lt-leb 100 (length names) h)) refl
 
-  cause_of_variable : (table : Table) (names : Names) (u : Use) → limit_cause u ≡ None → is_among block u.spot.node.name.text ≡ true → variable_cause names u ≡ None
-      → cause_at block table names u ≡ None
-  cause_of_variable table names u l b v = rw (l, b) v
-
-  cause_of_symbol : (table : Table) (names : Names) (u : Use) → limit_cause u ≡ None → is_among block u.spot.node.name.text ≡ false → symbol_cause table u ≡ None → cause_at block table names u ≡ None
-  cause_of_symbol table names u l b v = rw (l, b) v
-
-  passes : (c : Option MeaningCause) (at : ℕ) (others : Option (MeaningCause × ℕ)) → c ≡ None → others ≡ None → first_or c at others ≡ None
-  passes c at others h k = ap (λ (c : Option MeaningCause). first_or c at others) h ∙ k
-
-  both_pass : (a b : Option (MeaningCause × ℕ)) → a ≡ None → b ≡ None → option_or a b ≡ None
-  both_pass a b h k = ap (λ (a : Option (MeaningCause × ℕ)). option_or a b) h ∙ k
-
   module _ (vars : Names) (few_vars : length vars < 100) (side : Side) (rule : side.rule ≤ 1000) (condition : side.condition ≤ 20) where
     mutual
       term_passes : (table : Table) (names : Names) (d a b : ℕ) (p : Phrase) (t : Term) → Extends (with_symbols block table p) whole → Extends (with_variables block names p) vars
@@ -105,20 +94,20 @@ module _ (block : Names) (whole : Table) (few : length whole < 1000) where
           let node : Node = record { name = f; brackets = false; arguments = 0 } in
           let u = use_at side d a b node in
           let l = extends_length names vars (extends_trans _ _ _ (variables_extend block names (word f)) v) in
-          passes (cause_at block table names u) f.at None
-          (cause_of_variable table names u (in_limits side d a b node rule condition an (omega arith) (omega arith)) h.0 (variable_passes names u refl (left tt) (omega arith))) refl
+          nothing_first (cause_at block table names u) f.at None
+          (cause_of_variable block table names u (in_limits side d a b node rule condition an (omega arith) (omega arith)) h.0 (variable_passes names u refl (left tt) (omega arith))) refl
       term_passes table names d a b (word f) (app g us) e v h low dn an bn left =
           let node : Node = record { name = f; brackets = false; arguments = 0 } in
           let u = use_at side d a b node in
-          passes (cause_at block table names u) f.at None
-          (cause_of_symbol table names u (in_limits side d a b node rule condition an (omega arith) (omega arith)) h.0.0
+          nothing_first (cause_at block table names u) f.at None
+          (cause_of_symbol block table names u (in_limits side d a b node rule condition an (omega arith) (omega arith)) h.0.0
           (symbol_passes table (extends_trans _ _ _ (symbols_extend block table (word f)) e) u g h.0)) refl
       term_passes table names d a b (call f ts) (var x) e v h low dn an bn left = absurd h
       term_passes table names d a b (call f ts) (app g us) e v h low dn an bn left =
           let node : Node = record { name = f; brackets = true; arguments = count ts } in
           let u = use_at side d a b node in
-          passes (cause_at block table names u) f.at _
-          (cause_of_symbol table names u (in_limits side d a b node rule condition an (omega arith) (omega arith)) h.0.0
+          nothing_first (cause_at block table names u) f.at _
+          (cause_of_symbol block table names u (in_limits side d a b node rule condition an (omega arith) (omega arith)) h.0.0
           (symbol_passes table (extends_trans _ _ _ (symbols_extend block table (call f ts)) e) u g h.0))
           (terms_pass _ names (d + 1) 1 (b + 1) ts us e v h.1 (omega arith) (omega arith) (omega arith) (omega arith) (and_right side.is_left (d + 1 == 1) (ne_eqb (d + 1) 1 (λ q. omega arith))))
 
@@ -129,7 +118,7 @@ module _ (block : Names) (whole : Table) (few : length whole < 1000) where
       terms_pass table names d a b (more p ps) nil e v h low dn an bn left = absurd h
       terms_pass table names d a b (more p ps) (cons t ts) e v h low dn an bn left =
           let one = some_nodes p in
-          both_pass _ _ (term_passes table names d a b p t (extends_trans _ _ _ (all_symbols_extend block (with_symbols block table p) ps) e)
+          none_of_both _ _ (term_passes table names d a b p t (extends_trans _ _ _ (all_symbols_extend block (with_symbols block table p) ps) e)
           (extends_trans _ _ _ (all_variables_extend block (with_variables block names p) ps) v) h.0 low (omega arith) (omega arith) (omega arith) (λ _. left))
           (terms_pass (with_symbols block table p) (with_variables block names p) d (a + 1) (b + nodes p) ps ts e v h.1 low (omega arith) (omega arith) (omega arith) left)
 
@@ -148,8 +137,8 @@ module _ (block : Names) (whole : Table) (few : length whole < 1000) where
     conditions_pass table names k (c ∷ cs) (d ∷ ds) e v h f l =
         let e1 = extends_trans _ _ _ (all_symbols_extend block (with_symbols block (with_symbols block table c.left) c.right) (sides cs)) e in
         let v1 = extends_trans _ _ _ (all_variables_extend block (with_variables block (with_variables block names c.left) c.right) (sides cs)) v in
-        both_pass _ _
-        (both_pass _ _
+        none_of_both _ _
+        (none_of_both _ _
         (side_passes table names k false c.left d.left (extends_trans _ _ _ (symbols_extend block (with_symbols block table c.left) c.right) e1)
         (extends_trans _ _ _ (variables_extend block (with_variables block names c.left) c.right) v1) h.0 (omega arith) f.0 (λ _. refl))
         (side_passes (with_symbols block table c.left) (with_variables block names c.left) k false c.right d.right e1 v1 h.1 (omega arith) f.1 (λ _. refl)))
@@ -169,13 +158,13 @@ module _ (block : Names) (whole : Table) (few : length whole < 1000) where
       let e2 = extends_trans _ _ _ (all_symbols_extend block (with_symbols block (with_symbols block table tree.left) tree.right) (sides cs)) e in
       let v2 : Extends (with_variables block (with_variables block [] tree.left) tree.right) vars = all_variables_extend block
       (with_variables block (with_variables block [] tree.left) tree.right) (sides cs) in
-      both_pass _ _
+      none_of_both _ _
       (side_passes vars f.few_variables number n table [] 0 true tree.left r.left (extends_trans _ _ _ (symbols_extend block (with_symbols block table tree.left) tree.right) e2)
       (extends_trans _ _ _ (variables_extend block (with_variables block [] tree.left) tree.right) v2) h.left (omega arith) f.left_nodes (λ i. absurd (f.left i)))
-      (both_pass _ _
+      (none_of_both _ _
       (side_passes vars f.few_variables number n (with_symbols block table tree.left) (with_variables block [] tree.left) 0 false tree.right r.right e2 v2 h.right
       (omega arith) f.right_nodes (λ _. refl))
-      (both_pass _ _ (bar_passes tree.guard)
+      (none_of_both _ _ (bar_passes tree.guard)
       (conditions_pass vars f.few_variables number n (with_symbols block (with_symbols block table tree.left) tree.right)
       (with_variables block (with_variables block [] tree.left) tree.right) 1 cs r.conditions e
       whole_row h.conditions f.conditions (let l = f.few_conditions in omega arith))))
@@ -186,6 +175,6 @@ module _ (block : Names) (whole : Table) (few : length whole < 1000) where
   rules_pass table number [] rs e h f n = refl
   rules_pass table number (t ∷ ts) [] e h f n = absurd h
   rules_pass table number (t ∷ ts) (r ∷ rs) e h f n =
-      both_pass _ _
+      none_of_both _ _
       (rule_passes table number t r (extends_trans _ _ _ (rule_symbols_extend block (with_all_symbols block table (phrases_of_rule t)) ts) e) h.0 f.0 (omega arith))
       (rules_pass (with_all_symbols block table (phrases_of_rule t)) (number + 1) ts rs e h.1 f.1 (omega arith))

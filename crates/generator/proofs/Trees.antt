@@ -9,7 +9,7 @@ use Rattle.rewriting.specs.Prelude.{Term, var, app, Terms, nil, cons, Rule, term
 use Rattle.cops_names.specs.NameTable.{number_of}
 use Rattle.cops_names.proofs.Lists.{Extends, extends_refl, extends_trans}
 use Rattle.cops_read.specs.Meaning.{phrases_of_rule, rule_variables, with_symbol, with_symbols, with_all_symbols, with_rule_symbols, IsSymbolOf, IsTermOf, AreTermsOf, IsRuleOf, AreRulesOf}
-use Rattle.cops_read.specs.Steps.{nodes}
+use Rattle.cops_read.specs.Walks.{nodes}
 use Rattle.cops_read.proofs.Growth.{symbol_grows}
 use Rattle.cops_read.proofs.Sound.{terms_are}
 use Rattle.cops_read.proofs.Uses.{with_fresh, put_last}

@@ -6,11 +6,11 @@ use Rattle.cops_syntax.specs.View.{names_view}
 use Rattle.cops_syntax.specs.declared.tree.Name as program
 use Rattle.cops_names.specs.NameLists.{with_names}
 use Rattle.query_text.specs.Grammar.{QueryTree, conditions_of}
-use Rattle.query_text.specs.Meaning.{variables_of, refusal_of, IsMeantBy}
+use Rattle.query_text.specs.Meaning.{variables_of, cause_at, refusal_of, IsMeantBy}
 use Rattle.query_trees.specs.declared.tree.QueryText.{QueryText}
 use Rattle.query_trees.specs.Answers.{IsTreeOf}
 use Rattle.query_terms.specs.Steps.{Tells}
-use Rattle.query_terms.specs.Conditions.{conditions_refusal, AreConditionsRead}
+use Rattle.cops_read.specs.Walks.{conditions_refusal, AreConditionsRead}
 use Rattle.query_terms.specs.declared.errors.MeaningError.{MeaningError}
 use Rattle.query_terms.proofs.Events.{refusal_is}
 
@@ -22,16 +22,16 @@ block_is tree q none block items h empty e same =
     ∙ ap (λ (ns : List program.Name). with_names [] (map (λ (n : Name). n.text) (names_view ns))) same ∙ ap (λ (ns : List Name). with_names [] (map (λ (n : Name). n.text) ns)) h.variables
 
 module _ (table : List (List ℕ × ℕ)) (tree : QueryTree) (block names : List (List ℕ)) (is : block ≡ variables_of tree) (none : names ≡ []) where
-  pub meaning_told : (e : MeaningError) → Tells e (conditions_refusal block table names 1 (conditions_of tree)) → Tells e (refusal_of table tree)
+  pub meaning_told : (e : MeaningError) → Tells e (conditions_refusal (cause_at block) block table names 1 1 (conditions_of tree)) → Tells e (refusal_of table tree)
   meaning_told e t =
       subst (Tells e) (sym (refusal_is table tree))
-      (subst (λ (ns : List (List ℕ)). Tells e (conditions_refusal (variables_of tree) table ns 1 (conditions_of tree))) none
-      (subst (λ (b : List (List ℕ)). Tells e (conditions_refusal b table names 1 (conditions_of tree))) is t))
+      (subst (λ (ns : List (List ℕ)). Tells e (conditions_refusal (cause_at (variables_of tree)) (variables_of tree) table ns 1 1 (conditions_of tree))) none
+      (subst (λ (b : List (List ℕ)). Tells e (conditions_refusal (cause_at b) b table names 1 1 (conditions_of tree))) is t))
 
-  pub meaning_read : (later : List (List ℕ)) (ds : List rules.Condition) (texts : List (List ℕ)) → texts ≡ later → AreConditionsRead block table names (conditions_of tree) later ds
-      → IsMeantBy table tree ds texts
+  pub meaning_read : (later : List (List ℕ)) (ds : List rules.Condition) (texts : List (List ℕ)) → texts ≡ later
+      → AreConditionsRead (cause_at block) block table names 1 (conditions_of tree) table later ds → IsMeantBy table tree ds texts
   meaning_read later ds texts e h =
-      let a = subst (λ (b : List (List ℕ)). AreConditionsRead b table names (conditions_of tree) later ds) is h in
-      let b = subst (λ (ns : List (List ℕ)). AreConditionsRead (variables_of tree) table ns (conditions_of tree) later ds) none a in
-      let c = subst (λ (l : List (List ℕ)). AreConditionsRead (variables_of tree) table [] (conditions_of tree) l ds) (sym e) b in
+      let a = subst (λ (b : List (List ℕ)). AreConditionsRead (cause_at b) b table names 1 (conditions_of tree) table later ds) is h in
+      let b = subst (λ (ns : List (List ℕ)). AreConditionsRead (cause_at (variables_of tree)) (variables_of tree) table ns 1 (conditions_of tree) table later ds) none a in
+      let c = subst (λ (l : List (List ℕ)). AreConditionsRead (cause_at (variables_of tree)) (variables_of tree) table [] 1 (conditions_of tree) table l ds) (sym e) b in
       record { accepted = refusal_is table tree ∙ c.accepted; variables = c.variables; conditions = c.mean }

@@ -7,6 +7,7 @@ use Rattle.file_text.proofs.OneReading.{one_bad_place, never_both as never_token
 use Rattle.file_text.proofs.SomeReading.{tokens_or_refusal}
 use Rattle.file_text.proofs.Within.{no_tokens_within}
 use Rattle.rewriting.specs.Rules.{Condition, System}
+use Rattle.cops_read.proofs.Firsts.{same_refusal}
 use Rattle.query_text.specs.Grammar.{QueryTree}
 use Rattle.query_text.specs.Texts.{IsQueryText, IsNoQueryText}
 use Rattle.query_text.specs.Meaning.{QueryCause, refusal_of, IsMeantBy}
@@ -19,11 +20,6 @@ use Rattle.query_text.proofs.Places.{syntax_within, meaning_within}
 pub one_query : OneQuery
 one_query sys symbols bytes cs ds names others h g =
     one_meaning symbols h.tree cs ds names others h.meant (subst (λ (t : QueryTree). IsMeantBy symbols t ds others) (one_query_tree bytes g.tree h.tree g.spelled h.spelled) g.meant)
-
-same_refusal : (o : Option (QueryCause × ℕ)) (c d : QueryCause) (at place : ℕ) → o ≡ Some (c, at) → o ≡ Some (d, place) → (no_meaning c ≡ no_meaning d) × (at ≡ place)
-same_refusal o c d at place h g =
-    let pair : (c, at) ≡ (d, place) = cc in
-    (ap (λ (r : QueryCause × ℕ). no_meaning r.0) pair, ap (λ (r : QueryCause × ℕ). r.1) pair)
 
 never_own : {P : Type 0} (sys : System) → sys.own < length sys.arities → HasOwnSymbols sys → P
 never_own sys less own = absurd (omega (arith, less, own))
@@ -44,7 +40,7 @@ behind_own sys symbols bytes (no_meaning c) join_system at place own h (less, g)
 behind_own sys symbols bytes (no_meaning c) (no_tokens d) at place own h g = absurd (never_tokens_and_refusal bytes h.1.spelled.tokens d place h.1.spelled.spelled g.1)
 behind_own sys symbols bytes (no_meaning c) wrong_syntax at place own h g = absurd (never_tree_and_place bytes h.1.tree place h.1.spelled g.1)
 behind_own sys symbols bytes (no_meaning c) (no_meaning d) at place own h g =
-    same_refusal (refusal_of symbols h.1.tree) c d at place h.1.refused (ap (refusal_of symbols) (one_query_tree bytes h.1.tree g.1.tree h.1.spelled g.1.spelled) ∙ g.1.refused)
+    same_refusal no_meaning (refusal_of symbols h.1.tree) c d at place h.1.refused (ap (refusal_of symbols) (one_query_tree bytes h.1.tree g.1.tree h.1.spelled g.1.spelled) ∙ g.1.refused)
 
 is_join : (sys : System) (symbols : List (List ℕ × ℕ)) (bytes : List ℕ) (cause : Refusal) (at : ℕ) → sys.own < length sys.arities → IsNoQuery sys symbols bytes cause at
     → (cause ≡ join_system) × (at ≡ 0)

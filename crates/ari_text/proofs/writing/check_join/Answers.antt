@@ -1,4 +1,5 @@
-use Rattle.cops_read.proofs.Meant.{listed_fit, few_listed, listed_rules}
+use Rattle.cops_read.proofs.Sound.{few_listed, listed_rules}
+use Rattle.cops_read.proofs.Meant.{listed_fit}
 use Rattle.ari_text.proofs.writing.check_join.Goals as goal
 
 pub join_sound-requires : goal.join_sound-requires

@@ -1,5 +1,6 @@
 use Rattle.std.proofs.Common.{arith}
-use Rattle.cops_read.proofs.Meant.{few_names, trees_long, listed_symbols, listed_fit, few_listed, listed_rules}
+use Rattle.cops_read.proofs.Sound.{few_listed, listed_rules}
+use Rattle.cops_read.proofs.Meant.{few_names, trees_long, listed_symbols, listed_fit}
 use Rattle.cops_read.proofs.files.join_list.Goals as goal
 
 pub add_join_names-requires-clause-few : goal.add_join_names-requires-clause-few

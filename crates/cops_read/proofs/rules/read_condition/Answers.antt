@@ -1,7 +1,6 @@
 use Rattle.std.proofs.Common.{List, sym, subst}
 use Rattle.cops_syntax.specs.View.{IsTerm}
 use Rattle.cops_syntax.specs.declared.tree.Node.{Node}
-use Rattle.term_core.specs.View.{view}
 use Rattle.cops_read.proofs.Parts.{both_read}
 use Rattle.cops_read.proofs.rules.read_condition.Goals as goal
 
@@ -19,6 +18,4 @@ pub returns-clause-condition : goal.returns-clause-condition
 returns-clause-condition c tree h =
     let first = rw c.deref.ensures.value at (c.in_ok-left.ensures.side tree.left) in
     let second = rw (c.deref-2.ensures.value, c.in_ok-left.ensures.block) at (c.in_ok-right.ensures.side tree.right) in
-    both_read c.args.scope.now.block c.args.scope.now.names.symbols c.args.scope.now.variables c.args.rule c.args.number tree
-    c.read_side.new.scope.names.symbols c.read_side.new.scope.variables (view c.in_ok-left.left) (first h.left)
-    c.read_side-2.new.scope.names.symbols c.read_side-2.new.scope.variables (view c.in_ok-right.right) (second h.right)
+    both_read c.args.rule c.args.number tree (first h.left) (second h.right)

@@ -1,7 +1,6 @@
 use Rattle.std.proofs.Common.{◌≡◌, ◌∙◌, ◌+◌, length, arith, ap, sym, add-one, length-append}
 use Rattle.std.proofs.lemmas.List.{length_push}
 use Rattle.std.specs.Vec.Iter.{into_iter_items}
-use Rattle.cops_syntax.specs.View.{IsRule}
 use Rattle.cops_read.specs.RuleSteps.{RulesAnswers}
 use Rattle.cops_read.proofs.Repeats.{rule_taken, all_left, rules_length, rules_fail, rules_step_as, rules_end_here}
 use Rattle.cops_read.proofs.Firsts.{handed}
@@ -21,8 +20,7 @@ returns-in_err-rule-clause-rules c trees h =
     let told = rw (c.rules.invariant.block, number) at (c.in_err-rule.ensures.rule n.item n.is) in
     handed (RulesAnswers c.args.scope.now.block c.args.has_type c.args.scope.now.names.symbols trees c.read_rule.new.scope.names.symbols c.read_rule.new.scope.names.variables)
     c.in_err-rule.field-0.0 c.from_residual-in_err-rule.result c.from_residual-in_err-rule.ensures.1
-    (rules_fail c.args.scope.now.block c.args.has_type c.args.scope.now.names.symbols trees (length c.rules.yielded) c.rules.scope.names.symbols c.rules.scope.names.variables
-    c.rules.rules.items (c.rules.invariant.read trees h) (IsRule c.in-Some.text) n c.in_err-rule.field-0.0 told)
+    (rules_fail (c.rules.invariant.read trees h) n c.in_err-rule.field-0.0 told)
 
 pub rules-preserved : goal.rules-preserved
 rules-preserved c = record {
@@ -30,8 +28,7 @@ rules-preserved c = record {
       let n = rule_taken c.args.texts.items c.rules.yielded (into_iter_items c.rules.text-iterator) c.in-Some.text (into_iter_items c.next.new.self) c.rules.invariant.left
       c.in-Some.ensures.steps.0 trees h in
       let number : c.len-in-rules.result ≡ length c.rules.yielded = c.len-in-rules.ensures ∙ c.rules.rules.ok.0 ∙ c.rules.invariant.number in
-      let next = rules_step_as c.args.scope.now.block c.args.has_type c.args.scope.now.names.symbols trees (length c.rules.yielded) c.rules.scope.names.symbols c.rules.scope.names.variables
-      c.rules.rules.items (c.rules.invariant.read trees h) (IsRule c.in-Some.text) n c.rules.scope.block c.read_rule.new.scope.names.symbols c.read_rule.new.scope.names.variables
+      let next = rules_step_as (c.rules.invariant.read trees h) n c.rules.scope.block c.read_rule.new.scope.names.symbols c.read_rule.new.scope.names.variables
       c.in_ok-rule.rule c.rules.invariant.block (rw number at (c.in_ok-rule.ensures.rule n.item n.is)) in
       rw (length_push c.rules.yielded c.in-Some.text, add-one, c.in_ok-push.ensures.items) next;
   left = all_left c.args.texts.items c.rules.yielded (into_iter_items c.rules.text-iterator) c.in-Some.text (into_iter_items c.next.new.self) c.rules.invariant.left c.in-Some.ensures.steps.0;
@@ -47,5 +44,4 @@ returns-clause-rules c trees h =
     let split = ap length c.rules.invariant.left in
     let many = c.rules.invariant.many in
     let none = c.in-None.ensures.steps.0 in
-    rules_end_here c.args.scope.now.block c.args.has_type c.args.scope.now.names.symbols trees (length c.rules.yielded) c.rules.scope.names.symbols c.rules.scope.names.variables
-    c.rules.rules.items (c.rules.invariant.read trees h) (omega (arith, length-append c.rules.yielded (into_iter_items c.rules.text-iterator)))
+    rules_end_here (c.rules.invariant.read trees h) (omega (arith, length-append c.rules.yielded (into_iter_items c.rules.text-iterator)))

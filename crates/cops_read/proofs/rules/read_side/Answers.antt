@@ -1,7 +1,6 @@
 use Rattle.std.proofs.Common.{[]}
 use Rattle.cops_read.specs.Uses.{side_of}
 use Rattle.cops_read.specs.RuleSteps.{SideAnswers}
-use Rattle.term_core.specs.View.{view}
 use Rattle.cops_read.proofs.Parts.{whole_list, side_read}
 use Rattle.cops_read.proofs.Firsts.{handed}
 use Rattle.cops_read.proofs.rules.read_side.Goals as goal
@@ -16,6 +15,4 @@ returns-in_err-term-clause-side c p h =
     (c.in_err-term.ensures.term p [] (whole_list c.args.nodes.now p h))
 
 pub returns-clause-side : goal.returns-clause-side
-returns-clause-side c p h =
-    side_read c.args.scope.now.block c.args.scope.now.names.symbols c.args.scope.now.variables (side_of c.args.rule c.args.condition c.args.is_left) p
-    c.read_term.new.scope.names.symbols c.read_term.new.scope.variables (view c.in_ok-term.term) c.in_ok-term.field-0-1 (c.in_ok-term.ensures.term p [] (whole_list c.args.nodes.now p h))
+returns-clause-side c p h = side_read (c.in_ok-term.ensures.term p [] (whole_list c.args.nodes.now p h))
