@@ -9,7 +9,7 @@ use Rattle.cert_grammar.specs.Prelude.{transitions, shared_automata, simplificat
 use Rattle.cert_grammar.specs.Prelude.{number, number_for, position, are_places, term_marks, arguments_marks, further_marks, steps_marks, derivations_marks, derivation_marks, closing}
 use Rattle.cert_grammar.specs.Prelude.{use_mark, automata_marks, heading_marks, heads_marks, measure_marks, simplifications_marks, state, accepting_marks, further_states_marks}
 use Rattle.cert_grammar.specs.Prelude.{states_marks, transitions_marks, automaton_marks, infeasibility_marks, evidence_marks, pairs_marks, coefficients_marks, entries_marks, redexes_marks}
-use Rattle.cert_grammar.specs.Prelude.{apart_marks, peak_marks, body_marks, certificate_marks, number_begins, place_begins, value, places, Frame, Between, Item, opening, heading}
+use Rattle.cert_grammar.specs.Prelude.{apart_marks, peak_marks, body_marks, certificate_marks, number_begins, place_begins, value, places, Frame, Item, opening, heading}
 use Rattle.cert_grammar.specs.Prelude.{shared_line, shared_count, automata_left, automaton_end, simplified, simplification_count, simplifications_left, body, between, any_number}
 use Rattle.cert_grammar.specs.Prelude.{any_position, pairs_from, entries_from, heads_from, redexes_from, last_line, measure, head_name, measured_name, measured_condition}
 use Rattle.cert_grammar.specs.Prelude.{coefficients_behind, coefficient, evidence, infeasibility, shared_use, states_line, state_count, accepting_line, accepting, accepted_state}
@@ -140,21 +140,6 @@ behind_front ms a b c e f = e ∙ ap (λ (x : List Mark). a ++ x) f
 pub only : (names : Naming) (i : Item) (ms : List Mark) → Forms names (i ∷ []) ms → Form names i ms
 only names i ms h = subst (Form names i) (sym (behind_front ms h.0 h.1 [] h.2 h.4 ∙ append-nil h.0)) h.3
 
--- what stands between words, a number and a position with it
-pub record After (names : Naming) (m : List Mark) (s : List Item) (ms : List Mark) : Type 0 where
-  pub back : List Mark
-  pub text : ms ≡ m ++ back
-  pub forms : Forms names s back
-
-pub between_then : (names : Naming) (b : Between) (s : List Item) (ms : List Mark) → Forms names (between b ∷ s) ms → After names (fixed (between_text b) ∷ []) s ms
-between_then names b s ms h = record { back = h.1; text = h.2 ∙ ap (λ (x : List Mark). x ++ h.1) h.3; forms = h.4 }
-
-pub number_then : (names : Naming) (b : Between) (s : List Item) (ms : List Mark) → Forms names (any_number b ∷ s) ms → (k : ℕ) × After names (number k ∷ fixed (between_text b) ∷ []) s ms
-number_then names b s ms h = (h.3.0, record { back = h.1; text = h.2 ∙ ap (λ (x : List Mark). x ++ h.1) h.3.1; forms = h.4 })
-
-pub position_then : (names : Naming) (b : Between) (s : List Item) (ms : List Mark) → Forms names (any_position b ∷ s) ms → (q : Position) × After names (position q ∷ fixed (between_text b) ∷ []) s ms
-position_then names b s ms h = (h.3.0, record { back = h.1; text = h.2 ∙ ap (λ (x : List Mark). x ++ h.1) h.3.1; forms = h.4 })
-
 -- the words of numbers and positions
 pub number_mark : (w : List ℕ) (ds : List Demand) → IsWordOf number_begins w → word w ds ≡ word (numeral (value w)) ds
 number_mark w ds h = ap (λ (u : List ℕ). word u ds) (number_is w h)
@@ -167,25 +152,22 @@ with_mark {m} {n} {a} {b} e f = ap (λ (x : Mark). x ∷ a) e ∙ ap (λ (x : Li
 
 -- ---- derivations, steps and transitions that are counted
 
-pub derivations_then : (names : Naming) (level n : ℕ) (s : List Item) (ms : List Mark) → Forms names (derivations level n ++ s) ms
-    → (ds : Derivations) × (derivation_count ds ≡ n) × After names (derivations_marks level ds) s ms
-derivations_then names level zero s ms h = (no_derivations, refl, record { back = ms; text = refl; forms = h })
-derivations_then names level (suc n) s ms h = (first_derivation h.3.0 h.3.1, ap suc h.3.2, record { back = h.1; text = h.2 ∙ ap (λ (x : List Mark). x ++ h.1) h.3.3; forms = h.4 })
+pub derivations_then : (names : Naming) (level n : ℕ) (ms : List Mark) → Forms names (derivations level n) ms → (ds : Derivations) × (derivation_count ds ≡ n) × (ms ≡ derivations_marks level ds)
+derivations_then names level zero ms h = (no_derivations, refl, h)
+derivations_then names level (suc n) ms h = let g = only names (derivations_left level n) ms h in (first_derivation g.0 g.1, ap suc g.2, g.3)
 
-pub steps_then : (names : Naming) (level n : ℕ) (s : List Item) (ms : List Mark) → Forms names (steps_of level n ++ s) ms
-    → (d : Derivation) × (step_count d ≡ n) × After names (steps_marks level d) s ms
-steps_then names level zero s ms h = (no_steps, refl, record { back = ms; text = refl; forms = h })
-steps_then names level (suc n) s ms h = (first_step h.3.0 h.3.1, ap suc h.3.2, record { back = h.1; text = h.2 ∙ ap (λ (x : List Mark). x ++ h.1) h.3.3; forms = h.4 })
+pub steps_then : (names : Naming) (level n : ℕ) (ms : List Mark) → Forms names (steps_of level n) ms → (d : Derivation) × (step_count d ≡ n) × (ms ≡ steps_marks level d)
+steps_then names level zero ms h = (no_steps, refl, h)
+steps_then names level (suc n) ms h = let g = only names (steps_left level n) ms h in (first_step g.0 g.1, ap suc g.2, g.3)
 
-pub transitions_then : (names : Naming) (bound n : ℕ) (s : List Item) (ms : List Mark) → Forms names (transitions_of bound n ++ s) ms
-    → (ts : List Transition) × (length ts ≡ n) × After names (transitions_marks names bound ts) s ms
-transitions_then names bound zero s ms h = ([], refl, record { back = ms; text = refl; forms = h })
-transitions_then names bound (suc n) s ms h = (h.3.0 ∷ h.3.1, ap suc h.3.2, record { back = h.1; text = h.2 ∙ ap (λ (x : List Mark). x ++ h.1) h.3.3; forms = h.4 })
+pub transitions_then : (names : Naming) (bound n : ℕ) (ms : List Mark) → Forms names (transitions_of bound n) ms → (ts : List Transition) × (length ts ≡ n) × (ms ≡ transitions_marks names bound ts)
+transitions_then names bound zero ms h = ([], refl, h)
+transitions_then names bound (suc n) ms h = let g = only names (transitions_left bound n) ms h in (g.0 ∷ g.1, ap suc g.2, g.3)
 
-pub simplifications_then : (names : Naming) (n : ℕ) (s : List Item) (ms : List Mark) → Forms names (simplifications_of n ++ s) ms
-    → (ss : List Simplification) × (length ss ≡ n) × After names (simplifications_marks names second_uses ss) s ms
-simplifications_then names zero s ms h = ([], refl, record { back = ms; text = refl; forms = h })
-simplifications_then names (suc n) s ms h = (h.3.0 ∷ h.3.1, ap suc h.3.2, record { back = h.1; text = h.2 ∙ ap (λ (x : List Mark). x ++ h.1) h.3.3; forms = h.4 })
+pub simplifications_then : (names : Naming) (n : ℕ) (ms : List Mark) → Forms names (simplifications_of n) ms
+    → (ss : List Simplification) × (length ss ≡ n) × (ms ≡ simplifications_marks names second_uses ss)
+simplifications_then names zero ms h = ([], refl, h)
+simplifications_then names (suc n) ms h = let g = only names (simplifications_left n) ms h in (g.0 ∷ g.1, ap suc g.2, g.3)
 
 -- the automata that are left, and then the rest
 pub automata_then : (names : Naming) (n : ℕ) (given : Option Bool) (ms : List Mark) → Form names (behind_automata n given) ms
@@ -193,16 +175,17 @@ pub automata_then : (names : Naming) (n : ℕ) (given : Option Bool) (ms : List 
 automata_then names zero given ms h = ([], h.0, h.1, refl, h.2)
 automata_then names (suc n) given ms h = (h.0 ∷ h.1, h.2, h.3, ap suc h.4, h.5)
 
--- stacks that end with a count
-pub to_the_end : (names : Naming) (items : List Item) (ms : List Mark) → Forms names items ms → Forms names (items ++ []) ms
-to_the_end names items ms h = subst (λ (x : List Item). Forms names x ms) (sym (append-nil items)) h
-
-pub at_end : (names : Naming) (m ms : List Mark) → After names m [] ms → ms ≡ m
-at_end names m ms h = h.text ∙ ap (λ (x : List Mark). m ++ x) h.forms ∙ append-nil m
+-- ---- derivations that stand alone
 
 pub no_more : (level : ℕ) (ds : Derivations) → derivation_count ds ≡ 0 → derivations_marks level ds ≡ []
 no_more level no_derivations e = refl
 no_more level (first_derivation d ds) e = absurd (omega (arith, e))
+
+-- marks at the front of what a stack spells
+pub record After (names : Naming) (m : List Mark) (s : List Item) (ms : List Mark) : Type 0 where
+  pub back : List Mark
+  pub text : ms ≡ m ++ back
+  pub forms : Forms names s back
 
 pub derivation_then : (names : Naming) (s : List Item) (ms : List Mark) → Forms names (derivations_left 1 0 ∷ s) ms → (d : Derivation) × After names (derivation_marks d) s ms
 derivation_then names s ms h =
@@ -210,8 +193,7 @@ derivation_then names s ms h =
       d,
       record {
         back = h.1;
-        text = h.2 ∙ ap (λ (x : List Mark). x ++ h.1) (h.3.3 ∙ ap (λ (x : List Mark). derivation_marks d ++ x) (no_more 1 h.3.1 h.3.2)
-            ∙ append-nil (derivation_marks d));
+        text = cc (no_more 1 h.3.1 h.3.2, append-nil (derivation_marks d));
         forms = h.4;
       },
     )

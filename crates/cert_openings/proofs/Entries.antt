@@ -16,14 +16,13 @@ use Rattle.cert_openings.specs.Laws.{IsWhole, IsReadTo, IsTold}
 
 pairs_more : (es : List PairEntry) (p : PairEntry) → used_by_pairs (es ++ p ∷ []) ≡ used_by_pairs es ++ used_by_evidence p.evidence
 pairs_more [] p = append-nil (used_by_evidence p.evidence)
-pairs_more (e ∷ es) p = ap (λ (l : List Automaton). used_by_evidence e.evidence ++ l) (pairs_more es p)
-    ∙ sym (append_assoc (used_by_evidence e.evidence) (used_by_pairs es) (used_by_evidence p.evidence))
+pairs_more (e ∷ es) p = cc (pairs_more es p, append_assoc (used_by_evidence e.evidence) (used_by_pairs es) (used_by_evidence p.evidence))
 
 automata_more : (o : Opening) (es : List PairEntry) (p : PairEntry) → automata_of (certificate_for o (es ++ p ∷ [])) ≡ automata_of (certificate_for o es) ++ used_by_evidence p.evidence
 automata_more ortho_opening es p = pairs_more es p
 automata_more (quasi_opening m) es p = pairs_more es p
 automata_more (simplified_opening steps o) es p =
-    ap (λ (l : List Automaton). used_by_steps steps ++ l) (automata_more o es p) ∙ sym (append_assoc (used_by_steps steps) (automata_of (certificate_for o es)) (used_by_evidence p.evidence))
+    cc (automata_more o es p, append_assoc (used_by_steps steps) (automata_of (certificate_for o es)) (used_by_evidence p.evidence))
 
 new_both : (a b : List Automaton) (names : NameTable) (old : List Automaton) → with_new names old (a ++ b) ≡ with_new names (with_new names old a) b
 new_both [] b names old = refl
@@ -45,21 +44,18 @@ entry_text names u p = codes "pair " ++ (decimal p.inner ++ (codes " " ++ (posit
 
 pairs_text_more : (es : List PairEntry) (p : PairEntry) (names : NameTable) (u : Uses) → pairs_text names u (es ++ p ∷ []) ≡ pairs_text names u es ++ pairs_text names u (p ∷ [])
 pairs_text_more [] p names u = refl
-pairs_text_more (e ∷ es) p names u = ap (λ (w : List ℕ). entry_text names u e ++ w) (pairs_text_more es p names u)
-    ∙ sym (append_assoc (entry_text names u e) (pairs_text names u es) (pairs_text names u (p ∷ [])))
+pairs_text_more (e ∷ es) p names u = cc (pairs_text_more es p names u, append_assoc (entry_text names u e) (pairs_text names u es) (pairs_text names u (p ∷ [])))
 
 behind_steps : (b d w x : List ℕ) → b ++ 10 ∷ (d ++ (w ++ x)) ≡ (b ++ 10 ∷ (d ++ w)) ++ x
-behind_steps b d w x = ap (λ (z : List ℕ). b ++ 10 ∷ z) (sym (append_assoc d w x)) ∙ sym (append_assoc b (10 ∷ (d ++ w)) x)
+behind_steps b d w x = cc (append_assoc d w x, append_assoc b (10 ∷ (d ++ w)) x)
 
 body_more : (o : Opening) (es : List PairEntry) (p : PairEntry) (names : NameTable) (u : Uses)
     → body_text names u (certificate_for o (es ++ p ∷ [])) ≡ body_text names u (certificate_for o es) ++ pairs_text names u (p ∷ [])
 body_more ortho_opening es p names u = ap (λ (w : List ℕ). codes "ortho\n" ++ w) (pairs_text_more es p names u)
 body_more (quasi_opening m) es p names u =
-    ap (λ (w : List ℕ). codes "quasi\n" ++ (measure_text names m ++ w)) (pairs_text_more es p names u)
-    ∙ ap (λ (w : List ℕ). codes "quasi\n" ++ w) (sym (append_assoc (measure_text names m) (pairs_text names u es) (pairs_text names u (p ∷ []))))
+    cc (pairs_text_more es p names u, append_assoc (measure_text names m) (pairs_text names u es) (pairs_text names u (p ∷ [])))
 body_more (simplified_opening steps o) es p names u =
-    ap (λ (w : List ℕ). codes "simplify " ++ (decimal (length steps) ++ (codes "\n" ++ (simplifications_text names u steps ++ w)))) (body_more o es p names u)
-    ∙ ap (λ (w : List ℕ). codes "simplify " ++ w) (behind_steps (decimal (length steps)) (simplifications_text names u steps) (body_text names u (certificate_for o es)) (pairs_text names u (p ∷ [])))
+    cc (body_more o es p names u, behind_steps (decimal (length steps)) (simplifications_text names u steps) (body_text names u (certificate_for o es)) (pairs_text names u (p ∷ [])))
 
 -- ---- its limits
 
@@ -134,7 +130,7 @@ entry_is_taken names bytes o es at p then rest h l k e t =
     let heading = heading_text v names (shared_by names c ++ h.left) in
     let one = pairs_text names u (p ∷ []) in
     let body : body_text names u d ++ rest ≡ body_text names u c ++ h.rest =
-    ap (λ (w : List ℕ). w ++ rest) (body_more o es p names u) ∙ append_assoc (body_text names u c) one rest ∙ ap (λ (w : List ℕ). body_text names u c ++ w) (sym e) in
+    cc (body_more o es p names u, append_assoc (body_text names u c) one rest) in
     record {
       read = record {
         version = v;
@@ -145,9 +141,7 @@ entry_is_taken names bytes o es at p then rest h l k e t =
         answer = h.answer;
         is_answer = h.is_answer;
         rest = rest;
-        text = h.text ∙ ap (λ (w : List ℕ). h.answer ++ (heading ++ w)) (sym body)
-            ∙ ap (λ (x : Uses). h.answer ++ (heading ++ (body_text names x d ++ rest))) (sym (uses_more v o es p names h.left then t))
-            ∙ ap (λ (w : List ℕ). h.answer ++ (w ++ (body_text names (uses_with v names (shared_by names d ++ then)) d ++ rest))) (sym (heading_more v o es p names h.left then t));
+        text = cc (uses_more v o es p names h.left then t, heading_more v o es p names h.left then t);
         place = omega (arith, ap length e ∙ length-append one rest, h.place);
       };
       is_version = refl;

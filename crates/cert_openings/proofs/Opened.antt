@@ -3,14 +3,14 @@ use Rattle.std.proofs.Common.{◌≡◌, ◌⊎◌, inl, inr, ℕ, suc, ◌≤�
 use Rattle.general_lemmas.proofs.Lists.{three_parts}
 use Rattle.certificates.specs.Prelude.{Automaton, PairEntry, Certificate}
 use Rattle.cops_names.specs.NameTable.{NameTable}
-use Rattle.cert_grammar.specs.Prelude.{largest, name_of, Version, first_version, second_version, Uses, in_full, by_number, version_of, IsOfVersion, automata_of, same_bytes, is_among}
+use Rattle.cert_grammar.specs.Prelude.{largest, name_of, Version, first_version, second_version, Uses, version_of, IsOfVersion, automata_of, same_bytes, is_among}
 use Rattle.cert_grammar.specs.Prelude.{texts_of, shared_by, place_among, number_in, unfolded_length, AllNew, automaton_text, is_answer, Naming, Mark, fixed, marks_text, answer_marks}
-use Rattle.cert_grammar.specs.Prelude.{heading_marks, automata_marks, body_marks, closing, heading_text, body_text, Shared, nothing_shared, PassShares, HaveNames, Skeleton, marks_of}
+use Rattle.cert_grammar.specs.Prelude.{heading_marks, body_marks, closing, heading_text, body_text, nothing_shared, PassShares, HaveNames, Skeleton, marks_of}
 use Rattle.cert_laws.proofs.Spelt.{Spells, put_fixed, put_both, have_both}
 use Rattle.cert_laws.proofs.SpeltWhole.{AreShort, HasHeading, answer_of, spelt_heading, spelt_body}
 use Rattle.cert_sharing.proofs.FirstUses.{InOrder, AreAmong, texts_both, texts_length, among_more}
-use Rattle.cert_sharing.proofs.UseMarks.{state, AreStill, still_marks, still_pass, pass_join, automata_behind, new_automata, PassUses, numbers_of, counts_body}
-use Rattle.cert_sharing.proofs.SpeltShares.{marked_are, place_most, unfolds_to, uses_pass, lines, used_texts, shared_numbered}
+use Rattle.cert_sharing.proofs.UseMarks.{PassUses, numbers_of, counts_body}
+use Rattle.cert_sharing.proofs.SpeltShares.{place_most, unfolds_to, uses_pass, heading_pass, answer_pass, used_texts, shared_numbered}
 use Rattle.cert_openings.specs.Openings.{Opening, ortho_opening, quasi_opening, simplified_opening, certificate_for, uses_with, AreLeft, IsRead}
 use Rattle.cert_openings.proofs.OpeningMarks.{opening_marks, whole_marks}
 
@@ -30,13 +30,13 @@ place_more t (u ∷ us) rest e = by (same_bytes t u) e (λ f. place_more t us re
     by false e each = ap suc (each e)
 
 number_more : (names : NameTable) (all left : List Automaton) (a : Automaton) → is_among (automaton_text names a) (texts_of names all) ≡ true → number_in names (all ++ left) a ≡ number_in names all a
-number_more names all left a e = ap (place_among (automaton_text names a)) (texts_both names all left) ∙ place_more (automaton_text names a) (texts_of names all) (texts_of names left) e
+number_more names all left a e = cc (texts_both names all left, place_more (automaton_text names a) (texts_of names all) (texts_of names left) e)
 
 numbers_more : (used : List Automaton) (names : NameTable) (all left : List Automaton) → AreAmong names used (texts_of names all)
     → map (number_in names (all ++ left)) used ≡ map (number_in names all) used
 numbers_more [] names all left h = refl
 numbers_more (a ∷ used) names all left h =
-    ap (λ (n : ℕ). n ∷ map (number_in names (all ++ left)) used) (number_more names all left a h.0) ∙ ap (λ (l : List ℕ). number_in names all a ∷ l) (numbers_more used names all left h.1)
+    cc (number_more names all left a h.0, numbers_more used names all left h.1)
 
 pub among_all : (used : List Automaton) (names : NameTable) (all left : List Automaton) → AreAmong names used (texts_of names all) → AreAmong names used (texts_of names (all ++ left))
 among_all [] names all left h = tt
@@ -67,29 +67,9 @@ uses_with_left second_version names c left h =
 
 -- ---- shared automata of the opening's marks
 
-lines_pass : (c : Certificate) (names : NameTable) (u : Uses) (bs : List Automaton) (given : Option Bool) (b : List ℕ) → HasHeading names u bs
-    → AllNew [] (used_texts u (texts_of names bs)) → PassUses (used_texts u (texts_of names bs)) 0 0 (numbers_of u (automata_of c))
-    → PassShares (state [] b 0 0) (heading_marks (name_of names) u bs ++ body_marks (name_of names) u given c)
-lines_pass c names in_full bs given b k n h = (refl, (counts_body c (name_of names) in_full given).from [] (b ++ codes "concon 1\n") 0 0 h)
-lines_pass c names (by_number f) bs given b k n h =
-    let x = name_of names in
-    let u = by_number f in
-    let still : AreStill (lines bs) = (tt, (tt, (tt, (tt, tt)))) in
-    let begun = still_marks (lines bs) [] b 0 0 still in
-    let texts = marked_are bs names k.1 in
-    let c0 = b ++ marks_text (lines bs) in
-    let after = automata_behind bs x [] c0 0 0 in
-    pass_join (lines bs) (automata_marks x bs ++ body_marks x u given c) (state [] b 0 0) (still_pass (lines bs) (state [] b 0 0) still)
-    (subst (λ (s : Shared). PassShares s (automata_marks x bs ++ body_marks x u given c)) (sym begun)
-    (pass_join (automata_marks x bs) (body_marks x u given c) (state [] c0 0 0) (new_automata bs x [] c0 0 0 (subst (AllNew []) (sym texts) n))
-    (subst (λ (s : Shared). PassShares s (body_marks x u given c)) (sym (after.1 ∙ ap (λ (l : List (List ℕ)). state l after.0 0 0) texts))
-    ((counts_body c x u given).from (texts_of names bs) after.0 0 0 h))))
-
 front_pass : (c : Certificate) (names : NameTable) (u : Uses) (bs : List Automaton) (given : Option Bool) → HasHeading names u bs → AllNew [] (used_texts u (texts_of names bs))
     → PassUses (used_texts u (texts_of names bs)) 0 0 (numbers_of u (automata_of c)) → PassShares nothing_shared (front_marks (name_of names) u bs given c)
-front_pass c names u bs None k n h = lines_pass c names u bs None [] k n h
-front_pass c names u bs (Some true) k n h = (refl, lines_pass c names u bs (Some true) (codes "YES\n") k n h)
-front_pass c names u bs (Some false) k n h = (refl, lines_pass c names u bs (Some false) (codes "NO\n") k n h)
+front_pass c names u bs given k n h = answer_pass given _ (λ b. heading_pass u names bs b _ k n (λ x. (counts_body c (name_of names) u given).from _ x 0 0 h))
 
 -- ---- an opening and entries
 
@@ -154,8 +134,7 @@ gone names bytes o es end h =
     (spelt_heading u names bs (heading_with v names c h.left h.are_left))
     (spelt_body c names u g.0 (short_with v names c h.left h.are_left) (ap (λ (b : Bool). is_answer b g.0) (told_is o es) ∙ g.2) h.within)) in
     let text : bytes ≡ marks_text ms ++ h.rest =
-    h.text ∙ ap (λ (w : Version). h.answer ++ (heading_text w names bs ++ (body_text names u c ++ h.rest))) (sym version)
-    ∙ three_parts h.answer (heading_text (version_of u) names bs) (body_text names u c) h.rest ∙ ap (λ (w : List ℕ). w ++ h.rest) (sym spells.text) in
+    cc (three_parts h.answer (heading_text (version_of u) names bs) (body_text names u c) h.rest) in
     record {
       uses = u;
       shared = bs;

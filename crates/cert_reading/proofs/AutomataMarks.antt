@@ -1,8 +1,8 @@
 -- The marks of shared automata, one behind another.
-use Rattle.std.proofs.Common.{◌≡◌, ◌<◌, ◌+◌, ◌-◌, ◌≤◌, ℕ, suc, Bool, List, [], ◌∷◌, ◌++◌, Option, map, sym, ap, ◌∙◌, subst, arith, append_assoc}
+use Rattle.std.proofs.Common.{◌≡◌, ◌+◌, ◌-◌, List, [], ◌∷◌, ◌++◌, map, sym, ap, ◌∙◌, subst, append_assoc}
 use Rattle.std.proofs.lemmas.List.{append-nil}
 use Rattle.certificates.specs.Evidence.{Automaton}
-use Rattle.cert_grammar.specs.Prelude.{Naming, Mark, automata_marks, Shared, Item, automata_left, behind_automata, simplified, automaton_marks}
+use Rattle.cert_grammar.specs.Prelude.{Naming, Mark, automata_marks, Shared, automaton_marks}
 use Rattle.cert_sharing.proofs.UseMarks.{automaton_behind}
 use Rattle.cert_words.specs.Walks.{BeginsAnew, AreWithoutStates}
 use Rattle.cert_reading.specs.Shared.{sealed_marks, ArePlainAutomata}
@@ -15,12 +15,6 @@ pub automata_push : {A : Type 0} (f : A → Automaton) (u : Naming) (done : List
 automata_push f u [] a = sym (append-nil (sealed_marks u (f a)))
 automata_push f u (b ∷ done) a = append_assoc (sealed_marks u (f b)) (automata_marks u (map f done)) (sealed_marks u (f a))
     ∙ ap (λ (ms : List Mark). sealed_marks u (f b) ++ ms) (automata_push f u done a)
-
-pub automata_next : (given : Option Bool) (n k : ℕ) → k < n → ◌≡◌ {A = List Item} (behind_automata (n - k) given ∷ []) (automata_left (n - (k + 1)) given ∷ [])
-automata_next given n k h = let e : n - k ≡ suc (n - (k + 1)) = omega (arith, h) in ap (λ (m : ℕ). behind_automata m given ∷ []) e
-
-pub automata_end : (given : Option Bool) (n k : ℕ) → n ≤ k → ◌≡◌ {A = List Item} (behind_automata (n - k) given ∷ []) (simplified given ∷ [])
-automata_end given n k h = let e : n - k ≡ 0 = omega (arith, h) in ap (λ (m : ℕ). behind_automata m given ∷ []) e
 
 pub plain_automata : {A : Type 0} (f : A → Automaton) (done after : List A) (a : A) → after ≡ done ++ a ∷ [] → ArePlainAutomata (map f done) → AreWithoutStates (f a).transitions
     → ArePlainAutomata (map f after)

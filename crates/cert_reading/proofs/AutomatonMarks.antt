@@ -1,9 +1,9 @@
 -- The marks of automata, one part behind another.
 use Rattle.cert_words.specs.Walks.{HasNoStates, AreWithoutStates}
-use Rattle.std.proofs.Common.{subst, ◌≡◌, ◌<◌, ◌+◌, ◌-◌, ◌≤◌, ℕ, suc, List, [], ◌∷◌, ◌++◌, length, map, codes, refl, sym, ap, ◌∙◌, arith, append_assoc}
+use Rattle.std.proofs.Common.{subst, ◌≡◌, ◌<◌, ◌+◌, ◌-◌, ℕ, List, [], ◌∷◌, ◌++◌, length, map, codes, refl, sym, ap, ◌∙◌, arith, append_assoc}
 use Rattle.std.proofs.lemmas.List.{append-nil}
 use Rattle.certificates.specs.Evidence.{Transition}
-use Rattle.cert_grammar.specs.Prelude.{Naming, Mark, fixed, state, head_marks, accepting_marks, further_states_marks, states_marks, transitions_marks, transitions_left, transitions_of}
+use Rattle.cert_grammar.specs.Prelude.{Naming, Mark, fixed, state, head_marks, accepting_marks, further_states_marks, states_marks, transitions_marks}
 
 pub accepting_push : (b : ℕ) (qs : List ℕ) (q : ℕ) → accepting_marks b qs ++ (fixed (codes " ") ∷ state b q ∷ []) ≡ accepting_marks b (qs ++ q ∷ [])
 accepting_push b [] q = refl
@@ -45,12 +45,6 @@ pub transitions_push : {A : Type 0} (f : A → Transition) (u : Naming) (b : ℕ
     → transitions_marks u b (map f ts) ++ transitions_marks u b (f t ∷ []) ≡ transitions_marks u b (map f (ts ++ t ∷ []))
 transitions_push f u b [] t = refl
 transitions_push f u b (s ∷ ts) t = one_more f u b s ts (transitions_marks u b (f t ∷ [])) (transitions_marks u b (map f (ts ++ t ∷ []))) (transitions_push f u b ts t)
-
-pub transitions_next : (b n k : ℕ) → k < n → transitions_of b (n - k) ≡ transitions_left b (n - (k + 1)) ∷ []
-transitions_next b n k h = let e : n - k ≡ suc (n - (k + 1)) = omega (arith, h) in ap (transitions_of b) e
-
-pub transitions_end : (b n k : ℕ) → n ≤ k → transitions_of b (n - k) ≡ []
-transitions_end b n k h = let e : n - k ≡ 0 = omega (arith, h) in ap (transitions_of b) e
 
 -- a transition whose symbol is named
 pub head_first : (s t : List Mark) (b p : Mark) → (s ++ (b ∷ p ∷ [])) ++ t ≡ ((s ++ (b ∷ [])) ++ (p ∷ t)) ++ []

@@ -7,14 +7,13 @@ use Rattle.cert_grammar.specs.Prelude.{behind_marks, PassShares, after_step, sha
 use Rattle.certificates.specs.Certificates.{MeasureCertificate, linear_measure, precedence_measure}
 use Rattle.cert_shares.specs.SharesView.{with_begun}
 use Rattle.cert_openings.specs.Openings.{BeginsEntry}
-use Rattle.cert_words.specs.declared.error.CertError.{CertError}
 use Rattle.cert_words.specs.declared.reading.Reading.{Reading}
-use Rattle.cert_words.specs.Words.{told}
 use Rattle.cert_words.specs.Walks.{left_at, Walks, Run, RefusesAt}
+use Rattle.cert_words.proofs.Walking.{goes_as}
 use Rattle.cert_reading.specs.Headings.{entries_of, behind_measure}
 use Rattle.cert_reading.specs.Measures.{SymbolAt}
 use Rattle.cert_reading.proofs.Opening.{entry_at, head_at}
-use Rattle.cert_reading.specs.Stops.{Place, StopsWhere, IsStoppedWhere, ReadsOnWhere, ReadsWhere}
+use Rattle.cert_reading.specs.Stops.{Place, StopsWhere, IsStoppedWhere, ReadsWhere}
 
 zero_most : (x : ℕ) → max 0 (max 0 x) ≡ x
 zero_most x = omega arith
@@ -97,23 +96,17 @@ module _ (names : NameTable) (end : ℕ) (v : Version) (symbol : Item) (b : List
       → Run names end (symbol ∷ []) f to b r sa sb
   symbol_run f to r sa sb some x = record { walks = λ le items. walk_same (f (name_of names)) items _ some (x.walks le items); found = x.found; shares = x.shares }
 
-symbol_on : (P : Place) (names : NameTable) (end : ℕ) (v : Version) (i : Item) (f : Naming → List Mark) (to : List Item) (b r : List ℕ) (sa sb : Shared) (s t : Option CertError)
-    → (s ≡ None → IsSame v i b) → (f (name_of names) ≡ [] → ⊥) → P (i ∷ []) b → ReadsOnWhere P names end (pairs_from v 1 ∷ []) f to b r sa sb s t
-    → ReadsOnWhere P names end (i ∷ []) f to b r sa sb s t
-symbol_on P names end v i f to b r sa sb None None h some p x = symbol_run names end v i b (h refl) f to r sa sb some x
-symbol_on P names end v i f to b r sa sb None (Some e) h some p x = symbol_stopped names end v i b (h refl) P sa (told e) p x
-symbol_on P names end v i f to b r sa sb (Some d) None h some p x = absurd x
-symbol_on P names end v i f to b r sa sb (Some d) (Some e) h some p x = x
-
 -- what is read from the first overlap on is read from a symbol's line on
 pub symbol_where : {P : Place} {names : NameTable} {end : ℕ} {f : Naming → List Mark} {to : List Item} {s t : Reading} (v : Version) (n : ℕ) (i low behind : Item)
     → SymbolAt v n i low behind → (s.refused ≡ None → BeginsEntry s.left.now) → (f (name_of names) ≡ [] → ⊥) → P (i ∷ []) s.left.now
     → ReadsWhere P names end (pairs_from v 1 ∷ []) f to s t → ReadsWhere P names end (i ∷ []) f to s t
 symbol_where {P} {names} {end} {f} {to} {s} {t} v n i low behind at h some p x =
+    let same = λ (q : s.refused ≡ None). symbol_same v n i low behind at s.left.now (h q) in
     record {
       front = x.front;
-      on = symbol_on P names end v i f to s.left.now t.left.now s.shares t.shares s.refused t.refused
-          (λ none. symbol_same v n i low behind at s.left.now (h none)) some p x.on;
+      on = goes_as _ _ (IsStoppedWhere P names end (pairs_from v 1 ∷ []) s.left.now s.shares) (IsStoppedWhere P names end (i ∷ []) s.left.now s.shares) s.refused t.refused
+          (λ q none. symbol_run names end v i s.left.now (same q) f to t.left.now s.shares t.shares some)
+          (λ q o. symbol_stopped names end v i s.left.now (same q) P s.shares o p) x.on;
     }
 
 -- and behind a measure

@@ -1,8 +1,8 @@
 -- A certificate that is read along its marks is that of its text, in either version.
-use Rattle.std.proofs.Common.{◌≡◌, ◌⊎◌, inl, inr, ◌≤◌, ℕ, zero, suc, Bool, List, [], ◌∷◌, ◌++◌, length, drop, Option, Some, None, codes, refl, ap, ◌∙◌, subst, arith}
+use Rattle.std.proofs.Common.{◌≡◌, ◌⊎◌, inl, inr, ◌≤◌, ℕ, suc, Bool, List, [], ◌∷◌, ◌++◌, length, drop, Option, Some, None, codes, refl, ap, ◌∙◌, subst, arith}
 use Rattle.std.proofs.lemmas.List.{append-nil}
-use Rattle.certificates.specs.Prelude.{Automaton}
-use Rattle.certificates.specs.Prelude.{Certificate}
+use Rattle.general_lemmas.proofs.Lists.{drop_whole}
+use Rattle.certificates.specs.Prelude.{Automaton, Certificate}
 use Rattle.cops_names.specs.NameTable.{NameTable}
 use Rattle.cert_grammar.specs.Prelude.{name_of, Version, first_version, second_version, in_full, by_number}
 use Rattle.cert_grammar.specs.Prelude.{shared_by, number_in}
@@ -11,7 +11,7 @@ use Rattle.cert_grammar.specs.Prelude.{marks_text, heading_marks, body_marks, ce
 use Rattle.cert_grammar.specs.Marks as marks
 use Rattle.cert_laws.proofs.SpeltWhole.{spelt_alone, spelt_answered}
 use Rattle.cert_sharing.proofs.UseMarks.{marked_texts}
-use Rattle.cert_sharing.proofs.PassShares.{shares_met}
+use Rattle.cert_sharing.proofs.PassShares.{shares_met, uses_whole}
 use Rattle.cert_openings.specs.Openings.{uses_with}
 use Rattle.cert_shares.specs.SharesView.{with_begun}
 use Rattle.cert_words.specs.declared.reading.Reading.{Reading}
@@ -30,12 +30,6 @@ use Rattle.cert_reading.proofs.FoundFront.{Front, second_front, behind_answer, b
 marked_size : (x : Naming) (bs : List Automaton) → length (marked_texts x bs) ≡ length bs
 marked_size x [] = refl
 marked_size x (b ∷ bs) = ap suc (marked_size x bs)
-
-pub drop_whole : {A : Type 0} (a : List A) (n : ℕ) → n ≡ length a → drop n a ≡ []
-drop_whole (x ∷ a) zero e = absurd cc
-drop_whole (x ∷ a) (suc n) e = drop_whole a n (let q : suc n ≡ suc (length a) = e in omega arith)
-drop_whole [] zero e = refl
-drop_whole [] (suc n) e = refl
 
 -- every shared automaton is used
 all_used : (names : NameTable) (c : Certificate) (all : List Automaton) → shared_by names c ++ drop (length all) all ≡ shared_by names c
@@ -73,10 +67,10 @@ second_found c names all given bytes p q h s e =
     let lines = λ (y : Naming). heading_marks y u all in
     let body = λ (y : Naming). body_marks y u given c in
     let behind = behind_answer given (lines x ++ (body x ++ closing)) _ s refl in
-    let met = shares_met x (number_in names all) all given c behind.0 behind.1.0 in
+    let met = shares_met x (number_in names all) all given c behind.0 closing behind.1.0 in
     let along = split {names = names} lines (λ y. body y ++ closing) (body_along {names = names} given (λ y. lines y ++ (body y ++ closing)) h) in
     let inner = split {names = names} body (λ y. closing) along.1 in
-    let front = second_front c names all given (length all) p q along.0 inner.0 (record { new = met.new; uses = met.uses; most = met.whole ∙ marked_size x all }) in
+    let front = second_front c names all given (length all) p q along.0 inner.0 (record { new = met.new; uses = met.uses; most = uses_whole x (number_in names all) all c met ∙ marked_size x all }) in
     record {
       spelt = (plain_version second_version all c p, front.within, (subst (λ (l : List Automaton). length l ≤ 1000) (all_used names c all) front.are_left.0, front.are_left.3));
       text = second_text c names all given bytes front inner.0.passed e;

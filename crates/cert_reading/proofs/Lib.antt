@@ -13,7 +13,6 @@ pub mod EvidenceKinds
 pub mod Found
 pub mod FoundWhole
 pub mod KindMarks
-pub mod StepMarks
 pub mod SharedKnown
 pub mod FoundSecond
 pub mod FoundFront

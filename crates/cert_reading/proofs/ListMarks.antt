@@ -5,6 +5,8 @@ use Rattle.rewriting.specs.Unraveling.{Head}
 use Rattle.certificates.specs.Prelude.{PairEntry, LinearEntry, Redex, Simplification, dropped, inlined, Automaton}
 use Rattle.cert_grammar.specs.Prelude.{largest, Version, Uses, Naming, Mark, fixed, word, numbers, pairs, redexes, in_range, is_few, number, position, coefficients_marks, entries_marks}
 use Rattle.cert_grammar.specs.Prelude.{heads_marks, simplifications_marks, infeasibility_marks, evidence_marks, pairs_marks, redexes_marks}
+use Rattle.cert_grammar.proofs.Views.{seen_push}
+use Rattle.cert_reading.specs.Lines.{line_marks}
 use Rattle.cert_reading.specs.Plain.{HasUsed, EvidenceUses, PairsUse, RedexesUse, StepsUse}
 use Rattle.cert_grammar.specs.WordMarks.{numeral}
 
@@ -26,12 +28,10 @@ push f marks none more n m (b ∷ done) a e =
 
 -- the line of an overlap, and that of a redex
 abbrev pub pair_line_by : Naming → Uses → ℕ → PairEntry → List Mark
-pair_line_by u w n p = word (codes "pair") (is_few pairs n ∷ []) ∷ fixed (codes " ") ∷ number p.inner ∷ fixed (codes " ") ∷ position p.position ∷ fixed (codes " ") ∷ number p.outer
-    ∷ fixed (codes " ") ∷ evidence_marks u w p.evidence
+pair_line_by u w n p = word (codes "pair") (is_few pairs n ∷ []) ∷ (line_marks p.inner p.position p.outer ++ evidence_marks u w p.evidence)
 
 abbrev pub redex_line_by : Naming → Uses → ℕ → Redex → List Mark
-redex_line_by u w n r = word (codes "redex") (is_few redexes n ∷ []) ∷ fixed (codes " ") ∷ number r.which ∷ fixed (codes " ") ∷ position r.position ∷ fixed (codes " ")
-    ∷ number r.rule ∷ fixed (codes " ") ∷ infeasibility_marks u w r.evidence
+redex_line_by u w n r = word (codes "redex") (is_few redexes n ∷ []) ∷ (line_marks r.which r.position r.rule ++ infeasibility_marks u w r.evidence)
 
 entries_first : (u : Naming) (n : ℕ) (e : LinearEntry) (es : List LinearEntry) → entries_marks u n (e ∷ es) ≡ entries_marks u n (e ∷ []) ++ entries_marks u (suc n) es
 entries_first u n e es = ap (λ (ms : List Mark). ms ++ entries_marks u (suc n) es) (sym (append-nil _))
@@ -61,13 +61,13 @@ pub redexes_push : {A : Type 0} (f : A → Redex) (u : Naming) (w : Uses) (n m :
     → redexes_marks u w n (map f done) ++ redexes_marks u w m (f a ∷ []) ≡ redexes_marks u w n (map f (done ++ a ∷ []))
 redexes_push f u w n m done a e = push f (redexes_marks u w) (λ k. refl) (redexes_first u w) n m done a e
 
+pub pairs_use : (v : Version) (all : List Automaton) (ps : List PairEntry) (p : PairEntry) → PairsUse v all ps → EvidenceUses v all p.evidence → PairsUse v all (ps ++ p ∷ [])
+pairs_use v all [] p h k = (k, tt)
+pairs_use v all (x ∷ ps) p h k = (h.0, pairs_use v all ps p h.1 k)
+
 pub plain_pairs : {A : Type 0} (v : Version) (all : List Automaton) (f : A → PairEntry) (done after : List A) (a : A) → after ≡ done ++ a ∷ [] → PairsUse v all (map f done)
     → EvidenceUses v all (f a).evidence → PairsUse v all (map f after)
-plain_pairs {A} v all f done after a e h k = subst (λ (xs : List A). PairsUse v all (map f xs)) (sym e) (by done h)
-  where
-    by : (xs : List A) → PairsUse v all (map f xs) → PairsUse v all (map f (xs ++ a ∷ []))
-    by [] p = (k, tt)
-    by (x ∷ xs) p = (p.0, by xs p.1)
+plain_pairs v all f done after a e h k = subst (PairsUse v all) (sym (seen_push f done after a e)) (pairs_use v all (map f done) (f a) h k)
 
 pub plain_redexes : {A : Type 0} (v : Version) (all : List Automaton) (f : A → Redex) (done after : List A) (a : A) → after ≡ done ++ a ∷ [] → RedexesUse v all (map f done)
     → HasUsed v all (f a).evidence → RedexesUse v all (map f after)

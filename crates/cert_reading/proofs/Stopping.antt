@@ -1,13 +1,13 @@
 -- Parts one behind another, with the places where they are refused.
-use Rattle.std.proofs.Common.{inl, inr, codes, ◌≡◌, ◌≤◌, ℕ, suc, List, [], ◌∷◌, ◌++◌, Option, Some, None, IfSome, refl, sym, ◌∙◌, subst, arith}
+use Rattle.std.proofs.Common.{inl, inr, codes, ◌≡◌, ◌≤◌, ℕ, suc, List, [], ◌∷◌, ◌++◌, Option, Some, None, IfSome, refl, subst, arith}
 use Rattle.std.proofs.lemmas.List.{append-nil}
 use Rattle.cops_names.specs.NameTable.{NameTable}
 use Rattle.cert_grammar.specs.Prelude.{name_of, CertificateCause, Naming, Mark, Item, between, line, pairs_from, Version, Shared}
 use Rattle.cert_words.specs.declared.error.CertError.{CertError}
 use Rattle.cert_words.specs.declared.reading.Reading.{Reading}
 use Rattle.cert_words.specs.Words.{told}
-use Rattle.cert_words.specs.Walks.{left_at, Walks, tagged, AreFound, Keeps, Run, IsStuckAt, IsStuckBehind, IsStopped, ReadsOn, Reads}
-use Rattle.cert_words.proofs.Walking.{walks_then, walks_shorter, stops_then, run_then, framed_on, front_then, open_before, read_run}
+use Rattle.cert_words.specs.Walks.{left_at, Walks, Run, IsStuckAt, IsStuckBehind, IsStopped, ReadsOn, Reads}
+use Rattle.cert_words.proofs.Walking.{walks_then, walks_shorter, stops_then, goes_as, goes_then, goes_open, not_both, run_then, framed_run, as_run, front_then, open_before, read_run}
 use Rattle.cert_reading.specs.Stops.{Place, IsStoppedWhere, ReadsOnWhere, ReadsWhere, Anywhere, lowest, IsBehind, AreBehind, WithinOpening, WithinEntry}
 
 module _ (P : Place) (names : NameTable) (end : ℕ) where
@@ -35,60 +35,17 @@ module _ (P : Place) (names : NameTable) (end : ℕ) where
         place = there.place;
       }
 
-  on_behind : (from mid to : List Item) (f g : Naming → List Mark) (b r q : List ℕ) (sa sb sc : Shared) (s t u : Option CertError)
-      → ReadsOnWhere P names end from f mid b r sa sb s t → ReadsOnWhere P names end mid g to r q sb sc t u → ReadsOnWhere P names end from (λ v. f v ++ g v) to b q sa sc s u
-  on_behind from mid to f g b r q sa sb sc None None None x y = run_then names end from mid to f g b r q sa sb sc x y
-  on_behind from mid to f g b r q sa sb sc None None (Some e) x y = stop_behind from mid f b r sa sb (told e) x y
-  on_behind from mid to f g b r q sa sb sc None (Some d) None x y = absurd y
-  on_behind from mid to f g b r q sa sb sc None (Some d) (Some e) x y = subst (IsStoppedWhere P names end from b sa) (sym y) x
-  on_behind from mid to f g b r q sa sb sc (Some c) None u x y = absurd x
-  on_behind from mid to f g b r q sa sb sc (Some c) (Some d) None x y = absurd y
-  on_behind from mid to f g b r q sa sb sc (Some c) (Some d) (Some e) x y = y ∙ x
-
-  as_on : (from to other : List Item) (f g : Naming → List Mark) (b r : List ℕ) (sa sb : Shared) (s t : Option CertError) → ((t ≡ None) → (to ≡ other) × ((u : Naming) → f u ≡ g u))
-      → ReadsOnWhere P names end from f to b r sa sb s t → ReadsOnWhere P names end from g other b r sa sb s t
-  as_on from to other f g b r sa sb None None e x =
-      let same = e refl in
-      record {
-        walks = λ le items. subst (λ (y : List Item). Walks names (g (name_of names)) (left_at end (from ++ items) b) (left_at end (y ++ items) r)) same.0
-            (subst (λ (ms : List Mark). Walks names ms (left_at end (from ++ items) b) (left_at end (to ++ items) r)) (same.1 (name_of names)) (x.walks le items));
-        found = subst (AreFound names) (same.1 tagged) x.found;
-        shares = λ le. subst (λ (ms : List Mark). Keeps sa ms sb) (same.1 (name_of names)) (x.shares le);
-      }
-  as_on from to other f g b r sa sb (Some d) None e x = absurd x
-  as_on from to other f g b r sa sb None (Some d) e x = x
-  as_on from to other f g b r sa sb (Some c) (Some d) e x = x
-
-  any_on : (from to other : List Item) (f g : Naming → List Mark) (b r : List ℕ) (sa sb : Shared) (s t : Option CertError) (e : CertError) → t ≡ Some e
-      → ReadsOnWhere P names end from f to b r sa sb s t → ReadsOnWhere P names end from g other b r sa sb s t
-  any_on from to other f g b r sa sb None None e q x = absurd cc
-  any_on from to other f g b r sa sb (Some d) None e q x = absurd x
-  any_on from to other f g b r sa sb None (Some d) e q x = x
-  any_on from to other f g b r sa sb (Some c) (Some d) e q x = x
-
-  none_before : (from to : List Item) (f : Naming → List Mark) (b r : List ℕ) (sa sb : Shared) (s t : Option CertError) → t ≡ None → ReadsOnWhere P names end from f to b r sa sb s t → s ≡ None
-  none_before from to f b r sa sb None t e x = refl
-  none_before from to f b r sa sb (Some d) None e x = absurd x
-  none_before from to f b r sa sb (Some d) (Some c) e x = absurd cc
-
   -- a word, which is refused where it stands
   stuck_where : (i : Item) (b : List ℕ) (sa : Shared) (t : Option (CertificateCause × ℕ)) → P (i ∷ []) b → IsStuckAt names end i b sa t → IsStoppedWhere P names end (i ∷ []) b sa t
   stuck_where i b sa None p h = tt
   stuck_where i b sa (Some e) p h = λ le. record { marks = []; item = i; more = []; rest = b; walks = refl; stops = λ k. (tt, h [] k); place = p }
 
-  word_on : (i : Item) (to : List Item) (f : Naming → List Mark) (b r : List ℕ) (sa sb : Shared) (s t : Option CertError) → ((t ≡ None → ⊥) → P (i ∷ []) b)
+  word_on : (i : Item) (to : List Item) (f : Naming → List Mark) (b r : List ℕ) (sa sb : Shared) (s t : Option CertError) → (s ≡ None → (t ≡ None → ⊥) → P (i ∷ []) b)
       → (s ≡ None → IfSome t (λ e. IsStuckAt names end i b sa (told e))) → ReadsOn names end (i ∷ []) f to b r sa sb s t → ReadsOnWhere P names end (i ∷ []) f to b r sa sb s t
   word_on i to f b r sa sb None None p h x = x
-  word_on i to f b r sa sb None (Some e) p h x = stuck_where i b sa (told e) (p (λ q. cc)) (h refl)
+  word_on i to f b r sa sb None (Some e) p h x = stuck_where i b sa (told e) (p refl (λ q. cc)) (h refl)
   word_on i to f b r sa sb (Some d) None p h x = absurd x
   word_on i to f b r sa sb (Some d) (Some e) p h x = x
-
-  behind_on : (i : Item) (to : List Item) (f : Naming → List Mark) (b r : List ℕ) (sa sb : Shared) (s t : Option CertError) → (s ≡ None → P (i ∷ []) b)
-      → (s ≡ None → IfSome t (λ e. IsStuckAt names end i b sa (told e))) → ReadsOn names end (i ∷ []) f to b r sa sb s t → ReadsOnWhere P names end (i ∷ []) f to b r sa sb s t
-  behind_on i to f b r sa sb None None p h x = x
-  behind_on i to f b r sa sb None (Some e) p h x = stuck_where i b sa (told e) (p refl) (h refl)
-  behind_on i to f b r sa sb (Some d) None p h x = absurd x
-  behind_on i to f b r sa sb (Some d) (Some e) p h x = x
 
   -- a word that is judged behind others, which is refused where it stands
   sealed_stop : (from : List Item) (i : Item) (f : Naming → List Mark) (b q : List ℕ) (sa sb : Shared) (t : Option (CertificateCause × ℕ)) → P (i ∷ []) q
@@ -120,27 +77,24 @@ module _ (P : Place) (names : NameTable) (end : ℕ) where
       let there = x le (low ∷ []) in
       record { marks = there.marks; item = there.item; more = there.more ++ low ∷ []; rest = there.rest; walks = there.walks; stops = there.stops; place = p there.item there.more there.rest }
 
-  low_on : (from to : List Item) (low : Item) (f : Naming → List Mark) (b r : List ℕ) (sa sb : Shared) (s t : Option CertError)
-      → ((i : Item) (m : List Item) (q : List ℕ) → P (i ∷ (m ++ low ∷ [])) q) → ReadsOn names end from f to b r sa sb s t
-      → ReadsOnWhere P names end (from ++ low ∷ []) f (to ++ low ∷ []) b r sa sb s t
-  low_on from to low f b r sa sb None None p x = framed_on names end from to (low ∷ []) f b r sa sb None None x
-  low_on from to low f b r sa sb None (Some e) p x = framed_stop from low b sa (told e) p x
-  low_on from to low f b r sa sb (Some d) None p x = absurd x
-  low_on from to low f b r sa sb (Some d) (Some e) p x = x
-
 -- a part behind another
 pub then_where : {P : Place} {names : NameTable} {end : ℕ} {from mid to : List Item} {f g : Naming → List Mark} {s t u : Reading} → ReadsWhere P names end from f mid s t
     → ReadsWhere P names end mid g to t u → ReadsWhere P names end from (λ v. f v ++ g v) to s u
 then_where {P} {names} {end} {from} {mid} {to} {f} {g} {s} {t} {u} x y = record {
   front = front_then s.shares.texts t.shares.texts u.shares.texts x.front y.front;
-  on = on_behind P names end from mid to f g s.left.now t.left.now u.left.now s.shares t.shares u.shares s.refused t.refused u.refused x.on y.on;
+  on = goes_then _ _ _ (IsStoppedWhere P names end from s.left.now s.shares) (IsStoppedWhere P names end mid t.left.now t.shares) s.refused t.refused u.refused
+      (run_then names end from mid to f g s.left.now t.left.now u.left.now s.shares t.shares u.shares)
+      (stop_behind P names end from mid f s.left.now t.left.now s.shares t.shares) x.on y.on;
 }
 
 -- other marks and items, where they are the same if nothing is refused
 pub as_where : {P : Place} {names : NameTable} {end : ℕ} {from to other : List Item} {f g : Naming → List Mark} {s t : Reading}
     → ((t.refused ≡ None) → (to ≡ other) × ((u : Naming) → f u ≡ g u)) → ReadsWhere P names end from f to s t → ReadsWhere P names end from g other s t
-as_where {P} {names} {end} {from} {to} {other} {f} {g} {s} {t} e x =
-    record { front = x.front; on = as_on P names end from to other f g s.left.now t.left.now s.shares t.shares s.refused t.refused e x.on }
+as_where {P} {names} {end} {from} {to} {other} {f} {g} {s} {t} e x = record {
+  front = x.front;
+  on = goes_as _ _ (IsStoppedWhere P names end from s.left.now s.shares) (IsStoppedWhere P names end from s.left.now s.shares) s.refused t.refused
+      (λ q none. as_run names end from to other f g s.left.now t.left.now s.shares t.shares (e none).0 (e none).1) (λ q o h. h) x.on;
+}
 
 pub as_marks_where : {P : Place} {names : NameTable} {end : ℕ} {from to : List Item} {f g : Naming → List Mark} {s t : Reading} → ((t.refused ≡ None) → (u : Naming) → f u ≡ g u)
     → ReadsWhere P names end from f to s t → ReadsWhere P names end from g to s t
@@ -154,23 +108,25 @@ then_nothing_where {f = f} x y = as_marks_where (λ none v. append-nil (f v)) (t
 -- where the text is refused nothing is said of a value
 pub already_where : {P : Place} {names : NameTable} {end : ℕ} {from to other : List Item} {f g : Naming → List Mark} {s t : Reading} (e : CertError) → t.refused ≡ Some e
     → ReadsWhere P names end from f to s t → ReadsWhere P names end from g other s t
-already_where {P} {names} {end} {from} {to} {other} {f} {g} {s} {t} e q x =
-    record { front = x.front; on = any_on P names end from to other f g s.left.now t.left.now s.shares t.shares s.refused t.refused e q x.on }
+already_where {t = t} e q x = as_where (λ none. absurd (not_both t.refused e q none)) x
 
 -- where nothing is refused nothing was
 pub open_before_where : {P : Place} {names : NameTable} {end : ℕ} {from to : List Item} {f : Naming → List Mark} {s t : Reading} → ReadsWhere P names end from f to s t
     → t.refused ≡ None → s.refused ≡ None
-open_before_where {P} {names} {end} {from} {to} {f} {s} {t} x e = none_before P names end from to f s.left.now t.left.now s.shares t.shares s.refused t.refused e x.on
+open_before_where {P} {names} {end} {from} {to} {f} {s} {t} x e =
+    goes_open (Run names end from f to s.left.now t.left.now s.shares t.shares) (IsStoppedWhere P names end from s.left.now s.shares) s.refused t.refused e x.on
 
 -- a word
 pub word_where : {P : Place} {names : NameTable} {end : ℕ} {i : Item} {to : List Item} {f : Naming → List Mark} {s t : Reading} → ((t.refused ≡ None → ⊥) → P (i ∷ []) s.left.now)
     → (s.refused ≡ None → IfSome t.refused (λ e. IsStuckAt names end i s.left.now s.shares (told e))) → Reads names end (i ∷ []) f to s t → ReadsWhere P names end (i ∷ []) f to s t
-word_where {P} {names} {end} {i} {to} {f} {s} {t} p h x = record { front = x.front; on = word_on P names end i to f s.left.now t.left.now s.shares t.shares s.refused t.refused p h x.on }
+word_where {P} {names} {end} {i} {to} {f} {s} {t} p h x =
+    record { front = x.front; on = word_on P names end i to f s.left.now t.left.now s.shares t.shares s.refused t.refused (λ none some. p some) h x.on }
 
 -- a word behind what is not refused
 pub word_behind : {P : Place} {names : NameTable} {end : ℕ} {i : Item} {to : List Item} {f : Naming → List Mark} {s t : Reading} → (s.refused ≡ None → P (i ∷ []) s.left.now)
     → (s.refused ≡ None → IfSome t.refused (λ e. IsStuckAt names end i s.left.now s.shares (told e))) → Reads names end (i ∷ []) f to s t → ReadsWhere P names end (i ∷ []) f to s t
-word_behind {P} {names} {end} {i} {to} {f} {s} {t} p h x = record { front = x.front; on = behind_on P names end i to f s.left.now t.left.now s.shares t.shares s.refused t.refused p h x.on }
+word_behind {P} {names} {end} {i} {to} {f} {s} {t} p h x =
+    record { front = x.front; on = word_on P names end i to f s.left.now t.left.now s.shares t.shares s.refused t.refused (λ none some. p none) h x.on }
 
 -- a word that is judged behind others
 pub sealed_where : {P : Place} {names : NameTable} {end : ℕ} {i : Item} {from to : List Item} {f g : Naming → List Mark} {a s t : Reading} → P (i ∷ []) s.left.now
@@ -186,11 +142,15 @@ sealed_where {P} {names} {end} {i} {from} {to} {f} {g} {a} {s} {t} p none h x y 
 -- a part with an item below it
 pub low_where : {P : Place} {names : NameTable} {end : ℕ} {from to : List Item} {f : Naming → List Mark} {s t : Reading} (low : Item)
     → ((i : Item) (m : List Item) (q : List ℕ) → P (i ∷ (m ++ low ∷ [])) q) → Reads names end from f to s t → ReadsWhere P names end (from ++ low ∷ []) f (to ++ low ∷ []) s t
-low_where {P} {names} {end} {from} {to} {f} {s} {t} low p x = record { front = x.front; on = low_on P names end from to low f s.left.now t.left.now s.shares t.shares s.refused t.refused p x.on }
+low_where {P} {names} {end} {from} {to} {f} {s} {t} low p x = record {
+  front = x.front;
+  on = goes_as _ _ (IsStopped names end from s.left.now s.shares) (IsStoppedWhere P names end (from ++ low ∷ []) s.left.now s.shares) s.refused t.refused
+      (λ q none. framed_run names end from to (low ∷ []) f s.left.now t.left.now s.shares t.shares) (λ q o. framed_stop P names end from low s.left.now s.shares o p) x.on;
+}
 
 -- ---- at a place of which less is said
 
-other_stop : (P Q : Place) → ((items : List Item) (q : List ℕ) → P items q → Q items q)
+pub other_stop : (P Q : Place) → ((items : List Item) (q : List ℕ) → P items q → Q items q)
     → (names : NameTable) (end : ℕ) (from : List Item) (b : List ℕ) (sa : Shared) (t : Option (CertificateCause × ℕ)) → IsStoppedWhere P names end from b sa t
     → IsStoppedWhere Q names end from b sa t
 other_stop P Q f names end from b sa None x = tt
@@ -204,43 +164,21 @@ other_stop P Q f names end from b sa (Some e) x = λ le. let there = x le in rec
   place = f (there.item ∷ there.more) there.rest there.place;
 }
 
-other_place : (P Q : Place) → ((items : List Item) (q : List ℕ) → P items q → Q items q)
-    → (names : NameTable) (end : ℕ) (from to : List Item) (f : Naming → List Mark) (b r : List ℕ) (sa sb : Shared) (s t : Option CertError)
-    → ReadsOnWhere P names end from f to b r sa sb s t → ReadsOnWhere Q names end from f to b r sa sb s t
-other_place P Q g names end from to f b r sa sb None None x = x
-other_place P Q g names end from to f b r sa sb None (Some e) x = other_stop P Q g names end from b sa (told e) x
-other_place P Q g names end from to f b r sa sb (Some d) None x = absurd x
-other_place P Q g names end from to f b r sa sb (Some d) (Some e) x = x
-
 pub elsewhere : {P Q : Place} {names : NameTable} {end : ℕ} {from to : List Item} {f : Naming → List Mark} {s t : Reading}
     → ((items : List Item) (q : List ℕ) → P items q → Q items q) → ReadsWhere P names end from f to s t → ReadsWhere Q names end from f to s t
-elsewhere {P} {Q} {names} {end} {from} {to} {f} {s} {t} g x = record { front = x.front; on = other_place P Q g names end from to f s.left.now t.left.now s.shares t.shares s.refused t.refused x.on }
+elsewhere {P} {Q} {names} {end} {from} {to} {f} {s} {t} g x =
+    let R = Run names end from f to s.left.now t.left.now s.shares t.shares in
+    record {
+      front = x.front;
+      on = goes_as R R (IsStoppedWhere P names end from s.left.now s.shares) (IsStoppedWhere Q names end from s.left.now s.shares) s.refused t.refused
+          (λ q none h. h) (λ q. other_stop P Q g names end from s.left.now s.shares) x.on;
+    }
 
 -- ---- anywhere
 
-pub any_stop : (P : Place) (names : NameTable) (end : ℕ) (from : List Item) (b : List ℕ) (sa : Shared) (t : Option (CertificateCause × ℕ)) → IsStoppedWhere P names end from b sa t
-    → IsStoppedWhere Anywhere names end from b sa t
-any_stop P names end from b sa None x = tt
-any_stop P names end from b sa (Some e) x = λ le. let there = x le in record {
-  marks = there.marks;
-  item = there.item;
-  more = there.more;
-  rest = there.rest;
-  walks = there.walks;
-  stops = there.stops;
-  place = tt;
-}
-
-any_place : (P : Place) (names : NameTable) (end : ℕ) (from to : List Item) (f : Naming → List Mark) (b r : List ℕ) (sa sb : Shared) (s t : Option CertError)
-    → ReadsOnWhere P names end from f to b r sa sb s t → ReadsOnWhere Anywhere names end from f to b r sa sb s t
-any_place P names end from to f b r sa sb None None x = x
-any_place P names end from to f b r sa sb None (Some e) x = any_stop P names end from b sa (told e) x
-any_place P names end from to f b r sa sb (Some d) None x = absurd x
-any_place P names end from to f b r sa sb (Some d) (Some e) x = x
-
 pub anywhere : {P : Place} {names : NameTable} {end : ℕ} {from to : List Item} {f : Naming → List Mark} {s t : Reading} → ReadsWhere P names end from f to s t
     → ReadsWhere Anywhere names end from f to s t
-anywhere {P} {names} {end} {from} {to} {f} {s} {t} x = record { front = x.front; on = any_place P names end from to f s.left.now t.left.now s.shares t.shares s.refused t.refused x.on }
+anywhere x = elsewhere (λ items q h. tt) x
 
 stop_anywhere : (names : NameTable) (end : ℕ) (from : List Item) (b : List ℕ) (sa : Shared) (t : Option (CertificateCause × ℕ)) → IsStopped names end from b sa t
     → IsStoppedWhere Anywhere names end from b sa t
@@ -257,15 +195,14 @@ stop_anywhere names end from b sa (Some e) x = λ le.
       place = tt;
     }
 
-reads_place : (names : NameTable) (end : ℕ) (from to : List Item) (f : Naming → List Mark) (b r : List ℕ) (sa sb : Shared) (s t : Option CertError)
-    → ReadsOn names end from f to b r sa sb s t → ReadsOnWhere Anywhere names end from f to b r sa sb s t
-reads_place names end from to f b r sa sb None None x = x
-reads_place names end from to f b r sa sb None (Some e) x = stop_anywhere names end from b sa (told e) x
-reads_place names end from to f b r sa sb (Some d) None x = absurd x
-reads_place names end from to f b r sa sb (Some d) (Some e) x = x
-
 pub reads_anywhere : {names : NameTable} {end : ℕ} {from to : List Item} {f : Naming → List Mark} {s t : Reading} → Reads names end from f to s t → ReadsWhere Anywhere names end from f to s t
-reads_anywhere {names} {end} {from} {to} {f} {s} {t} x = record { front = x.front; on = reads_place names end from to f s.left.now t.left.now s.shares t.shares s.refused t.refused x.on }
+reads_anywhere {names} {end} {from} {to} {f} {s} {t} x =
+    let R = Run names end from f to s.left.now t.left.now s.shares t.shares in
+    record {
+      front = x.front;
+      on = goes_as R R (IsStopped names end from s.left.now s.shares) (IsStoppedWhere Anywhere names end from s.left.now s.shares) s.refused t.refused
+          (λ q none h. h) (λ q. stop_anywhere names end from s.left.now s.shares) x.on;
+    }
 
 -- ---- the places
 
@@ -306,25 +243,10 @@ first_entry v n b q = record { early = λ h. absurd (first_early v n h); going =
 
 -- ---- what is known of a reading that began with nothing refused
 
-ran_on : (P : Place) (names : NameTable) (end : ℕ) (from to : List Item) (f : Naming → List Mark) (b r : List ℕ) (sa sb : Shared) (s t : Option CertError) → s ≡ None → t ≡ None
-    → ReadsOnWhere P names end from f to b r sa sb s t → Run names end from f to b r sa sb
-ran_on P names end from to f b r sa sb None None p q x = x
-ran_on P names end from to f b r sa sb (Some d) t p q x = absurd cc
-ran_on P names end from to f b r sa sb None (Some e) p q x = absurd cc
-
 pub ran : {P : Place} {names : NameTable} {end : ℕ} {from to : List Item} {f : Naming → List Mark} {s t : Reading} → s.refused ≡ None → t.refused ≡ None
     → ReadsWhere P names end from f to s t → Run names end from f to s.left.now t.left.now s.shares t.shares
-ran {P} {names} {end} {from} {to} {f} {s} {t} p q x = ran_on P names end from to f s.left.now t.left.now s.shares t.shares s.refused t.refused p q x.on
-
-same_some : (d e : CertError) → ◌≡◌ {A = Option CertError} (Some d) (Some e) → d ≡ e
-same_some d e q = cc
-
-stopped_on : (P : Place) (names : NameTable) (end : ℕ) (from to : List Item) (f : Naming → List Mark) (b r : List ℕ) (sa sb : Shared) (s t : Option CertError) (e : CertError)
-    → s ≡ None → t ≡ Some e → ReadsOnWhere P names end from f to b r sa sb s t → IsStoppedWhere P names end from b sa (told e)
-stopped_on P names end from to f b r sa sb None None e p q x = absurd cc
-stopped_on P names end from to f b r sa sb (Some d) t e p q x = absurd cc
-stopped_on P names end from to f b r sa sb None (Some d) e p q x = subst (λ (y : CertError). IsStoppedWhere P names end from b sa (told y)) (same_some d e q) x
+ran p q x = rw (p, q) at x.on
 
 pub stopped_where : {P : Place} {names : NameTable} {end : ℕ} {from to : List Item} {f : Naming → List Mark} {s t : Reading} (e : CertError) → s.refused ≡ None → t.refused ≡ Some e
     → ReadsWhere P names end from f to s t → IsStoppedWhere P names end from s.left.now s.shares (told e)
-stopped_where {P} {names} {end} {from} {to} {f} {s} {t} e p q x = stopped_on P names end from to f s.left.now t.left.now s.shares t.shares s.refused t.refused e p q x.on
+stopped_where e p q x = rw (p, q) at x.on

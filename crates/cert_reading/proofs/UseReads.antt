@@ -1,19 +1,20 @@
 -- What is known of shared automata behind a part that is read.
-use Rattle.std.proofs.Common.{◌≡◌, ◌≤◌, ◌-◌, ℕ, List, [], ◌∷◌, ◌++◌, length, codes, slice_get, Option, Some, None, sym, ap, ◌∙◌, arith}
+use Rattle.std.proofs.Common.{◌≡◌, ◌≤◌, ◌-◌, ℕ, List, [], ◌∷◌, ◌++◌, length, codes, slice_get, Some, None, sym, ap, ◌∙◌, arith}
+use Rattle.general_lemmas.proofs.Options.{one_value}
 use Rattle.certificates.specs.Evidence.{Automaton}
 use Rattle.cops_names.specs.NameTable.{NameTable}
-use Rattle.cert_grammar.specs.Prelude.{name_of, Version, first_version, second_version, Naming, Mark, fixed, use_mark, texts_of, number_in, AllNew, Shared, Item}
+use Rattle.cert_grammar.specs.Prelude.{name_of, Version, first_version, second_version, Naming, Mark, fixed, demands_of, use_mark, texts_of, number_in, AllNew, Shared, Item}
 use Rattle.cert_sharing.proofs.FirstUses.{texts_length, pick, pick_number}
-use Rattle.cert_sharing.proofs.UseMarks.{Counts, counts_still, counts_both, counts_put, counts_use}
+use Rattle.cert_sharing.proofs.UseMarks.{IsStill, places_still, Counts, counts_still, counts_both, counts_put, counts_use}
 use Rattle.cert_openings.proofs.Entries.{pick_stands}
-use Rattle.cert_words.specs.declared.error.CertError.{CertError}
 use Rattle.cert_words.specs.declared.reading.Reading.{Reading}
 use Rattle.cert_words.specs.Walks.{left_at, Run, Reads}
 use Rattle.cert_words.proofs.Walking.{read_run, open_before, walks_shorter}
 use Rattle.cert_reading.specs.Shared.{IsKnown}
+use Rattle.cert_reading.specs.Lines.{line_marks}
 use Rattle.cert_reading.specs.Uses.{AreShared}
-use Rattle.cert_reading.specs.Stops.{Place, ReadsOnWhere, ReadsWhere}
-use Rattle.cert_reading.proofs.Stopping.{open_before_where}
+use Rattle.cert_reading.specs.Stops.{Place, ReadsWhere}
+use Rattle.cert_reading.proofs.Stopping.{open_before_where, ran}
 
 -- marks behind which the same automata are known
 run_texts : (names : NameTable) (end : ℕ) (from to : List Item) (f : Naming → List Mark) (b r : List ℕ) (s t : Shared) (ns : List ℕ) → Counts (f (name_of names)) ns
@@ -36,18 +37,16 @@ known_behind first_version all x ns c h = tt
 known_behind {names} {end} {from} {to} {f} {s} {t} second_version all x ns c h = λ none. known_on names end from to f s.left.now t.left.now s.shares t.shares all ns c
     (h (open_before x none)) (read_run none x)
 
-where_run : (P : Place) (names : NameTable) (end : ℕ) (from to : List Item) (f : Naming → List Mark) (b r : List ℕ) (x y : Shared) (s t : Option CertError) → t ≡ None
-    → ReadsOnWhere P names end from f to b r x y s t → Run names end from f to b r x y
-where_run P names end from to f b r x y None None e h = h
-where_run P names end from to f b r x y (Some d) None e h = absurd h
-where_run P names end from to f b r x y s (Some d) e h = absurd cc
-
 pub known_where : {P : Place} {names : NameTable} {end : ℕ} {from to : List Item} {f : Naming → List Mark} {s t : Reading} (v : Version) (all : List Automaton)
     → ReadsWhere P names end from f to s t → (ns : List ℕ) → Counts (f (name_of names)) ns → AreShared v names all end s → AreShared v names all end t
 known_where first_version all x ns c h = tt
 known_where {P} {names} {end} {from} {to} {f} {s} {t} second_version all x ns c h = λ none.
     known_on names end from to f s.left.now t.left.now s.shares t.shares all ns c (h (open_before_where x none))
-    (where_run P names end from to f s.left.now t.left.now s.shares t.shares s.refused t.refused none x.on)
+    (ran (open_before_where x none) none x)
+
+-- the front of a line of overlaps or redexes uses no automaton
+pub front_counts : (m : Mark) (first : ℕ) (p : List ℕ) (second : ℕ) → IsStill (demands_of m) → Counts (m ∷ line_marks first p second) []
+front_counts m first p second h = counts_still (m ∷ line_marks first p second) (h, (tt, (tt, (tt, (places_still p 0, (tt, (tt, (tt, tt))))))))
 
 -- ---- the line's end of a use
 
@@ -74,8 +73,5 @@ use_facts {names} {end} {from} {to} {s} {t} all n h none x =
 -- the automaton at its number's place has that number
 pub number_there : (names : NameTable) (all : List Automaton) (a : Automaton) (n : ℕ) → UseFacts names all n → slice_get all (n - 1) ≡ Some a → number_in names all a ≡ n
 number_there names all a n h stands =
-    let same : pick all n ≡ a = some_same (pick all n) a (sym (pick_stands all n h.low h.high) ∙ stands) in
+    let same : pick all n ≡ a = one_value (slice_get all (n - 1)) (pick all n) a (pick_stands all n h.low h.high) stands in
     ap (number_in names all) (sym same) ∙ pick_number names all n h.new h.low h.high
-  where
-    some_same : (x y : Automaton) → Some x ≡ Some y → x ≡ y
-    some_same x y e = cc

@@ -1,6 +1,8 @@
 pub mod Stops
+pub mod Arguments
 pub mod Plain
 pub mod Headings
+pub mod Lines
 pub mod Shared
 pub mod Uses
 pub mod Measures

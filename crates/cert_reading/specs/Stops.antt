@@ -7,8 +7,7 @@ use Rattle.cert_shares.specs.SharesView.{with_begun}
 use Rattle.cert_openings.specs.Openings.{BeginsEntry}
 use Rattle.cert_words.specs.declared.error.CertError.{CertError}
 use Rattle.cert_words.specs.declared.reading.Reading.{Reading}
-use Rattle.cert_words.specs.Words.{told}
-use Rattle.cert_words.specs.Walks.{left_at, Walks, Run, RefusesAt, IsFront}
+use Rattle.cert_words.specs.Walks.{left_at, Walks, Run, RefusesAt, GoesOn, IsFront}
 
 -- what is true of the items and of the bytes that are left
 abbrev pub Place : Type 1
@@ -30,10 +29,7 @@ IsStoppedWhere P names end from bytes s (Some e) = length bytes ≤ end → Stop
 
 -- what was refused stays so; else the part is read, or refused at such a place
 abbrev pub ReadsOnWhere : Place → NameTable → ℕ → List Item → (Naming → List Mark) → List Item → List ℕ → List ℕ → Shared → Shared → Option CertError → Option CertError → Type 0
-ReadsOnWhere P names end from marks to bytes rest s t None None = Run names end from marks to bytes rest s t
-ReadsOnWhere P names end from marks to bytes rest s t (Some d) None = ⊥
-ReadsOnWhere P names end from marks to bytes rest s t None (Some e) = IsStoppedWhere P names end from bytes s (told e)
-ReadsOnWhere P names end from marks to bytes rest s t (Some d) (Some e) = told e ≡ told d
+ReadsOnWhere P names end from marks to bytes rest s t = GoesOn (Run names end from marks to bytes rest s t) (IsStoppedWhere P names end from bytes s)
 
 pub record ReadsWhere (P : Place) (names : NameTable) (end : ℕ) (from : List Item) (marks : Naming → List Mark) (to : List Item) (old new : Reading) : Type 0 where
   pub front : IsFront old.shares.texts new.shares.texts

@@ -101,11 +101,11 @@ fn transitions(
 {
     let mut transitions = Vec::new(alloc);
     'transitions: for _ in 0..count {
-        let next = transition(alloc, names, end, at, states);
-        put(at, &mut transitions, next);
         if at.refused.is_some() {
             return transitions;
         }
+        let next = transition(alloc, names, end, at, states);
+        put(at, &mut transitions, next);
     }
     transitions
 }

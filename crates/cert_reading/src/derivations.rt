@@ -41,11 +41,11 @@ fn steps(alloc: Global, end: usize, at: &mut Reading, level: u32, count: u32) ->
 {
     let mut steps = Vec::new(alloc);
     'steps: for _ in 0..count {
-        let next = step(alloc, end, at, level);
-        put(at, &mut steps, next);
         if at.refused.is_some() {
             return Derivation { steps };
         }
+        let next = step(alloc, end, at, level);
+        put(at, &mut steps, next);
     }
     Derivation { steps }
 }
@@ -88,11 +88,11 @@ fn derivations(
 {
     let mut derivations = Vec::new(alloc);
     'derivations: for _ in 0..count {
-        let next = derivation(alloc, end, at, level);
-        put(at, &mut derivations, next);
         if at.refused.is_some() {
             return derivations;
         }
+        let next = derivation(alloc, end, at, level);
+        put(at, &mut derivations, next);
     }
     derivations
 }

@@ -5,6 +5,7 @@ mod automata;
 mod derivations;
 mod evidence;
 mod headings;
+mod lines;
 mod measures;
 mod pairs;
 mod peaks;

@@ -10,12 +10,11 @@ ghost use Rattle.cert_reading.specs.Uses.{version_by, automata_by, uses_by, AreK
 ghost use Rattle.cert_reading.specs.Stops.{ReadsWhere, Anywhere, WithinEntry};
 
 use crate::evidence::evidence;
+use crate::lines::between_numbers;
 use crate::uses::Uses;
 use cert_grammar::MOST_PAIRS;
 use cert_model::PairEntry;
-use cert_words::{
-    BOUND, CertCount, Lead, Reading, choose, counted_or, number, position, put, text,
-};
+use cert_words::{CertCount, Lead, Reading, choose, counted_or, put};
 use cops_names::Names;
 use std::alloc::Global;
 
@@ -39,13 +38,7 @@ pub fn next_pair(
         choose(end, at, &[Lead::Text(b"\n")]);
         return None;
     }
-    text(end, at, b" ");
-    let inner = number(end, at, 0, BOUND);
-    text(end, at, b" ");
-    let pos = position(alloc, end, at);
-    text(end, at, b" ");
-    let outer = number(end, at, 0, BOUND);
-    text(end, at, b" ");
+    let (inner, pos, outer) = between_numbers(alloc, end, at);
     let evidence = evidence(alloc, names, uses, end, at);
     Some(PairEntry {
         inner,

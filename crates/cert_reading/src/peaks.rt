@@ -10,14 +10,12 @@ ghost use Rattle.cert_reading.specs.Uses.{version_by, automata_by, uses_by, AreK
 
 use crate::derivations::derivation;
 use crate::evidence::infeasibility;
+use crate::lines::between_numbers;
 use crate::terms::start_term;
 use crate::uses::Uses;
 use cert_grammar::MOST_REDEXES;
 use cert_model::{NonJoin, Peak, Redex};
-use cert_words::{
-    BOUND, CertCount, Lead, Reading, choose, counted_or, either, last_word, number, position, put,
-    text,
-};
+use cert_words::{CertCount, Lead, Reading, choose, counted_or, either, last_word, put, text};
 use cops_names::Names;
 use std::alloc::Global;
 
@@ -41,13 +39,7 @@ fn next_redex(
         choose(end, at, &[Lead::Text(b"\n")]);
         return None;
     }
-    text(end, at, b" ");
-    let which = number(end, at, 0, BOUND);
-    text(end, at, b" ");
-    let pos = position(alloc, end, at);
-    text(end, at, b" ");
-    let rule = number(end, at, 0, BOUND);
-    text(end, at, b" ");
+    let (which, pos, rule) = between_numbers(alloc, end, at);
     let evidence = infeasibility(alloc, names, uses, end, at);
     Some(Redex {
         which,

@@ -44,11 +44,11 @@ fn automata(
 {
     let mut automata = Vec::new(alloc);
     'automata: for _ in 0..count {
-        let next = shared_automaton(alloc, names, end, at);
-        put(at, &mut automata, next);
         if at.refused.is_some() {
             return automata;
         }
+        let next = shared_automaton(alloc, names, end, at);
+        put(at, &mut automata, next);
     }
     automata
 }

@@ -59,11 +59,11 @@ pub fn all_simplifications(
 {
     let mut steps = Vec::new(alloc);
     'steps: for _ in 0..count {
-        let next = simplification(alloc, names, automata, end, at);
-        put(at, &mut steps, next);
         if at.refused.is_some() {
             return steps;
         }
+        let next = simplification(alloc, names, automata, end, at);
+        put(at, &mut steps, next);
     }
     steps
 }

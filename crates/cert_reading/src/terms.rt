@@ -1,14 +1,15 @@
 //! Terms.
 
-ghost use Rattle.std.specs.Prelude.{◌≡◌, ◌≤◌, ◌<◌, ◌+◌, ◌++◌, ℕ, suc, true, false, List, [], ◌∷◌, None, length, codes};
-ghost use Rattle.cops_names.specs.NameTable.{number_of};
+ghost use Rattle.std.specs.Prelude.{◌≡◌, ◌≤◌, ◌<◌, ◌+◌, ◌++◌, ℕ, suc, true, List, [], ◌∷◌, None, length, codes};
+ghost use Rattle.cops_names.specs.NameTable.{NameTable};
 ghost use Rattle.rewriting.specs.Terms.{size, size_all};
 ghost use Rattle.term_core.specs.View.{view, views};
-ghost use Rattle.cert_grammar.specs.Prelude.{name_of, fixed, Frame, with_next};
+ghost use Rattle.cert_grammar.specs.Prelude.{name_of, meets, has_arity, fixed, behind, Frame};
 ghost use Rattle.cert_grammar.specs.WordMarks as marks;
 ghost use Rattle.cert_grammar.specs.Items as spec;
 ghost use Rattle.cert_words.specs.Walks.{Reads};
 ghost use Rattle.cert_words.specs.Nodes.{inner_marks};
+ghost use Rattle.cert_reading.specs.Arguments.{argument_end, behind_argument};
 
 use cert_words::{
     Next, Node, Reading, checked, closed_or, either, has_so_many, next_node, opened, opened_or,
@@ -17,6 +18,18 @@ use cert_words::{
 use cops_names::Names;
 use std::alloc::Global;
 use term_core::Term;
+
+// The comma or the bracket behind a symbol with so many arguments; whether it is a comma.
+fn argument_closed(end: usize, at: &mut Reading, met: bool) -> bool
+    ensures { (names : NameTable) (f k n : ℕ) (g : Frame) (fs : List Frame) → meets names (has_arity (name_of names f) k) ≡ met → Reads names end (spec.term_closed n (name_of names f) k (g ∷ fs) ∷ []) (λ u. behind (has_arity (u f) k) ∷ argument_end result ∷ []) (behind_argument result n g fs ∷ []) at.old at.new }
+{
+    if closed_or(end, at, met) {
+        text(end, at, b",");
+        return true;
+    }
+    text(end, at, b")");
+    false
+}
 
 // A symbol's argument at a depth, from this node on, with the comma or the bracket behind it; whether that is a
 // comma, and the number of the next node.
@@ -32,8 +45,7 @@ fn argument(
     requires inner { 2 ≤ depth }
     requires deep { depth ≤ 401 }
     requires many { n ≤ 10001 }
-    ensures comma { result.1 ≡ true → (f : Frame) (fs : List Frame) → suc (suc (length fs)) ≡ depth → Reads names.now end (spec.node n (f ∷ fs) ∷ []) (λ u. marks.term_marks u depth n (view result.0) ++ (fixed (codes ",") ∷ [])) (spec.node result.2 (with_next f ∷ fs) ∷ []) at.old at.new }
-    ensures close { result.1 ≡ false → (f : Frame) (fs : List Frame) → suc (suc (length fs)) ≡ depth → Reads names.now end (spec.node n (f ∷ fs) ∷ []) (λ u. marks.term_marks u depth n (view result.0) ++ (fixed (codes ")") ∷ [])) (spec.term_closed result.2 f.name f.argument fs ∷ []) at.old at.new }
+    ensures read { (f : Frame) (fs : List Frame) → suc (suc (length fs)) ≡ depth → Reads names.now end (spec.node n (f ∷ fs) ∷ []) (λ u. marks.term_marks u depth n (view result.0) ++ (argument_end result.1 ∷ [])) (behind_argument result.1 result.2 f fs ∷ []) at.old at.new }
     ensures counted { at.new.refused ≡ None → result.2 ≡ n + size (view result.0) }
     ensures many { result.2 ≤ 10001 }
     ensures more { result.1 ≡ true → n < result.2 }
@@ -59,12 +71,8 @@ fn argument(
             }
             Next::Open => {
                 let (args, next) = arguments(alloc, names, end, at, depth + 1, n + 1);
-                if closed_or(end, at, has_so_many(names, f, args.len())) {
-                    text(end, at, b",");
-                    return (Term::Fun(f, args), true, next);
-                }
-                text(end, at, b")");
-                (Term::Fun(f, args), false, next)
+                let comma = argument_closed(end, at, has_so_many(names, f, args.len()));
+                (Term::Fun(f, args), comma, next)
             }
         },
     }

@@ -1,18 +1,17 @@
 -- The reader that stops at the first refusal, shared automata judged, is exact.
-use Rattle.std.proofs.Common.{◌≡◌, inl, inr, ℕ, zero, suc, ◌+◌, ◌*◌, ◌<◌, true, List, [], ◌∷◌, ◌++◌, length, drop, Option, Some, None, refl, sym, ap, ◌∙◌, subst, arith, length-append}
-use Rattle.std.proofs.lemmas.List.{append-nil}
+use Rattle.std.proofs.Common.{◌≡◌, inl, inr, ℕ, zero, suc, ◌+◌, ◌*◌, ◌<◌, true, List, [], ◌∷◌, ◌++◌, length, drop, Option, Some, None, refl, sym, ap, ◌∙◌, subst, arith}
 use Rattle.cops_names.specs.NameTable.{NameTable}
-use Rattle.cert_grammar.specs.Prelude.{CertificateCause, syntax, Mark, mark_text, marks_text, demands_of, verdict, Shared, nothing_shared, share_verdict, behind_mark, behind_marks}
+use Rattle.cert_grammar.specs.Prelude.{CertificateCause, syntax, Mark, demands_of, verdict, Shared, nothing_shared, share_verdict, behind_mark, behind_marks}
 use Rattle.cert_grammar.specs.Prelude.{PassShares, GoesTo, IsPlainlyRefused, IsRefusedShared, IsCertificateRefused, Item, opening, Lead, leads, is_there, first_there, longest, taken}
 use Rattle.cert_grammar.specs.Prelude.{mark_of, items_of, Left, refuses, behind_lead, judged, step_lead, step, Reading, accepted, refused, whole_text, SharedStep, ends, further}
 use Rattle.cert_grammar.specs.Prelude.{shared_judged, after_step, shared_step, shared_reading, read_shared, read_text}
 use Rattle.cert_laws.proofs.LeadTables.{In}
 use Rattle.cert_laws.proofs.OneRefusal.{passed_anywhere}
-use Rattle.cert_laws.proofs.Spelt.{text_both, pass_both}
+use Rattle.cert_laws.proofs.Spelt.{pass_both}
 use Rattle.cert_laws.proofs.Paths.{path-append, first_sound}
 use Rattle.cert_laws.proofs.Reached.{Moves, moves_path, moves_more}
 use Rattle.cert_laws.proofs.Completions.{completes}
-use Rattle.cert_laws.proofs.FirstRefusals.{skeleton_of, read_of, Reached, lead_move, taken_text, is_judged}
+use Rattle.cert_laws.proofs.FirstRefusals.{skeleton_of, read_of, Reached, reached_start, next_reached, lead_move, is_judged}
 use Rattle.cert_laws.proofs.StuckReaders.{refused_where_stuck, refused_behind_end}
 use Rattle.cert_laws.proofs.ExactReader.{weight, lighter}
 use Rattle.cert_sharing.specs.SharedLaws.{IsAnswer}
@@ -48,19 +47,8 @@ on : (names : NameTable) (bytes : List ℕ) (at : ℕ) (i : Item) (items : List 
 on names bytes at i items left a s p n e v w =
     let r = p.reached in
     let m = mark_of a (read_of a left) in
-    let more = text_both r.front (m ∷ []) in
-    let place = r.place in
-    let sizes = length-append (marks_text r.front) (mark_text m ++ []) in
-    let one = ap length (append-nil (mark_text m)) in
-    let size = taken_text a left in
-    let whole = ap length more in
     record {
-      reached = record {
-        front = r.front ++ m ∷ [];
-        moves = moved names bytes at i items left a r n e;
-        place = omega (arith, place, sizes, one, size, whole);
-        passed = pass_both names r.front (m ∷ []) r.passed (v, tt);
-      };
+      reached = next_reached names bytes at i items left a r n e v;
       passed = pass_more r.front m nothing_shared p.passed (subst (λ (x : Shared). share_verdict x 0 (demands_of m) ≡ None) p.is w);
       is = ap (behind_mark m) p.is ∙ sym (behind_more r.front m nothing_shared);
     }
@@ -144,10 +132,7 @@ read_is (suc k) names bytes l s h p = by (shared_step names l s) (shared_step_is
     by (further m t) g each = let less = g.1 in each m t (omega (arith, h, less)) g.0
 
 pub read_text_is : (names : NameTable) (bytes : List ℕ) → IsAnswer names bytes (read_text names bytes)
-read_text_is names bytes = read_is (2 * length bytes + 2) names bytes (whole_text bytes) nothing_shared (omega arith) (record { reached = start; passed = tt; is = refl })
-  where
-    start : Reached names bytes (whole_text bytes)
-    start = record { front = []; moves = (refl, refl); place = refl; passed = tt }
+read_text_is names bytes = read_is (2 * length bytes + 2) names bytes (whole_text bytes) nothing_shared (omega arith) (record { reached = reached_start names bytes; passed = tt; is = refl })
 
 -- and it finds each answer
 pub answers_are_read : (names : NameTable) (bytes : List ℕ) (r : Reading) → IsAnswer names bytes r → read_text names bytes ≡ r

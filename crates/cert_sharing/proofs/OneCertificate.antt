@@ -1,7 +1,7 @@
 -- Bytes are the text of one certificate at most.
 use Rattle.std.proofs.Common.{◌≡◌, ◌⊎◌, inl, inr, ℕ, suc, Bool, true, false, List, [], ◌∷◌, ◌++◌, length, codes, Option, Some, None, refl, sym, ap, ◌∙◌, arith}
 use Rattle.std.proofs.lemmas.List.{append_cancel_left}
-use Rattle.rewriting.specs.Prelude.{Position, Head, file, auxiliary}
+use Rattle.rewriting.specs.Prelude.{Term, Position, Head, file, auxiliary}
 use Rattle.certificates.specs.Prelude.{Derivation, Automaton, InfeasibilityEvidence, by_caps, by_automaton, PairEvidence, trivial_pair, infeasible_pair, conflicting_pair, joined_pair}
 use Rattle.certificates.specs.Prelude.{unfeasible_pair, PairEntry, LinearEntry, MeasureCertificate, linear_measure, precedence_measure, Redex, Apartness, by_normal_forms, by_rigid_caps}
 use Rattle.certificates.specs.Prelude.{Peak, Simplification, dropped, inlined, Certificate, ortho_certificate, quasi_certificate, peak_certificate, simplified_certificate}
@@ -11,7 +11,7 @@ use Rattle.cert_grammar.specs.Prelude.{used_by_steps, automata_of, automaton_tex
 use Rattle.cert_grammar.specs.Prelude.{automaton_ends, Mark, fixed, closed, mark_text, marks_text, term_marks, derivation_marks, closing, use_marks, automaton_marks, automata_marks}
 use Rattle.cert_grammar.specs.Prelude.{infeasibility_marks, evidence_marks, pairs_marks, coefficients_marks, measured_marks, entries_marks, heads_marks, measure_marks, redexes_marks}
 use Rattle.cert_grammar.specs.Prelude.{apart_marks, simplifications_marks, body_marks, answer_marks, certificate_marks, is_among, texts_of, shared_by, number_in, uses_of, AreAutomata}
-use Rattle.cert_grammar.specs.Prelude.{text_at, Skeleton}
+use Rattle.cert_grammar.specs.Prelude.{Skeleton}
 use Rattle.cert_laws.specs.MarkLaws.{Alike, ended, same, parted}
 use Rattle.cert_laws.proofs.Along.{differ}
 use Rattle.cert_laws.proofs.AlikeEvidence.{alike_automata}
@@ -21,10 +21,10 @@ use Rattle.cert_laws.proofs.SpeltWhole.{spelt_automaton}
 use Rattle.cert_laws.proofs.OneRefusal.{Closes, whole_goes}
 use Rattle.cert_laws.proofs.Spelt.{text_both}
 use Rattle.cert_laws.proofs.PassEvidence.{AllOf, all_of}
-use Rattle.cert_laws.proofs.Moves.{head_same, tail_same}
+use Rattle.cert_laws.proofs.Moves.{tail_same}
 use Rattle.cert_sharing.proofs.FirstUses.{AreAmong, place_text}
 use Rattle.cert_sharing.proofs.SpeltShares.{of_certificate, shared_are, shared_numbered, spelt_marks}
-use Rattle.cert_sharing.proofs.SameParts.{same_symbol, regroup, clash, number_same, place_same, same_terms, same_derivation, same_automata}
+use Rattle.cert_sharing.proofs.SameParts.{same_symbol, regroup, clash, place_same, same_terms, same_derivation, same_automata}
 
 -- ---- whole texts that are alike
 
@@ -54,10 +54,8 @@ same_infeasibility by_caps by_caps names u w P Q k l s h i e = (refl, tail_same 
 same_infeasibility by_caps (by_automaton m b) names u w P Q k l s h i e = absurd (clash _ _ _ _ refl e)
 same_infeasibility (by_automaton j a) by_caps names u w P Q k l s h i e = absurd (clash _ _ _ _ refl e)
 same_infeasibility (by_automaton j a) (by_automaton m b) names u w P Q k l s h i e =
-    let c = tail_same _ _ _ _ e in
-    let number_is = number_same j m _ _ c in
-    let r = s a b k l h.0 i.0 (tail_same _ _ _ _ c) in
-    (ap (λ (z : ℕ). by_automaton z a) number_is ∙ ap (λ (z : Automaton). by_automaton m z) r.0, r.1)
+    let r = s a b k l h.0 i.0 (cc) in
+    (cc, r.1)
 
 two_derivations : (a b c d : Derivation) (k l : List Mark) → (derivation_marks a ++ derivation_marks b) ++ k ≡ (derivation_marks c ++ derivation_marks d) ++ l → (a ≡ c) × (b ≡ d) × (k ≡ l)
 two_derivations a b c d k l e =
@@ -70,36 +68,24 @@ same_evidence : (e f : PairEvidence) (names : NameTable) (u w : Uses) (P Q : Aut
 same_evidence trivial_pair trivial_pair names u w P Q k l s h i e = (refl, tail_same _ _ _ _ e)
 same_evidence (infeasible_pair a) (infeasible_pair b) names u w P Q k l s h i e = let r = same_infeasibility a b names u w P Q k l s h i e in (ap infeasible_pair r.0, r.1)
 same_evidence (conflicting_pair a b) (conflicting_pair c d) names u w P Q k l s h i e =
-    let x = tail_same _ _ _ _ e in
-    let first = number_same a c _ _ x in
-    let y = tail_same _ _ _ _ (tail_same _ _ _ _ x) in
-    let second = number_same b d _ _ y in
-    (ap (λ (z : ℕ). conflicting_pair z b) first ∙ ap (λ (z : ℕ). conflicting_pair c z) second, tail_same _ _ _ _ (tail_same _ _ _ _ y))
+    (cc, cc)
 same_evidence (joined_pair a b) (joined_pair c d) names u w P Q k l s h i e =
-    let r = two_derivations a b c d k l (tail_same _ _ _ _ e) in
-    (ap (λ (z : Derivation). joined_pair z b) r.0 ∙ ap (λ (z : Derivation). joined_pair c z) r.1, r.2)
+    let r = two_derivations a b c d k l (cc) in
+    (cc, r.2)
 same_evidence (unfeasible_pair m a b) (unfeasible_pair n c d) names u w P Q k l s h i e =
-    let x = tail_same _ _ _ _ e in
-    let first = number_same m n _ _ x in
-    let r = two_derivations a b c d k l (tail_same _ _ _ _ (tail_same _ _ _ _ x)) in
-    (ap (λ (z : ℕ). unfeasible_pair z a b) first ∙ ap (λ (z : Derivation). unfeasible_pair n z b) r.0 ∙ ap (λ (z : Derivation). unfeasible_pair n c z) r.1, r.2)
+    let r = two_derivations a b c d k l (cc) in
+    (cc, r.2)
 same_evidence (infeasible_pair by_caps) _ names u w P Q k l s h i e = absurd (clash _ _ _ _ refl e)
 same_evidence _ (infeasible_pair by_caps) names u w P Q k l s h i e = absurd (clash _ _ _ _ refl e)
 same_evidence _ _ names u w P Q k l s h i e = absurd (clash _ _ _ _ refl e)
 
-same_pair : (p q : PairEntry) → p.inner ≡ q.inner → p.position ≡ q.position → p.outer ≡ q.outer → p.evidence ≡ q.evidence → p ≡ q
-same_pair p q a b c d =
-    ap (λ (z : ℕ). record { inner = z; position = p.position; outer = p.outer; evidence = p.evidence }) a
-    ∙ ap (λ (z : Position). record { inner = q.inner; position = z; outer = p.outer; evidence = p.evidence }) b
-    ∙ ap (λ (z : ℕ). record { inner = q.inner; position = q.position; outer = z; evidence = p.evidence }) c
-    ∙ ap (λ (z : PairEvidence). record { inner = q.inner; position = q.position; outer = q.outer; evidence = z }) d
+same_pair : {a b c d : ℕ} {p q : Position} {e f : PairEvidence} → a ≡ b → p ≡ q → c ≡ d → e ≡ f
+    → ◌≡◌ {A = PairEntry} (record { inner = a; position = p; outer = c; evidence = e }) (record { inner = b; position = q; outer = d; evidence = f })
+same_pair inner place outer shown = cc
 
-same_redex : (p q : Redex) → p.which ≡ q.which → p.position ≡ q.position → p.rule ≡ q.rule → p.evidence ≡ q.evidence → p ≡ q
-same_redex p q a b c d =
-    ap (λ (z : ℕ). record { which = z; position = p.position; rule = p.rule; evidence = p.evidence }) a
-    ∙ ap (λ (z : Position). record { which = q.which; position = z; rule = p.rule; evidence = p.evidence }) b
-    ∙ ap (λ (z : ℕ). record { which = q.which; position = q.position; rule = z; evidence = p.evidence }) c
-    ∙ ap (λ (z : InfeasibilityEvidence). record { which = q.which; position = q.position; rule = q.rule; evidence = z }) d
+same_redex : {a b c d : ℕ} {p q : Position} {e f : InfeasibilityEvidence} → a ≡ b → p ≡ q → c ≡ d → e ≡ f
+    → ◌≡◌ {A = Redex} (record { which = a; position = p; rule = c; evidence = e }) (record { which = b; position = q; rule = d; evidence = f })
+same_redex which place rule shown = cc
 
 same_pairs : (ps qs : List PairEntry) (names : NameTable) (u w : Uses) (P Q : Automaton → Type 0) (n : ℕ) → SameUses names u w P Q → AllOf P (used_by_pairs ps)
     → AllOf Q (used_by_pairs qs) → pairs_marks (name_of names) u n ps ++ closing ≡ pairs_marks (name_of names) w n qs ++ closing → ps ≡ qs
@@ -108,19 +94,16 @@ same_pairs [] (q ∷ qs) names u w P Q n s h i e = absurd (clash _ _ _ _ refl e)
 same_pairs (p ∷ ps) [] names u w P Q n s h i e = absurd (clash _ _ _ _ refl e)
 same_pairs (p ∷ ps) (q ∷ qs) names u w P Q n s h i e =
     let x = name_of names in
-    let a = tail_same _ _ _ _ (tail_same _ _ _ _ e) in
-    let inner = number_same p.inner q.inner _ _ a in
-    let b = tail_same _ _ _ _ (tail_same _ _ _ _ a) in
-    let place = place_same p.position q.position _ _ b in
-    let c = tail_same _ _ _ _ (tail_same _ _ _ _ b) in
-    let outer = number_same p.outer q.outer _ _ c in
-    let d = tail_same _ _ _ _ (tail_same _ _ _ _ c) in
+    let inner : p.inner ≡ q.inner = cc in
+    let place = place_same p.position q.position (cc) in
+    let outer : p.outer ≡ q.outer = cc in
     let mine = all_of P (used_by_evidence p.evidence) (used_by_pairs ps) h in
     let yours = all_of Q (used_by_evidence q.evidence) (used_by_pairs qs) i in
     let shown = same_evidence p.evidence q.evidence names u w P Q _ _ s mine.0 yours.0
-    (regroup (evidence_marks x u p.evidence) (pairs_marks x u (suc n) ps) closing (evidence_marks x w q.evidence) (pairs_marks x w (suc n) qs) closing d) in
+    (regroup (evidence_marks x u p.evidence) (pairs_marks x u (suc n) ps) closing (evidence_marks x w q.evidence) (pairs_marks x w (suc n) qs) closing (cc)) in
     let others = same_pairs ps qs names u w P Q (suc n) s mine.1 yours.1 shown.1 in
-    ap (λ (z : PairEntry). z ∷ ps) (same_pair p q inner place outer shown.0) ∙ ap (λ (z : List PairEntry). q ∷ z) others
+    let first : p ≡ q = same_pair inner place outer shown.0 in
+    cc
 
 same_redexes : (ps qs : List Redex) (names : NameTable) (u w : Uses) (P Q : Automaton → Type 0) (n : ℕ) → SameUses names u w P Q → AllOf P (used_by_redexes ps)
     → AllOf Q (used_by_redexes qs) → redexes_marks (name_of names) u n ps ++ closing ≡ redexes_marks (name_of names) w n qs ++ closing → ps ≡ qs
@@ -129,19 +112,16 @@ same_redexes [] (q ∷ qs) names u w P Q n s h i e = absurd (clash _ _ _ _ refl 
 same_redexes (p ∷ ps) [] names u w P Q n s h i e = absurd (clash _ _ _ _ refl e)
 same_redexes (p ∷ ps) (q ∷ qs) names u w P Q n s h i e =
     let x = name_of names in
-    let a = tail_same _ _ _ _ (tail_same _ _ _ _ e) in
-    let which = number_same p.which q.which _ _ a in
-    let b = tail_same _ _ _ _ (tail_same _ _ _ _ a) in
-    let place = place_same p.position q.position _ _ b in
-    let c = tail_same _ _ _ _ (tail_same _ _ _ _ b) in
-    let rule = number_same p.rule q.rule _ _ c in
-    let d = tail_same _ _ _ _ (tail_same _ _ _ _ c) in
+    let which : p.which ≡ q.which = cc in
+    let place = place_same p.position q.position (cc) in
+    let rule : p.rule ≡ q.rule = cc in
     let mine = all_of P (used_by p.evidence) (used_by_redexes ps) h in
     let yours = all_of Q (used_by q.evidence) (used_by_redexes qs) i in
     let shown = same_infeasibility p.evidence q.evidence names u w P Q _ _ s mine.0 yours.0 (regroup (infeasibility_marks x u p.evidence) (redexes_marks x u (suc n) ps) closing
-    (infeasibility_marks x w q.evidence) (redexes_marks x w (suc n) qs) closing d) in
+    (infeasibility_marks x w q.evidence) (redexes_marks x w (suc n) qs) closing (cc)) in
     let others = same_redexes ps qs names u w P Q (suc n) s mine.1 yours.1 shown.1 in
-    ap (λ (z : Redex). z ∷ ps) (same_redex p q which place rule shown.0) ∙ ap (λ (z : List Redex). q ∷ z) others
+    let first : p ≡ q = same_redex which place rule shown.0 in
+    cc
 
 -- ---- measures
 
@@ -150,27 +130,17 @@ same_coefficients [] [] n k l e = (refl, tail_same _ _ _ _ e)
 same_coefficients [] (j ∷ ks) n k l e = absurd (clash _ _ _ _ refl e)
 same_coefficients (j ∷ js) [] n k l e = absurd (clash _ _ _ _ refl e)
 same_coefficients (i ∷ js) (j ∷ ks) n k l e =
-    let a = tail_same _ _ _ _ e in
-    let q = head_same _ _ _ _ a in
-    let first : i ≡ j = cc in
-    let others = same_coefficients js ks (suc n) k l (tail_same _ _ _ _ a) in
-    (ap (λ (z : ℕ). z ∷ js) first ∙ ap (λ (z : List ℕ). j ∷ z) others.0, others.1)
+    let others = same_coefficients js ks (suc n) k l (cc) in
+    (cc, others.1)
 
 same_measured : (a b : Head) (names : NameTable) (n : ℕ) (k l : List Mark) → IsMeasured names a → IsMeasured names b
     → measured_marks (name_of names) n a ++ k ≡ measured_marks (name_of names) n b ++ l → (a ≡ b) × (k ≡ l)
 same_measured (file f) (file g) names n k l h i e =
-    let c = tail_same _ _ _ _ (tail_same _ _ _ _ e) in
-    let q = head_same _ _ _ _ c in
-    let name : name_of names f ≡ name_of names g = cc in
-    (ap file (same_symbol names f g h.0 i.0 h.1.named h.1.found i.1.named i.1.found name), tail_same _ _ _ _ c)
+    (ap file (same_symbol names f g h.0 i.0 h.1.named h.1.found i.1.named i.1.found (cc)), cc)
 same_measured (file f) (auxiliary r c) names n k l h i e = absurd (clash _ _ _ _ refl e)
 same_measured (auxiliary r c) (file g) names n k l h i e = absurd (clash _ _ _ _ refl e)
 same_measured (auxiliary r c) (auxiliary s d) names n k l h i e =
-    let x = tail_same _ _ _ _ (tail_same _ _ _ _ e) in
-    let rule = number_same r s _ _ x in
-    let y = tail_same _ _ _ _ (tail_same _ _ _ _ x) in
-    let condition = number_same c d _ _ y in
-    (ap (λ (z : ℕ). auxiliary z c) rule ∙ ap (λ (z : ℕ). auxiliary s z) condition, tail_same _ _ _ _ y)
+    (cc, cc)
 
 -- no line of a measure is an overlap or the end
 no_line : (a : Head) (x : Naming) (w : Uses) (n : ℕ) (qs : List PairEntry) (k : List Mark) → measured_marks x n a ++ k ≡ pairs_marks x w 1 qs ++ closing → ⊥
@@ -181,6 +151,9 @@ no_line (auxiliary r c) x w n (q ∷ qs) k e = clash _ _ _ _ refl e
 
 abbrev line_end : List Mark
 line_end = fixed (codes "\n") ∷ []
+
+same_entry : {a b : Head} {js ks : List ℕ} → a ≡ b → js ≡ ks → ◌≡◌ {A = LinearEntry} (record { head = a; coefficients = js }) (record { head = b; coefficients = ks })
+same_entry first numbers = cc
 
 same_entries : (ds es : List LinearEntry) (names : NameTable) (u w : Uses) (n : ℕ) (ps qs : List PairEntry) → AreEntries names ds → AreEntries names es
     → entries_marks (name_of names) n ds ++ (pairs_marks (name_of names) u 1 ps ++ closing) ≡ entries_marks (name_of names) n es ++ (pairs_marks (name_of names) w 1 qs ++ closing)
@@ -198,11 +171,9 @@ same_entries (d ∷ ds) (c ∷ es) names u w n ps qs h i e =
     let yours = flat (measured_marks x n c.head) (coefficients_marks 1 c.coefficients) (entries_marks x (suc n) es) (pairs_marks x w 1 qs ++ closing) in
     let first = same_measured d.head c.head names n _ _ h.0 i.0 (sym mine ∙ e ∙ yours) in
     let numbers = same_coefficients d.coefficients c.coefficients 1 _ _ first.1 in
-    let others = same_entries ds es names u w (suc n) ps qs h.3 i.3 numbers.1 in (
-      ap (λ (z : Head). record { head = z; coefficients = d.coefficients } ∷ ds) first.0 ∙ ap (λ (z : List ℕ). record { head = c.head; coefficients = z } ∷ ds) numbers.0
-          ∙ ap (λ (z : List LinearEntry). c ∷ z) others.0,
-      others.1,
-    )
+    let others = same_entries ds es names u w (suc n) ps qs h.3 i.3 numbers.1 in
+    let entry : d ≡ c = same_entry first.0 numbers.0 in
+    (cc, others.1)
 
 same_heads : (ds es : List Head) (names : NameTable) (u w : Uses) (n : ℕ) (ps qs : List PairEntry) → AreHeads names ds → AreHeads names es
     → heads_marks (name_of names) n ds ++ (pairs_marks (name_of names) u 1 ps ++ closing) ≡ heads_marks (name_of names) n es ++ (pairs_marks (name_of names) w 1 qs ++ closing)
@@ -218,7 +189,7 @@ same_heads (d ∷ ds) (c ∷ es) names u w n ps qs h i e =
     let yours = flat_line (measured_marks x n c) (heads_marks x (suc n) es) (pairs_marks x w 1 qs ++ closing) in
     let first = same_measured d c names n _ _ h.0 i.0 (sym mine ∙ e ∙ yours) in
     let others = same_heads ds es names u w (suc n) ps qs h.1 i.1 (tail_same _ _ _ _ first.1) in
-    (ap (λ (z : Head). z ∷ ds) first.0 ∙ ap (λ (z : List Head). c ∷ z) others.0, others.1)
+    (cc, others.1)
 
 same_measure : (m r : MeasureCertificate) (names : NameTable) (u w : Uses) (ps qs : List PairEntry) → IsMeasure names m → IsMeasure names r
     → measure_marks (name_of names) m ++ (pairs_marks (name_of names) u 1 ps ++ closing) ≡ measure_marks (name_of names) r ++ (pairs_marks (name_of names) w 1 qs ++ closing)
@@ -245,31 +216,21 @@ same_steps [] (t ∷ ts) names u w P Q k l s n h i e = absurd (let q : 0 ≡ suc
 same_steps (t ∷ ss) [] names u w P Q k l s n h i e = absurd (let q : suc (length ss) ≡ 0 = n in omega arith)
 same_steps (dropped r a ∷ ss) (dropped q b ∷ ts) names u w P Q k l s n h i e =
     let x = name_of names in
-    let c = tail_same _ _ _ _ e in
-    let rule = number_same r q _ _ c in
-    let d = tail_same _ _ _ _ (tail_same _ _ _ _ c) in
     let mine = all_of P (used_by a) (used_by_steps ss) h in
     let yours = all_of Q (used_by b) (used_by_steps ts) i in
     let shown = same_infeasibility a b names u w P Q _ _ s mine.0 yours.0 (regroup (infeasibility_marks x u a) (simplifications_marks x u ss) k (infeasibility_marks x w b)
-    (simplifications_marks x w ts) l d) in
+    (simplifications_marks x w ts) l (cc)) in
     let others = same_steps ss ts names u w P Q k l s (let q : suc (length ss) ≡ suc (length ts) = n in omega arith) mine.1 yours.1 shown.1 in
-    (ap (λ (z : ℕ). dropped z a ∷ ss) rule ∙ ap (λ (z : InfeasibilityEvidence). dropped q z ∷ ss) shown.0 ∙ ap (λ (z : List Simplification). dropped q b ∷ z) others.0, others.1)
+    (cc, others.1)
 same_steps (inlined r j ∷ ss) (inlined q m ∷ ts) names u w P Q k l s n h i e =
-    let c = tail_same _ _ _ _ e in
-    let rule = number_same r q _ _ c in
-    let d = tail_same _ _ _ _ (tail_same _ _ _ _ c) in
-    let condition = number_same j m _ _ d in
-    let others = same_steps ss ts names u w P Q k l s (let q : suc (length ss) ≡ suc (length ts) = n in omega arith) h i (tail_same _ _ _ _ (tail_same _ _ _ _ d)) in
-    (ap (λ (z : ℕ). inlined z j ∷ ss) rule ∙ ap (λ (z : ℕ). inlined q z ∷ ss) condition ∙ ap (λ (z : List Simplification). inlined q m ∷ z) others.0, others.1)
+    let others = same_steps ss ts names u w P Q k l s (let q : suc (length ss) ≡ suc (length ts) = n in omega arith) h i (cc) in
+    (cc, others.1)
 same_steps (dropped r a ∷ ss) (inlined q m ∷ ts) names u w P Q k l s n h i e = absurd (clash _ _ _ _ refl e)
 same_steps (inlined r j ∷ ss) (dropped q b ∷ ts) names u w P Q k l s n h i e = absurd (clash _ _ _ _ refl e)
 
-same_peak : (p q : Peak) → p.start ≡ q.start → p.first ≡ q.first → p.second ≡ q.second → p.apart ≡ q.apart → p ≡ q
-same_peak p q a b c d =
-    ap (λ z. record { start = z; first = p.first; second = p.second; apart = p.apart }) a
-    ∙ ap (λ (z : Derivation). record { start = q.start; first = z; second = p.second; apart = p.apart }) b
-    ∙ ap (λ (z : Derivation). record { start = q.start; first = q.first; second = z; apart = p.apart }) c
-    ∙ ap (λ (z : Apartness). record { start = q.start; first = q.first; second = q.second; apart = z }) d
+same_peak : {t u : Term} {a b c d : Derivation} {v w : Apartness} → t ≡ u → a ≡ b → c ≡ d → v ≡ w
+    → ◌≡◌ {A = Peak} (record { start = t; first = a; second = c; apart = v }) (record { start = u; first = b; second = d; apart = w })
+same_peak start first second apart = cc
 
 same_bodies : (c d : Certificate) (names : NameTable) (u w : Uses) (P Q : Automaton → Type 0) (given : Option Bool) → SameUses names u w P Q → IsWithin names c → IsWithin names d
     → AllOf P (automata_of c) → AllOf Q (automata_of d) → body_marks (name_of names) u given c ++ closing ≡ body_marks (name_of names) w given d ++ closing → c ≡ d
@@ -277,29 +238,26 @@ same_bodies (ortho_certificate ps) (ortho_certificate qs) names u w P Q given s 
 same_bodies (quasi_certificate m ps) (quasi_certificate r qs) names u w P Q given s a b h i e =
     let x = name_of names in
     let both = same_measure m r names u w ps qs a.0 b.0 (regroup (measure_marks x m) (pairs_marks x u 1 ps) closing (measure_marks x r) (pairs_marks x w 1 qs) closing
-    (tail_same _ _ _ _ (tail_same _ _ _ _ e))) in
-    ap (λ (z : MeasureCertificate). quasi_certificate z ps) both.0 ∙ ap (quasi_certificate r) (same_pairs ps qs names u w P Q 1 s h i both.1)
+    (cc)) in
+    let others = same_pairs ps qs names u w P Q 1 s h i both.1 in
+    cc
 same_bodies (peak_certificate p) (peak_certificate q) names u w P Q given s a b h i e =
     let x = name_of names in
-    let lines = tail_same _ _ _ _ (tail_same _ _ _ _ (tail_same _ _ _ _ e)) in
     let start = same_terms p.start q.start names 1 1 _ _ a.0 b.0
     (regroup (term_marks x 1 1 p.start) (fixed (codes "\n") ∷ (derivation_marks p.first ++ (derivation_marks p.second ++ apart_marks x u p.apart))) closing
-    (term_marks x 1 1 q.start) (fixed (codes "\n") ∷ (derivation_marks q.first ++ (derivation_marks q.second ++ apart_marks x w q.apart))) closing lines) in
+    (term_marks x 1 1 q.start) (fixed (codes "\n") ∷ (derivation_marks q.first ++ (derivation_marks q.second ++ apart_marks x w q.apart))) closing (cc)) in
     let first = same_derivation p.first q.first _ _ (regroup (derivation_marks p.first) (derivation_marks p.second ++ apart_marks x u p.apart) closing (derivation_marks q.first)
-    (derivation_marks q.second ++ apart_marks x w q.apart) closing (tail_same _ _ _ _ start.1)) in
+    (derivation_marks q.second ++ apart_marks x w q.apart) closing (cc)) in
     let second = same_derivation p.second q.second _ _ (regroup (derivation_marks p.second) (apart_marks x u p.apart) closing (derivation_marks q.second) (apart_marks x w q.apart) closing first.1) in
-    ap peak_certificate (same_peak p q start.0 first.0 second.0 (same_apart p.apart q.apart names u w P Q s h i second.1))
+    ap peak_certificate (same_peak start.0 first.0 second.0 (same_apart p.apart q.apart names u w P Q s h i second.1))
 same_bodies (simplified_certificate ss c) (simplified_certificate ts d) names u w P Q given s a b h i e =
     let x = name_of names in
-    let count_of = tail_same _ _ _ _ e in
-    let q = head_same _ _ _ _ count_of in
-    let size : length ss ≡ length ts = cc in
-    let lines = tail_same _ _ _ _ (tail_same _ _ _ _ count_of) in
     let mine = all_of P (used_by_steps ss) (automata_of c) h in
     let yours = all_of Q (used_by_steps ts) (automata_of d) i in
-    let steps = same_steps ss ts names u w P Q _ _ s size mine.0 yours.0 (regroup (simplifications_marks x u ss) (body_marks x u given c) closing (simplifications_marks x w ts)
-    (body_marks x w given d) closing lines) in
-    ap (λ (z : List Simplification). simplified_certificate z c) steps.0 ∙ ap (simplified_certificate ts) (same_bodies c d names u w P Q given s a.3 b.3 mine.1 yours.1 steps.1)
+    let steps = same_steps ss ts names u w P Q _ _ s (cc) mine.0 yours.0 (regroup (simplifications_marks x u ss) (body_marks x u given c) closing (simplifications_marks x w ts)
+    (body_marks x w given d) closing (cc)) in
+    let bodies = same_bodies c d names u w P Q given s a.3 b.3 mine.1 yours.1 steps.1 in
+    cc
 same_bodies _ _ names u w P Q given s a b h i e = absurd (clash _ _ _ _ refl e)
 
 -- ---- answers and headings
@@ -329,7 +287,7 @@ same_shared (b ∷ bs) (d ∷ ds) names k l h i n e =
     let lines = regroup (automaton_marks x b ++ seal) (automata_marks x bs) k (automaton_marks x d ++ seal) (automata_marks x ds) l e in
     let first = same_automata b d names _ _ h.0 i.0 (regroup (automaton_marks x b) seal _ (automaton_marks x d) seal _ lines) in
     let others = same_shared bs ds names k l h.1 i.1 (let q : suc (length bs) ≡ suc (length ds) = n in omega arith) (tail_same _ _ _ _ first.1) in
-    (ap (λ (z : Automaton). z ∷ bs) first.0 ∙ ap (λ (z : List Automaton). d ∷ z) others.0, others.1)
+    (cc, others.1)
 
 -- automata with one text are one
 text_tells : (a b : Automaton) (names : NameTable) → IsAutomaton names a → IsAutomaton names b → automaton_text names a ≡ automaton_text names b → a ≡ b
@@ -338,7 +296,7 @@ text_tells a b names h i e =
     let mine = spelt_automaton a names h in
     let yours = spelt_automaton b names i in
     let texts : marks_text (automaton_marks x a ++ line_end) ≡ marks_text (automaton_marks x b ++ line_end) =
-    text_both (automaton_marks x a) line_end ∙ ap (λ (t : List ℕ). t ++ marks_text line_end) (mine.text ∙ e ∙ sym yours.text) ∙ sym (text_both (automaton_marks x b) line_end) in
+    cc (text_both (automaton_marks x a) line_end, text_both (automaton_marks x b) line_end) in
     let marks = whole_same (alike_automata a b x x line_end line_end mine.named yours.named (same ended)) (inr (automaton_marks x a, codes "\n", refl))
     (inr (automaton_marks x b, codes "\n", refl)) texts in
     (same_automata a b names line_end line_end h i marks).0
@@ -354,13 +312,10 @@ Known names all a = IsAutomaton names a × (is_among (automaton_text names a) (t
 
 numbers_same : (names : NameTable) (bs ds : List Automaton) → bs ≡ ds → SameUses names (by_number (number_in names bs)) (by_number (number_in names ds)) (Known names bs) (Known names ds)
 numbers_same names bs ds q a b k l h i e =
-    let c = tail_same _ _ _ _ e in
-    let here = head_same _ _ _ _ c in
     let number_is : number_in names bs a ≡ number_in names ds b = cc in
     let mine = place_text (automaton_text names a) (texts_of names bs) h.1 in
     let yours = place_text (automaton_text names b) (texts_of names ds) i.1 in
-    let texts = sym mine ∙ ap (λ (n : ℕ). text_at n (texts_of names bs)) number_is ∙ ap (λ (z : List Automaton). text_at (number_in names ds b) (texts_of names z)) q ∙ yours in
-    (text_tells a b names h.0 i.0 texts, tail_same _ _ _ _ (tail_same _ _ _ _ c))
+    (text_tells a b names h.0 i.0 (cc), cc)
 
 all_automata : (used : List Automaton) (names : NameTable) → AreAutomata names used → AllOf (IsAutomaton names) used
 all_automata [] names h = tt
@@ -404,11 +359,7 @@ marks_tell second_version second_version names c d bs ds f g a b m n e =
     let u = by_number (number_in names bs) in
     let w = by_number (number_in names ds) in
     let r = same_answers f g (codes "concon 2\n") (codes "concon 2\n") _ _ refl refl refl refl e in
-    let count_of = tail_same _ _ _ _ (tail_same _ _ _ _ r.1) in
-    let q = head_same _ _ _ _ count_of in
-    let size : length bs ≡ length ds = cc in
-    let rest = tail_same _ _ _ _ (tail_same _ _ _ _ count_of) in
-    let all = same_shared bs ds names (body_marks x u f c ++ closing) (body_marks x w g d ++ closing) m.0 n.0 size rest in
+    let all = same_shared bs ds names (body_marks x u f c ++ closing) (body_marks x w g d ++ closing) m.0 n.0 (cc) (cc) in
     let lines : body_marks x u f c ++ closing ≡ body_marks x w f d ++ closing = all.1 ∙ ap (λ (o : Option Bool). body_marks x w o d ++ closing) (sym r.0) in (
       refl,
       same_bodies c d names u w (Known names bs) (Known names ds) f (numbers_same names bs ds all.0) a b

@@ -53,7 +53,7 @@ still_mark m ts b u w h = ap (λ (s : Shared). record { texts = s.texts; begun =
 pub still_marks : (ms : List Mark) (ts : List (List ℕ)) (b : List ℕ) (u w : ℕ) → AreStill ms → behind_marks ms (state ts b u w) ≡ state ts (b ++ marks_text ms) u w
 still_marks [] ts b u w h = ap (λ (x : List ℕ). state ts x u w) (sym (append-nil b))
 still_marks (m ∷ ms) ts b u w h =
-    ap (behind_marks ms) (still_mark m ts b u w h.0) ∙ still_marks ms ts (b ++ mark_text m) u w h.1 ∙ ap (λ (x : List ℕ). state ts x u w) (append_assoc b (mark_text m) (marks_text ms))
+    cc (still_mark m ts b u w h.0, still_marks ms ts (b ++ mark_text m) u w h.1, append_assoc b (mark_text m) (marks_text ms))
 
 pub still_pass : (ms : List Mark) (s : Shared) → AreStill ms → PassShares s ms
 still_pass [] s h = tt

@@ -1,7 +1,8 @@
 -- What one call of `Pairs::next` reads, or refuses.
-use Rattle.std.proofs.Common.{◌≡◌, inl, inr, ◌≤◌, ◌==◌, ℕ, zero, suc, List, [], ◌∷◌, ◌++◌, length, drop, take, Option, Some, None, IfSome, IfNone, refl, sym, ap, ◌∙◌, subst, arith, eqb-true}
+use Rattle.std.proofs.Common.{◌≡◌, inl, inr, ◌≤◌, ◌==◌, ℕ, suc, List, [], ◌∷◌, ◌++◌, length, drop, take, Option, Some, None, IfSome, IfNone, refl, sym, ap, ◌∙◌, subst, arith, eqb-true}
 use Rattle.std.proofs.lemmas.List.{length_push}
 use Rattle.std.proofs.Math.Seq.{take-append_seam}
+use Rattle.general_lemmas.proofs.Lists.{drop_whole}
 use Rattle.certificates.specs.Prelude.{Automaton, Certificate}
 use Rattle.certificates.specs.Certificates as math
 use Rattle.cops_names.specs.NameTable.{NameTable}
@@ -23,16 +24,17 @@ use Rattle.cert_words.specs.declared.error.CertError.{CertError}
 use Rattle.cert_words.specs.declared.reading.Reading as code
 use Rattle.cert_words.specs.Words.{told}
 use Rattle.cert_words.specs.CertRefusals.{IsRefusedAs}
-use Rattle.cert_words.specs.Walks.{left_at, Walks, tagged, AreFound, Keeps, Run, IsFront}
-use Rattle.cert_words.proofs.Walking.{run_then}
+use Rattle.cert_words.specs.Walks.{Run, IsFront}
+use Rattle.cert_words.proofs.Walking.{run_then, as_run}
 use Rattle.cert_words.proofs.Whole.{walks_text}
 use Rattle.cert_reading.specs.declared.uses.Uses as uses_code
 use Rattle.cert_reading.specs.Uses.{version_by, automata_by}
-use Rattle.cert_reading.specs.Plain.{EvidenceUses, PairsUse, IsPlainBy}
-use Rattle.cert_reading.specs.Stops.{AreBehind, WithinEntry, IsStoppedWhere, ReadsWhere}
+use Rattle.cert_reading.specs.Plain.{EvidenceUses, IsPlainBy}
+use Rattle.cert_reading.specs.Stops.{Anywhere, AreBehind, WithinEntry, IsStoppedWhere, ReadsWhere}
+use Rattle.cert_reading.proofs.ListMarks.{pairs_use}
 use Rattle.cert_reading.proofs.Opening.{entry_at, head_at, same_item}
 use Rattle.cert_sharing.proofs.UseMarks.{counts_pairs, alone}
-use Rattle.cert_reading.proofs.Stopping.{stop_behind, any_stop, stopped_where}
+use Rattle.cert_reading.proofs.Stopping.{stop_behind, other_stop, stopped_where}
 use Rattle.cert_reading.proofs.EntryItems.{IsSame, symbol_same, symbol_stopped, symbol_run}
 use Rattle.cert_text.specs.Reading.{Reading, HasRead, IsAll, ReadsOn, IsAtEnd}
 use Rattle.cert_text.specs.ReadingView.{place_of, EndsMeasure, IsNext, read_marks, IsUpTo}
@@ -85,14 +87,6 @@ next_run names end v n item f to b r sa sb (inl e) some h = subst (λ (i : Item)
 next_run names end v n item f to b r sa sb (inr x) some h = symbol_run names end v item b (same_at v item x.0 b x.2) f to r sa sb some
     (subst (λ (k : ℕ). Run names end (pairs_from v k ∷ []) f to b r sa sb) x.1 h)
 
-pub run_as : (names : NameTable) (end : ℕ) (from to : List Item) (f g : Naming → List Mark) (b r : List ℕ) (sa sb : Shared) → ((u : Naming) → f u ≡ g u)
-    → Run names end from f to b r sa sb → Run names end from g to b r sa sb
-run_as names end from to f g b r sa sb e x = record {
-  walks = λ le items. subst (λ (ms : List Mark). Walks names ms (left_at end (from ++ items) b) (left_at end (to ++ items) r)) (e (name_of names)) (x.walks le items);
-  found = subst (AreFound names) (e tagged) x.found;
-  shares = λ le. subst (λ (ms : List Mark). Keeps sa ms sb) (e (name_of names)) (x.shares le);
-}
-
 -- ---- from what the code says
 
 abbrev pub Pair : NameTable → Version → List Automaton → ℕ → ℕ → code.Reading → code.Reading → PairEntry → Type 0
@@ -114,14 +108,14 @@ front_kept names v shared end n s t None h k = k.front
 front_kept names v shared end n s t (Some p) h k = h.front
 
 -- as the code holds the version and the shared automata
-pub by_uses : (w : uses_code.Uses) (v : Version) (shared : List Automaton) (names : NameTable) (bytes left : List ℕ) (count : ℕ) (now : Shared) → version_by w ≡ v
+pub by_uses : {v : Version} {shared : List Automaton} {names : NameTable} {bytes left : List ℕ} {count : ℕ} {now : Shared} (w : uses_code.Uses) → version_by w ≡ v
     → automata_by w ≡ shared → IsUpTo v shared names bytes left count now → IsUpTo (version_by w) (automata_by w) names bytes left count now
-by_uses w v shared names bytes left count now e f u = subst (λ (x : Version). IsUpTo x (automata_by w) names bytes left count now) (sym e)
+by_uses {v} {shared} {names} {bytes} {left} {count} {now} w e f u = subst (λ (x : Version). IsUpTo x (automata_by w) names bytes left count now) (sym e)
     (subst (λ (l : List Automaton). IsUpTo v l names bytes left count now) (sym f) u)
 
-pub from_uses : (w : uses_code.Uses) (v : Version) (shared : List Automaton) (names : NameTable) (bytes left : List ℕ) (count : ℕ) (now : Shared) → version_by w ≡ v
+pub from_uses : {v : Version} {shared : List Automaton} {names : NameTable} {bytes left : List ℕ} {count : ℕ} {now : Shared} (w : uses_code.Uses) → version_by w ≡ v
     → automata_by w ≡ shared → IsUpTo (version_by w) (automata_by w) names bytes left count now → IsUpTo v shared names bytes left count now
-from_uses w v shared names bytes left count now e f u = subst (λ (x : Version). IsUpTo x shared names bytes left count now) e
+from_uses {v} {shared} {names} {bytes} {left} {count} {now} w e f u = subst (λ (x : Version). IsUpTo x shared names bytes left count now) e
     (subst (λ (l : List Automaton). IsUpTo (version_by w) l names bytes left count now) f u)
 
 -- ---- shares
@@ -160,10 +154,6 @@ held_back v shared names bytes left count now after back known front is kept u =
 
 -- ---- one entry more
 
-pairs_use : (v : Version) (all : List Automaton) (es : List math.PairEntry) (p : math.PairEntry) → PairsUse v all es → EvidenceUses v all p.evidence → PairsUse v all (es ++ p ∷ [])
-pairs_use v all [] p h k = (k, tt)
-pairs_use v all (x ∷ es) p h k = (h.0, pairs_use v all es p h.1 k)
-
 can_simplify : (v : Version) (o : Opening) (es fs : List math.PairEntry) → CanSimplify v (certificate_for o es) → CanSimplify v (certificate_for o fs)
 can_simplify first_version o es fs h = absurd h
 can_simplify second_version ortho_opening es fs h = tt
@@ -176,13 +166,8 @@ plain_more v all ortho_opening es p h k = pairs_use v all es p h k
 plain_more v all (quasi_opening m) es p h k = (h.0, pairs_use v all es p h.1 k)
 plain_more v all (simplified_opening ss o) es p h k = (can_simplify v o es (es ++ p ∷ []) h.0, h.1, plain_more v all o es p h.2 k)
 
-drop_whole : {A : Type 0} (a : List A) (n : ℕ) → n ≡ length a → drop n a ≡ []
-drop_whole [] zero e = refl
-drop_whole [] (suc n) e = refl
-drop_whole (x ∷ a) zero e = absurd cc
-drop_whole (x ∷ a) (suc n) e = drop_whole a n (let q : suc n ≡ suc (length a) = e in omega arith)
-
-module _ (v : Version) (shared : List Automaton) (names : NameTable) (bytes left : List ℕ) (count n : ℕ) (now : Shared) (u : IsUpTo v shared names bytes left count now) (is_n : n ≡ suc count) where
+module _ {v : Version} {shared : List Automaton} {names : NameTable} {bytes left : List ℕ} {count : ℕ} {now : Shared} (u : IsUpTo v shared names bytes left count now)
+    (n : ℕ) (is_n : n ≡ suc count) where
   next : IsNext v u.item n left
   next = subst (λ (k : ℕ). IsNext v u.item k left) (sym is_n) u.next
 
@@ -201,7 +186,7 @@ module _ (v : Version) (shared : List Automaton) (names : NameTable) (bytes left
   longer p rest sb r =
       let w = uses_with v names shared in
       let number : n ≡ suc (length u.entries) = is_n ∙ ap suc (sym u.counted) in
-      run_as names (length bytes) (Items.opening ∷ []) (pairs_from v (suc n) ∷ []) _ _ bytes rest nothing_shared sb
+      as_run names (length bytes) (Items.opening ∷ []) (pairs_from v (suc n) ∷ []) (pairs_from v (suc n) ∷ []) _ _ bytes rest nothing_shared sb refl
       (λ x. ap (λ (k : ℕ). read_marks x w shared u.given u.opening u.entries ++ pairs_marks x w k (p ∷ [])) number ∙ read_more x w shared u.given u.opening u.entries p)
       (run_then names (length bytes) (Items.opening ∷ []) (u.item ∷ []) (pairs_from v (suc n) ∷ []) (λ x. read_marks x w shared u.given u.opening u.entries)
       (λ x. pairs_marks x w n (p ∷ [])) bytes left rest nothing_shared now sb u.run
@@ -320,7 +305,7 @@ module _ (v : Version) (shared : List Automaton) (names : NameTable) (bytes left
       refused_here : IsRefusedAs names bytes e
       refused_here =
           refused_as names bytes e refl
-          (any_stop (WithinEntry v n left) names (length bytes) (Items.opening ∷ []) bytes nothing_shared (told e)
+          (other_stop (WithinEntry v n left) Anywhere (λ items q h. tt) names (length bytes) (Items.opening ∷ []) bytes nothing_shared (told e)
           (stop_behind (WithinEntry v n left) names (length bytes) (Items.opening ∷ []) (u.item ∷ [])
           (λ x. read_marks x (uses_with v names shared) shared u.given u.opening u.entries) bytes left nothing_shared now (told e) u.run stop))
 

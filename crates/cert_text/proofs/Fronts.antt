@@ -24,7 +24,7 @@ use Rattle.cert_words.proofs.Whole.{walks_text}
 use Rattle.cert_reading.specs.Headings.{kind_mark, item_by}
 use Rattle.cert_reading.specs.declared.headings.Kind.{Kind}
 use Rattle.cert_reading.specs.declared.headings.Kind.TheVariants.{Peak}
-use Rattle.cert_reading.specs.Stops.{Place, IsStoppedWhere, ReadsOnWhere, ReadsWhere, WithinOpening, BeforeEntries, Anywhere}
+use Rattle.cert_reading.specs.Stops.{Place, IsStoppedWhere, ReadsWhere, WithinOpening, BeforeEntries, Anywhere}
 use Rattle.cert_reading.proofs.Found.{walks_named}
 use Rattle.cert_reading.proofs.Opening.{kind_item}
 use Rattle.cert_reading.proofs.Stopping.{then_where, as_marks_where, low_where, elsewhere, anywhere, reads_anywhere, open_before_where, ran, stopped_where, low_unopened}
@@ -99,15 +99,9 @@ front_whole steps u w shared given c =
 
 -- ---- what was refused stays so
 
-told_on : (P : Place) (names : NameTable) (end : ℕ) (from to : List Item) (f : Naming → List Mark) (b r : List ℕ) (sa sb : Shared) (s t : Option CertError) (d e : CertError)
-    → s ≡ Some d → t ≡ Some e → ReadsOnWhere P names end from f to b r sa sb s t → told e ≡ told d
-told_on P names end from to f b r sa sb None t d e p q x = absurd cc
-told_on P names end from to f b r sa sb (Some c) None d e p q x = absurd cc
-told_on P names end from to f b r sa sb (Some c) (Some g) d e p q x = cc
-
 same_told : {P : Place} {names : NameTable} {end : ℕ} {from to : List Item} {f : Naming → List Mark} {s t : Reading} → ReadsWhere P names end from f to s t → (d e : CertError)
     → s.refused ≡ Some d → t.refused ≡ Some e → told e ≡ told d
-same_told {P} {names} {end} {from} {to} {f} {s} {t} h d e p q = told_on P names end from to f s.left.now t.left.now s.shares t.shares s.refused t.refused d e p q h.on
+same_told h d e p q = rw (p, q) at h.on
 
 -- ---- a line `peak` before each line that tells a kind
 

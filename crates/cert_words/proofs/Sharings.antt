@@ -25,8 +25,8 @@ begins_keeps w s = λ b. ((refl, tt), refl)
 pub end_keeps : (w : List ℕ) (s : Shared) (v : Bool) → v ≡ holds s all_used → v ≡ true → Keeps s (word w (shares all_used ∷ []) ∷ []) s
 end_keeps w s v e h = λ b. ((alone_met (holds s all_used) (bad_share, 0) (sym e ∙ h), tt), refl)
 
-alone_missed : (v : Bool) (x : CertificateCause × ℕ) → v ≡ false → first_of (cond {A = Option (CertificateCause × ℕ)} v None (Some x)) None ≡ Some x
-alone_missed v x e = ap (λ (t : Bool). first_of (cond {A = Option (CertificateCause × ℕ)} t None (Some x)) None) e
+first_out : (v : Bool) (x : CertificateCause × ℕ) (o : Option (CertificateCause × ℕ)) → v ≡ false → first_of (cond {A = Option (CertificateCause × ℕ)} v None (Some x)) o ≡ Some x
+first_out v x o e = ap (λ (t : Bool). first_of (cond {A = Option (CertificateCause × ℕ)} t None (Some x)) o) e
 
 pub end_stop : (names : NameTable) (end : ℕ) (bytes : List ℕ) (s : Shared) (i : Item) (w v rest : List ℕ) (new : List Item) (t : Bool)
     → first_there (leads i) bytes ≡ Some (keyword w (shares all_used ∷ []) new) → IsLeadRead (keyword w [] []) bytes v rest → t ≡ holds s all_used → t ≡ false
@@ -34,17 +34,14 @@ pub end_stop : (names : NameTable) (end : ℕ) (bytes : List ℕ) (s : Shared) (
 end_stop names end bytes s i w v rest new t f h e missed = λ items b.
     shared_stop names end bytes s i (keyword w (shares all_used ∷ []) new) v rest (bad_share, end - length bytes) items (with_begun b s)
     (record { first = f; word = h.word; rest = h.rest; within = h.within }) refl
-    (alone_missed (holds s all_used) (bad_share, end - length bytes) (sym e ∙ missed))
+    (first_out (holds s all_used) (bad_share, end - length bytes) None (sym e ∙ missed))
 
 -- ---- a use
-
-first_out : (v : Bool) (x : CertificateCause × ℕ) (o : Option (CertificateCause × ℕ)) → v ≡ false → first_of (cond {A = Option (CertificateCause × ℕ)} v None (Some x)) o ≡ Some x
-first_out v x o e = ap (λ (t : Bool). first_of (cond {A = Option (CertificateCause × ℕ)} t None (Some x)) o) e
 
 second_out : (v w : Bool) (x y : CertificateCause × ℕ) → v ≡ true → w ≡ false
     → first_of (cond {A = Option (CertificateCause × ℕ)} v None (Some x)) (first_of (cond {A = Option (CertificateCause × ℕ)} w None (Some y)) None) ≡ Some y
 second_out v w x y e f = ap (λ (t : Bool). first_of (cond {A = Option (CertificateCause × ℕ)} t None (Some x))
-    (first_of (cond {A = Option (CertificateCause × ℕ)} w None (Some y)) None)) e ∙ alone_missed w y f
+    (first_of (cond {A = Option (CertificateCause × ℕ)} w None (Some y)) None)) e ∙ first_out w y None f
 
 abbrev pub use_demands : ℕ → List Demand
 use_demands n = is_short n ∷ shares (is_use n) ∷ shares (is_light n) ∷ []
@@ -179,7 +176,7 @@ module _ (names : NameTable) (end : ℕ) (from : List Item) (f : Naming → List
       subst (λ (z : Shared). RefusesAt names (left_at end (i ∷ items) s.left.now) z (bad_share, at)) (sym (behind_all run le anew b))
       (shared_stop names end s.left.now s.shares i (at_once (shares automaton_ends) new) [] s.left.now (bad_share, at) items (with_begun (marks_text done) s.shares)
       (record { first = first_is is_end; word = refl; rest = refl; within = omega arith }) refl
-      (alone_missed (not (is_among (marks_text done) s.shares.texts)) (bad_share, (end - length s.left.now) - length (marks_text done))
+      (first_out (not (is_among (marks_text done) s.shares.texts)) (bad_share, (end - length s.left.now) - length (marks_text done)) None
       (subst (λ (w : List ℕ). not (is_among w s.shares.texts) ≡ false) is (is_again good (is_among text s.shares.texts) g missed)) ∙ ap (λ (k : ℕ). Some (bad_share, k)) there))
     where
       run : Run names end from f (i ∷ []) a.left.now s.left.now a.shares s.shares

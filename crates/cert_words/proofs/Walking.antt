@@ -11,7 +11,7 @@ use Rattle.cert_sharing.proofs.OneShared.{shares_anywhere}
 use Rattle.cert_words.specs.declared.error.CertError.{CertError}
 use Rattle.cert_words.specs.declared.reading.Reading.{Reading}
 use Rattle.cert_words.specs.Words.{told}
-use Rattle.cert_words.specs.Walks.{left_at, StepsOver, Walks, tagged, AreFound, Keeps, Run, RefusesAt, IsStopped, ReadsOn, IsFront, Reads}
+use Rattle.cert_words.specs.Walks.{left_at, StepsOver, Walks, tagged, AreFound, Keeps, Run, RefusesAt, IsStopped, GoesOn, IsFront, Reads}
 
 pub walks_then : (names : NameTable) (ms ns : List Mark) (l k j : Left) → Walks names ms l k → Walks names ns k j → Walks names (ms ++ ns) l j
 walks_then names [] ns l k j w v = subst (λ (x : Left). Walks names ns x j) (sym w) v
@@ -76,6 +76,29 @@ stops_then names s t ms ns l e h k b =
       subst (λ (x : Shared). RefusesAt names l x e) (ap (behind_marks ns) (sym there) ∙ sym (behind_both ms ns (with_begun b s))) on.1,
     )
 
+-- what is known where a part goes on: the same of others, one behind another, and that nothing was refused where nothing is
+pub goes_as : (R Q : Type 0) (S T : Option (CertificateCause × ℕ) → Type 0) (s t : Option CertError) → (s ≡ None → t ≡ None → R → Q)
+    → (s ≡ None → (o : Option (CertificateCause × ℕ)) → S o → T o) → GoesOn R S s t → GoesOn Q T s t
+goes_as R Q S T None None f g h = f refl refl h
+goes_as R Q S T None (Some e) f g h = g refl (told e) h
+goes_as R Q S T (Some d) None f g h = absurd h
+goes_as R Q S T (Some d) (Some e) f g h = h
+
+pub goes_then : (R Q V : Type 0) (S T : Option (CertificateCause × ℕ) → Type 0) (s t u : Option CertError) → (R → Q → V) → ((o : Option (CertificateCause × ℕ)) → R → T o → S o)
+    → GoesOn R S s t → GoesOn Q T t u → GoesOn V S s u
+goes_then R Q V S T None None None f g h k = f h k
+goes_then R Q V S T None None (Some e) f g h k = g (told e) h k
+goes_then R Q V S T None (Some d) None f g h k = absurd k
+goes_then R Q V S T None (Some d) (Some e) f g h k = subst S (sym k) h
+goes_then R Q V S T (Some c) None u f g h k = absurd h
+goes_then R Q V S T (Some c) (Some d) None f g h k = absurd k
+goes_then R Q V S T (Some c) (Some d) (Some e) f g h k = k ∙ h
+
+pub goes_open : (R : Type 0) (S : Option (CertificateCause × ℕ) → Type 0) (s t : Option CertError) → t ≡ None → GoesOn R S s t → s ≡ None
+goes_open R S None t e h = refl
+goes_open R S (Some d) None e h = absurd h
+goes_open R S (Some d) (Some c) e h = absurd cc
+
 module _ (names : NameTable) (end : ℕ) where
   pub run_then : (from mid to : List Item) (f g : Naming → List Mark) (b r q : List ℕ) (s t v : Shared) → Run names end from f mid b r s t → Run names end mid g to r q t v
       → Run names end from (λ u. f u ++ g u) to b q s v
@@ -108,21 +131,11 @@ module _ (names : NameTable) (end : ℕ) where
             (left_at end (there.item ∷ (there.more ++ items)) there.rest) e (x.shares le) there.stops;
       }
 
-  pub reads_on : (from mid to : List Item) (f g : Naming → List Mark) (b r q : List ℕ) (x y z : Shared) (s t u : Option CertError) → ReadsOn names end from f mid b r x y s t
-      → ReadsOn names end mid g to r q y z t u → ReadsOn names end from (λ v. f v ++ g v) to b q x z s u
-  reads_on from mid to f g b r q x y z None None None h k = run_then from mid to f g b r q x y z h k
-  reads_on from mid to f g b r q x y z None None (Some e) h k = stop_then from mid f b r x y (told e) h k
-  reads_on from mid to f g b r q x y z None (Some d) None h k = absurd k
-  reads_on from mid to f g b r q x y z None (Some d) (Some e) h k = subst (IsStopped names end from b x) (sym k) h
-  reads_on from mid to f g b r q x y z (Some c) None u h k = absurd h
-  reads_on from mid to f g b r q x y z (Some c) (Some d) None h k = absurd k
-  reads_on from mid to f g b r q x y z (Some c) (Some d) (Some e) h k = k ∙ h
-
   -- items that stand behind all that is read
   framed_walk : (a more items : List Item) (b : List ℕ) → left_at end (a ++ (more ++ items)) b ≡ left_at end ((a ++ more) ++ items) b
   framed_walk a more items b = ap (λ (x : List Item). left_at end x b) (sym (append_assoc a more items))
 
-  framed_run : (from to more : List Item) (f : Naming → List Mark) (b r : List ℕ) (s t : Shared) → Run names end from f to b r s t → Run names end (from ++ more) f (to ++ more) b r s t
+  pub framed_run : (from to more : List Item) (f : Naming → List Mark) (b r : List ℕ) (s t : Shared) → Run names end from f to b r s t → Run names end (from ++ more) f (to ++ more) b r s t
   framed_run from to more f b r s t x = record {
     walks = λ le items. subst (λ (l : Left). Walks names (f (name_of names)) l (left_at end ((to ++ more) ++ items) r)) (framed_walk from more items b)
         (subst (Walks names (f (name_of names)) (left_at end (from ++ (more ++ items)) b)) (framed_walk to more items r) (x.walks le (more ++ items)));
@@ -145,24 +158,15 @@ module _ (names : NameTable) (end : ℕ) where
         stops = λ k. ((there.stops k).0, subst (λ (y : List Item). RefusesAt names (left_at end y there.rest) (behind_marks there.marks (with_begun k s)) e) same (there.stops k).1);
       }
 
-  pub framed_on : (from to more : List Item) (f : Naming → List Mark) (b r : List ℕ) (x y : Shared) (s t : Option CertError) → ReadsOn names end from f to b r x y s t
-      → ReadsOn names end (from ++ more) f (to ++ more) b r x y s t
-  framed_on from to more f b r x y None None h = framed_run from to more f b r x y h
-  framed_on from to more f b r x y None (Some e) h = framed_stop from more b x (told e) h
-  framed_on from to more f b r x y (Some d) None h = absurd h
-  framed_on from to more f b r x y (Some d) (Some e) h = h
-
-  -- where the text is refused nothing is said of a value
-  pub any_on : (from to other : List Item) (f g : Naming → List Mark) (b r : List ℕ) (x y : Shared) (s t : Option CertError) (e : CertError) → t ≡ Some e
-      → ReadsOn names end from f to b r x y s t → ReadsOn names end from g other b r x y s t
-  any_on from to other f g b r x y None None e q h = absurd cc
-  any_on from to other f g b r x y (Some d) None e q h = absurd h
-  any_on from to other f g b r x y None (Some d) e q h = h
-  any_on from to other f g b r x y (Some c) (Some d) e q h = h
-
-  pub stays_on : (from to : List Item) (f : Naming → List Mark) (b : List ℕ) (x : Shared) (r : Option CertError) (e : CertError) → r ≡ Some e → ReadsOn names end from f to b b x x r r
-  stays_on from to f b x None e q = absurd cc
-  stays_on from to f b x (Some d) e q = refl
+  -- other marks and items
+  pub as_run : (from to other : List Item) (f g : Naming → List Mark) (b r : List ℕ) (s t : Shared) → to ≡ other → ((u : Naming) → f u ≡ g u) → Run names end from f to b r s t
+      → Run names end from g other b r s t
+  as_run from to other f g b r s t e same h = record {
+    walks = λ le items. subst (λ (o : List Item). Walks names (g (name_of names)) (left_at end (from ++ items) b) (left_at end (o ++ items) r)) e
+        (subst (λ (ms : List Mark). Walks names ms (left_at end (from ++ items) b) (left_at end (to ++ items) r)) (same (name_of names)) (h.walks le items));
+    found = subst (AreFound names) (same tagged) h.found;
+    shares = λ le. subst (λ (ms : List Mark). Keeps s ms t) (same (name_of names)) (h.shares le);
+  }
 
 -- texts of shared automata in front of others
 pub front_same : (s t : List (List ℕ)) → t ≡ s → IsFront s t
@@ -176,79 +180,59 @@ pub then_reads : {names : NameTable} {end : ℕ} {from mid to : List Item} {f g 
     → Reads names end mid g to t u → Reads names end from (λ v. f v ++ g v) to s u
 then_reads {names} {end} {from} {mid} {to} {f} {g} {s} {t} {u} x y = record {
   front = front_then s.shares.texts t.shares.texts u.shares.texts x.front y.front;
-  on = reads_on names end from mid to f g s.left.now t.left.now u.left.now s.shares t.shares u.shares s.refused t.refused u.refused x.on y.on;
+  on = goes_then _ _ _ (IsStopped names end from s.left.now s.shares) (IsStopped names end mid t.left.now t.shares) s.refused t.refused u.refused
+      (run_then names end from mid to f g s.left.now t.left.now u.left.now s.shares t.shares u.shares)
+      (stop_then names end from mid f s.left.now t.left.now s.shares t.shares) x.on y.on;
 }
 
 -- items that stand behind all that is read
 pub framed : {names : NameTable} {end : ℕ} {from to : List Item} {f : Naming → List Mark} {s t : Reading} (more : List Item) → Reads names end from f to s t
     → Reads names end (from ++ more) f (to ++ more) s t
-framed {names} {end} {from} {to} {f} {s} {t} more x = record { front = x.front; on = framed_on names end from to more f s.left.now t.left.now s.shares t.shares s.refused t.refused x.on }
-
--- where the text is refused nothing is said of a value
-pub already : {names : NameTable} {end : ℕ} {from to other : List Item} {f g : Naming → List Mark} {s t : Reading} (e : CertError) → t.refused ≡ Some e
-    → Reads names end from f to s t → Reads names end from g other s t
-already {names} {end} {from} {to} {other} {f} {g} {s} {t} e q x = record {
+framed {names} {end} {from} {to} {f} {s} {t} more x = record {
   front = x.front;
-  on = any_on names end from to other f g s.left.now t.left.now s.shares t.shares
-      s.refused t.refused e q x.on;
+  on = goes_as _ _ (IsStopped names end from s.left.now s.shares) (IsStopped names end (from ++ more) s.left.now s.shares) s.refused t.refused
+      (λ q none. framed_run names end from to more f s.left.now t.left.now s.shares t.shares) (λ q. framed_stop names end from more s.left.now s.shares) x.on;
 }
-
--- what is refused stays so
-pub stays : {names : NameTable} {end : ℕ} {from to : List Item} {f : Naming → List Mark} {s : Reading} (e : CertError) → s.refused ≡ Some e → Reads names end from f to s s
-stays {names} {end} {from} {to} {f} {s} e q = record { front = front_same s.shares.texts s.shares.texts refl; on = stays_on names end from to f s.left.now s.shares s.refused e q }
-
--- what is read, or refused, where nothing was refused
-pub went : {names : NameTable} {end : ℕ} {from to : List Item} {f : Naming → List Mark} {s t : Reading} → s.refused ≡ None → t.refused ≡ None
-    → IsFront s.shares.texts t.shares.texts → Run names end from f to s.left.now t.left.now s.shares t.shares → Reads names end from f to s t
-went {names} {end} {from} {to} {f} {s} {t} e g k r =
-    record {
-      front = k;
-      on = subst (λ (x : Option CertError). ReadsOn names end from f to s.left.now t.left.now s.shares t.shares x t.refused) (sym e)
-          (subst (ReadsOn names end from f to s.left.now t.left.now s.shares t.shares None) (sym g) r);
-    }
-
-pub stopped : {names : NameTable} {end : ℕ} {from to : List Item} {f : Naming → List Mark} {s t : Reading} (e : CertError) → s.refused ≡ None → t.refused ≡ Some e
-    → IsFront s.shares.texts t.shares.texts → IsStopped names end from s.left.now s.shares (told e) → Reads names end from f to s t
-stopped {names} {end} {from} {to} {f} {s} {t} e g h k r =
-    record {
-      front = k;
-      on = subst (λ (x : Option CertError). ReadsOn names end from f to s.left.now t.left.now s.shares t.shares x t.refused) (sym g)
-          (subst (ReadsOn names end from f to s.left.now t.left.now s.shares t.shares None) (sym h) r);
-    }
-
-as_on : (names : NameTable) (end : ℕ) (from to other : List Item) (f g : Naming → List Mark) (b r : List ℕ) (x y : Shared) (s t : Option CertError)
-    → ((t ≡ None) → (to ≡ other) × ((u : Naming) → f u ≡ g u)) → ReadsOn names end from f to b r x y s t → ReadsOn names end from g other b r x y s t
-as_on names end from to other f g b r x y None None e h =
-    let same = e refl in
-    record {
-      walks = λ le items. subst (λ (o : List Item). Walks names (g (name_of names)) (left_at end (from ++ items) b) (left_at end (o ++ items) r)) same.0
-          (subst (λ (ms : List Mark). Walks names ms (left_at end (from ++ items) b) (left_at end (to ++ items) r)) (same.1 (name_of names)) (h.walks le items));
-      found = subst (AreFound names) (same.1 tagged) h.found;
-      shares = λ le. subst (λ (ms : List Mark). Keeps x ms y) (same.1 (name_of names)) (h.shares le);
-    }
-as_on names end from to other f g b r x y (Some d) None e h = absurd h
-as_on names end from to other f g b r x y None (Some d) e h = h
-as_on names end from to other f g b r x y (Some c) (Some d) e h = h
 
 -- other marks and items, where they are the same if nothing is refused
 pub as_reads : {names : NameTable} {end : ℕ} {from to other : List Item} {f g : Naming → List Mark} {s t : Reading}
     → ((t.refused ≡ None) → (to ≡ other) × ((u : Naming) → f u ≡ g u)) → Reads names end from f to s t → Reads names end from g other s t
-as_reads {names} {end} {from} {to} {other} {f} {g} {s} {t} e x = record { front = x.front; on = as_on names end from to other f g s.left.now t.left.now s.shares t.shares s.refused t.refused e x.on }
+as_reads {names} {end} {from} {to} {other} {f} {g} {s} {t} e x = record {
+  front = x.front;
+  on = goes_as _ _ (IsStopped names end from s.left.now s.shares) (IsStopped names end from s.left.now s.shares) s.refused t.refused
+      (λ q none. as_run names end from to other f g s.left.now t.left.now s.shares t.shares (e none).0 (e none).1) (λ q o h. h) x.on;
+}
 
 -- other marks
 pub as_marks : {names : NameTable} {end : ℕ} {from to : List Item} {f g : Naming → List Mark} {s t : Reading} → ((t.refused ≡ None) → (u : Naming) → f u ≡ g u)
     → Reads names end from f to s t → Reads names end from g to s t
 as_marks e x = as_reads (λ none. (refl, e none)) x
 
-none_before : (names : NameTable) (end : ℕ) (from to : List Item) (f : Naming → List Mark) (b r : List ℕ) (x y : Shared) (s t : Option CertError) → t ≡ None
-    → ReadsOn names end from f to b r x y s t → s ≡ None
-none_before names end from to f b r x y None t e h = refl
-none_before names end from to f b r x y (Some d) None e h = absurd h
-none_before names end from to f b r x y (Some d) (Some c) e h = absurd cc
+pub not_both : (o : Option CertError) (e : CertError) → o ≡ Some e → o ≡ None → ⊥
+not_both o e p q = cc
+
+-- where the text is refused nothing is said of a value
+pub already : {names : NameTable} {end : ℕ} {from to other : List Item} {f g : Naming → List Mark} {s t : Reading} (e : CertError) → t.refused ≡ Some e
+    → Reads names end from f to s t → Reads names end from g other s t
+already {t = t} e q x = as_reads (λ none. absurd (not_both t.refused e q none)) x
+
+-- what is refused stays so
+pub stays : {names : NameTable} {end : ℕ} {from to : List Item} {f : Naming → List Mark} {s : Reading} (e : CertError) → s.refused ≡ Some e → Reads names end from f to s s
+stays {s = s} e q = record { front = front_same s.shares.texts s.shares.texts refl; on = rw q refl }
+
+-- what is read, or refused, where nothing was refused
+pub went : {names : NameTable} {end : ℕ} {from to : List Item} {f : Naming → List Mark} {s t : Reading} → s.refused ≡ None → t.refused ≡ None
+    → IsFront s.shares.texts t.shares.texts → Run names end from f to s.left.now t.left.now s.shares t.shares → Reads names end from f to s t
+went e g k r = record { front = k; on = rw (e, g) r }
+
+pub stopped : {names : NameTable} {end : ℕ} {from to : List Item} {f : Naming → List Mark} {s t : Reading} (e : CertError) → s.refused ≡ None → t.refused ≡ Some e
+    → IsFront s.shares.texts t.shares.texts → IsStopped names end from s.left.now s.shares (told e) → Reads names end from f to s t
+stopped e g h k r = record { front = k; on = rw (g, h) r }
 
 -- where nothing is refused nothing was
 pub open_before : {names : NameTable} {end : ℕ} {from to : List Item} {f : Naming → List Mark} {s t : Reading} → Reads names end from f to s t → t.refused ≡ None → s.refused ≡ None
-open_before {names} {end} {from} {to} {f} {s} {t} x e = none_before names end from to f s.left.now t.left.now s.shares t.shares s.refused t.refused e x.on
+open_before {names} {end} {from} {to} {f} {s} {t} x e =
+    goes_open (Run names end from f to s.left.now t.left.now s.shares t.shares) (IsStopped names end from s.left.now s.shares) s.refused t.refused e x.on
 
 -- no marks behind others
 pub then_nothing : {names : NameTable} {end : ℕ} {from mid to : List Item} {f : Naming → List Mark} {s t u : Reading} → Reads names end from f mid s t
@@ -256,12 +240,6 @@ pub then_nothing : {names : NameTable} {end : ℕ} {from mid to : List Item} {f 
 then_nothing {f = f} x y = as_marks (λ none v. append-nil (f v)) (then_reads x y)
 
 -- what is read where nothing is refused
-run_on : (names : NameTable) (end : ℕ) (from to : List Item) (f : Naming → List Mark) (b r : List ℕ) (x y : Shared) (s t : Option CertError) → t ≡ None
-    → ReadsOn names end from f to b r x y s t → Run names end from f to b r x y
-run_on names end from to f b r x y None None e h = h
-run_on names end from to f b r x y (Some d) None e h = absurd h
-run_on names end from to f b r x y s (Some d) e h = absurd cc
-
 pub read_run : {names : NameTable} {end : ℕ} {from to : List Item} {f : Naming → List Mark} {s t : Reading} → t.refused ≡ None → Reads names end from f to s t
     → Run names end from f to s.left.now t.left.now s.shares t.shares
-read_run {names} {end} {from} {to} {f} {s} {t} e x = run_on names end from to f s.left.now t.left.now s.shares t.shares s.refused t.refused e x.on
+read_run e x = rw (open_before x e, e) at x.on

@@ -88,11 +88,14 @@ IsStopped names end from bytes s None = Unit {0}
 IsStopped names end from bytes s (Some e) = length bytes ≤ end → (items : List Item) → StopsAt names end from items bytes s e
 
 -- what was refused stays so; else the part is read, or refused
+abbrev pub GoesOn : Type 0 → (Option (CertificateCause × ℕ) → Type 0) → Option CertError → Option CertError → Type 0
+GoesOn IsRead IsRefused None None = IsRead
+GoesOn IsRead IsRefused (Some d) None = ⊥
+GoesOn IsRead IsRefused None (Some e) = IsRefused (told e)
+GoesOn IsRead IsRefused (Some d) (Some e) = told e ≡ told d
+
 abbrev pub ReadsOn : NameTable → ℕ → List Item → (Naming → List Mark) → List Item → List ℕ → List ℕ → Shared → Shared → Option CertError → Option CertError → Type 0
-ReadsOn names end from marks to bytes rest s t None None = Run names end from marks to bytes rest s t
-ReadsOn names end from marks to bytes rest s t (Some d) None = ⊥
-ReadsOn names end from marks to bytes rest s t None (Some e) = IsStopped names end from bytes s (told e)
-ReadsOn names end from marks to bytes rest s t (Some d) (Some e) = told e ≡ told d
+ReadsOn names end from marks to bytes rest s t = GoesOn (Run names end from marks to bytes rest s t) (IsStopped names end from bytes s)
 
 -- texts of shared automata stay in front of those that come
 abbrev pub IsFront : List (List ℕ) → List (List ℕ) → Type 0

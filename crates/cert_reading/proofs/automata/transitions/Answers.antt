@@ -4,25 +4,19 @@ use Rattle.cert_model.specs.EvidenceView.{transition_view}
 use Rattle.cert_grammar.specs.Prelude.{transitions_marks, transitions_of}
 use Rattle.cert_words.proofs.Walking.{then_reads, then_nothing, as_reads, as_marks, already, open_before}
 use Rattle.cert_words.proofs.Stepping.{some_now}
-use Rattle.cert_reading.proofs.AutomatonMarks.{plain_push, transitions_push, transitions_next, transitions_end}
+use Rattle.cert_reading.proofs.AutomatonMarks.{plain_push, transitions_push}
+use Rattle.cert_reading.proofs.DerivationMarks.{left_next, left_end}
 use Rattle.cert_reading.proofs.automata.transitions.Goals as goal
 
 pub returns-then-is_some-clause-read : goal.returns-then-is_some-clause-read
-returns-then-is_some-clause-read c =
-    let names = c.args.names.now in
-    let b = c.args.states in
-    let k = c.args.count - (c.transitions.counter + 1) in
-    let e = some_now _ _ c.is_some.ensures c.if-is_some.true in
-    already e.0 e.1
-    (then_reads (as_reads (λ none. (transitions_next b c.args.count c.transitions.counter c.transitions-test.true, λ u. refl)) c.transitions.invariant.read)
-    (then_nothing (c.transition-next.ensures.read k) (c.put.ensures.read names c.args.end (transitions_of b k))))
+returns-then-is_some-clause-read c = let e = some_now _ _ c.is_some.ensures c.if-is_some.true in already e.0 e.1 c.transitions.invariant.read
 
 pub transitions-preserved : goal.transitions-preserved
 transitions-preserved c =
     let b = c.args.states in
     let k = c.args.count - (c.transitions.counter + 1) in
     let there = then_nothing (c.transition-next.ensures.read k) (c.put.ensures.read c.args.names.now c.args.end (transitions_of b k)) in
-    let before = as_reads (λ none. (transitions_next b c.args.count c.transitions.counter c.transitions-test.true, λ u. refl)) c.transitions.invariant.read in
+    let before = as_reads (λ none. (left_next (transitions_of b) c.args.count c.transitions.counter c.transitions-test.true, λ u. refl)) c.transitions.invariant.read in
     let items = c.transitions.transitions.items in
     let next = c.transition-next.result in
     record {
@@ -36,4 +30,4 @@ transitions-preserved c =
     }
 
 pub returns-clause-read : goal.returns-clause-read
-returns-clause-read c = as_reads (λ none. (transitions_end c.args.states c.args.count c.transitions.counter c.transitions-test.false, λ u. refl)) c.transitions.invariant.read
+returns-clause-read c = as_reads (λ none. (left_end (transitions_of c.args.states) c.args.count c.transitions.counter c.transitions-test.false, λ u. refl)) c.transitions.invariant.read

@@ -8,7 +8,7 @@ use Rattle.cert_grammar.proofs.Views.{step_of_rule, step_of_hypothesis, derivati
 use Rattle.cert_words.specs.Walks.{Reads}
 use Rattle.cert_words.proofs.Walking.{then_reads, then_nothing, as_reads, as_marks, already, open_before, framed}
 use Rattle.cert_words.proofs.Stepping.{some_now}
-use Rattle.cert_reading.proofs.DerivationMarks.{steps_push, derivations_push, steps_counted, derivations_counted, steps_next, steps_end, derivations_next, derivations_end}
+use Rattle.cert_reading.proofs.DerivationMarks.{steps_push, derivations_push, steps_counted, derivations_counted, left_next, left_end}
 use Rattle.cert_reading.proofs.DerivationMarks.{counted_all, at_next, any_names}
 use Rattle.cert_reading.proofs.derivations.+derivation.Goals as goal
 
@@ -29,11 +29,7 @@ derivation-returns t c = λ names more.
     (then_reads (framed rest (framed (steps_of level c.counted-count.result) (c.text-2.ensures.read names (between line) [] refl))) (framed rest (c.steps.ensures.read names))))))
 
 pub derivations-returns-then-is_some-clause-read : goal.derivations-returns-then-is_some-clause-read
-derivations-returns-then-is_some-clause-read t c = λ names.
-    let e = some_now _ _ c.is_some.ensures c.if-is_some.true in
-    already e.0 e.1 (then_reads (as_reads (λ none. (derivations_next c.args.level c.args.count c.derivations.counter c.derivations-test.true, λ u. refl)) (c.derivations.invariant.read names))
-    (then_nothing (c.derivation-next.ensures names (c.args.count - (c.derivations.counter + 1)))
-    (c.put.ensures.read names c.args.end (derivations c.args.level (c.args.count - (c.derivations.counter + 1))))))
+derivations-returns-then-is_some-clause-read t c = λ names. let e = some_now _ _ c.is_some.ensures c.if-is_some.true in already e.0 e.1 (c.derivations.invariant.read names)
 
 pub derivations-derivations-preserved : goal.derivations-derivations-preserved
 derivations-derivations-preserved t c =
@@ -41,7 +37,7 @@ derivations-derivations-preserved t c =
     record {
       read = λ names.
           as_marks (λ none u. derivations_push c.args.level c.derivations.derivations.items c.put.new.list.items c.derivation-next.result (c.put.ensures.grown none))
-          (then_reads (as_reads (λ none. (derivations_next c.args.level c.args.count c.derivations.counter c.derivations-test.true, λ u. refl)) (c.derivations.invariant.read names))
+          (then_reads (as_reads (λ none. (left_next (derivations c.args.level) c.args.count c.derivations.counter c.derivations-test.true, λ u. refl)) (c.derivations.invariant.read names))
           (then_nothing (c.derivation-next.ensures names (c.args.count - (c.derivations.counter + 1)))
           (c.put.ensures.read names c.args.end (derivations c.args.level (c.args.count - (c.derivations.counter + 1))))));
       counted = λ none.
@@ -51,7 +47,7 @@ derivations-derivations-preserved t c =
     }
 
 pub derivations-returns-clause-read : goal.derivations-returns-clause-read
-derivations-returns-clause-read t c = λ names. as_reads (λ none. (derivations_end c.args.level c.args.count c.derivations.counter c.derivations-test.false, λ u. refl))
+derivations-returns-clause-read t c = λ names. as_reads (λ none. (left_end (derivations c.args.level) c.args.count c.derivations.counter c.derivations-test.false, λ u. refl))
     (c.derivations.invariant.read names)
 
 pub derivations-returns-clause-counted : goal.derivations-returns-clause-counted
@@ -92,10 +88,7 @@ step-returns t c = λ names more.
     (then_reads (framed rest (c.position-pos-2.ensures names (any_position line) (between line ∷ []) refl)) (framed rest (c.text-3.ensures.read names (between line) [] refl))))))
 
 pub steps-returns-then-is_some-clause-read : goal.steps-returns-then-is_some-clause-read
-steps-returns-then-is_some-clause-read t c = λ names.
-    let e = some_now _ _ c.is_some.ensures c.if-is_some.true in
-    already e.0 e.1 (then_reads (as_reads (λ none. (steps_next c.args.level c.args.count c.steps.counter c.steps-test.true, λ u. refl)) (c.steps.invariant.read names))
-    (then_nothing (c.step-next.ensures names (c.args.count - (c.steps.counter + 1))) (c.put.ensures.read names c.args.end (steps_of c.args.level (c.args.count - (c.steps.counter + 1))))))
+steps-returns-then-is_some-clause-read t c = λ names. let e = some_now _ _ c.is_some.ensures c.if-is_some.true in already e.0 e.1 (c.steps.invariant.read names)
 
 pub steps-steps-preserved : goal.steps-steps-preserved
 steps-steps-preserved t c =
@@ -103,7 +96,7 @@ steps-steps-preserved t c =
     record {
       read = λ names.
           as_marks (λ none u. steps_push c.args.level c.steps.steps.items c.put.new.list.items c.step-next.result (c.put.ensures.grown none))
-          (then_reads (as_reads (λ none. (steps_next c.args.level c.args.count c.steps.counter c.steps-test.true, λ u. refl)) (c.steps.invariant.read names))
+          (then_reads (as_reads (λ none. (left_next (steps_of c.args.level) c.args.count c.steps.counter c.steps-test.true, λ u. refl)) (c.steps.invariant.read names))
           (then_nothing (c.step-next.ensures names (c.args.count - (c.steps.counter + 1))) (c.put.ensures.read names c.args.end (steps_of c.args.level (c.args.count - (c.steps.counter + 1))))));
       counted = λ none.
           let e = c.steps.invariant.counted (open_before (then_reads (c.step-next.ensures any_names k) (c.put.ensures.read any_names c.args.end (steps_of c.args.level k))) none) in
@@ -114,7 +107,7 @@ steps-steps-preserved t c =
 pub steps-returns-clause-read : goal.steps-returns-clause-read
 steps-returns-clause-read t c = λ names.
     as_reads (λ none. (
-      steps_end c.args.level c.args.count c.steps.counter c.steps-test.false,
+      left_end (steps_of c.args.level) c.args.count c.steps.counter c.steps-test.false,
       λ u. ap (steps_marks c.args.level)
           (sym (derivation_of_steps (record { steps = c.steps.steps }))),
     )) (c.steps.invariant.read names)

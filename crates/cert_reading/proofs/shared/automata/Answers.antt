@@ -1,4 +1,4 @@
-use Rattle.std.proofs.Common.{◌≡◌, ◌+◌, ◌-◌, ◌∙◌, [], None, refl, sym, ap, length, map, arith}
+use Rattle.std.proofs.Common.{◌≡◌, ◌+◌, ◌-◌, ◌∙◌, ℕ, [], ◌∷◌, None, refl, sym, ap, length, map, arith}
 use Rattle.std.proofs.lemmas.List.{length_push, length-map}
 use Rattle.cert_model.specs.EvidenceView.{automaton_view}
 use Rattle.cert_grammar.specs.Prelude.{automata_marks, behind_automata}
@@ -6,17 +6,12 @@ use Rattle.cert_words.proofs.Walking.{open_before}
 use Rattle.cert_words.proofs.Stepping.{some_now}
 use Rattle.cert_reading.proofs.Stopping.{then_where, then_nothing_where, as_where, as_marks_where, already_where, open_before_where, low_where}
 use Rattle.cert_reading.proofs.SharedPlaces.{above_automata}
-use Rattle.cert_reading.proofs.AutomataMarks.{plain_automata, automata_push, automata_next, automata_end}
+use Rattle.cert_reading.proofs.AutomataMarks.{plain_automata, automata_push}
+use Rattle.cert_reading.proofs.DerivationMarks.{left_next, left_end}
 use Rattle.cert_reading.proofs.shared.automata.Goals as goal
 
 pub returns-then-is_some-clause-read : goal.returns-then-is_some-clause-read
-returns-then-is_some-clause-read c = λ given.
-    let names = c.args.names.now in
-    let k = c.args.count - (c.automata.counter + 1) in
-    let e = some_now _ _ c.is_some.ensures c.if-is_some.true in
-    already_where e.0 e.1
-    (then_where (as_where (λ none. (automata_next given c.args.count c.automata.counter c.automata-test.true, λ u. refl)) (c.automata.invariant.read given))
-    (then_nothing_where (c.shared_automaton-next.ensures.read k given) (low_where (behind_automata k given) (above_automata k given) (c.put.ensures.read names c.args.end []))))
+returns-then-is_some-clause-read c = λ given. let e = some_now _ _ c.is_some.ensures c.if-is_some.true in already_where e.0 e.1 (c.automata.invariant.read given)
 
 pub automata-preserved : goal.automata-preserved
 automata-preserved c =
@@ -29,7 +24,7 @@ automata-preserved c =
     record {
       read = λ given.
           as_marks_where (λ none u. automata_push automaton_view u items next ∙ ap (λ as_items. automata_marks u (map automaton_view as_items)) (sym (c.put.ensures.grown none)))
-          (then_where (as_where (λ none. (automata_next given c.args.count c.automata.counter c.automata-test.true, λ u. refl)) (c.automata.invariant.read given))
+          (then_where (as_where (λ none. (left_next (λ (m : ℕ). behind_automata m given ∷ []) c.args.count c.automata.counter c.automata-test.true, λ u. refl)) (c.automata.invariant.read given))
           (then_nothing_where (c.shared_automaton-next.ensures.read k given) (low_where (behind_automata k given) (above_automata k given) (c.put.ensures.read names c.args.end []))));
       counted = λ none.
           let n = ap length (c.put.ensures.grown none) ∙ length_push items next in
@@ -39,4 +34,5 @@ automata-preserved c =
     }
 
 pub returns-clause-read : goal.returns-clause-read
-returns-clause-read c = λ given. as_where (λ none. (automata_end given c.args.count c.automata.counter c.automata-test.false, λ u. refl)) (c.automata.invariant.read given)
+returns-clause-read c = λ given.
+    as_where (λ none. (left_end (λ (m : ℕ). behind_automata m given ∷ []) c.args.count c.automata.counter c.automata-test.false, λ u. refl)) (c.automata.invariant.read given)

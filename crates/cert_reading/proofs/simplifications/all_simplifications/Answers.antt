@@ -7,22 +7,15 @@ use Rattle.cert_sharing.proofs.UseMarks.{counts_still}
 use Rattle.cert_words.proofs.Walking.{then_reads, then_nothing, as_reads, as_marks, already, open_before}
 use Rattle.cert_words.proofs.Stepping.{some_now}
 use Rattle.cert_reading.proofs.ListMarks.{steps_push, plain_steps}
-use Rattle.cert_reading.proofs.StepMarks.{steps_next, steps_end}
+use Rattle.cert_reading.proofs.DerivationMarks.{left_next, left_end}
 use Rattle.cert_reading.proofs.UseReads.{known_behind}
 use Rattle.cert_reading.proofs.simplifications.all_simplifications.Goals as goal
 
 pub returns-then-is_some-clause-read : goal.returns-then-is_some-clause-read
-returns-then-is_some-clause-read c =
-    let names = c.args.names.now in
-    let k = c.args.count - (c.steps.counter + 1) in
-    let e = some_now _ _ c.is_some.ensures c.if-is_some.true in
-    already e.0 e.1
-    (then_reads (as_reads (λ none. (steps_next c.args.count c.steps.counter c.steps-test.true, λ u. refl)) c.steps.invariant.read)
-    (then_nothing (c.simplification-next.ensures.read k) (c.put.ensures.read names c.args.end (simplifications_of k))))
+returns-then-is_some-clause-read c = let e = some_now _ _ c.is_some.ensures c.if-is_some.true in already e.0 e.1 c.steps.invariant.read
 
 pub returns-then-is_some-clause-known : goal.returns-then-is_some-clause-known
-returns-then-is_some-clause-known c = known_behind second_version (map automaton_view c.args.automata.now) (c.put.ensures.read c.args.names.now c.args.end []) []
-    (counts_still [] tt) c.simplification-next.ensures.known
+returns-then-is_some-clause-known c = c.steps.invariant.known
 
 pub steps-preserved : goal.steps-preserved
 steps-preserved c =
@@ -35,7 +28,7 @@ steps-preserved c =
     record {
       read = as_marks (λ none u. steps_push simp_view u (by_number (number_in names all)) items next
           ∙ ap (λ ss. simplifications_marks u (by_number (number_in names all)) (map simp_view ss)) (sym (c.put.ensures.grown none)))
-          (then_reads (as_reads (λ none. (steps_next c.args.count c.steps.counter c.steps-test.true, λ u. refl)) c.steps.invariant.read)
+          (then_reads (as_reads (λ none. (left_next simplifications_of c.args.count c.steps.counter c.steps-test.true, λ u. refl)) c.steps.invariant.read)
           (then_nothing (c.simplification-next.ensures.read k) (c.put.ensures.read names c.args.end (simplifications_of k))));
       counted = λ none.
           let n = ap length (c.put.ensures.grown none) ∙ length_push items next in
@@ -46,7 +39,7 @@ steps-preserved c =
     }
 
 pub returns-clause-read : goal.returns-clause-read
-returns-clause-read c = as_reads (λ none. (steps_end c.args.count c.steps.counter c.steps-test.false, λ u. refl)) c.steps.invariant.read
+returns-clause-read c = as_reads (λ none. (left_end simplifications_of c.args.count c.steps.counter c.steps-test.false, λ u. refl)) c.steps.invariant.read
 
 pub simplification-next-requires : goal.simplification-next-requires
 simplification-next-requires c = c.steps.invariant.known

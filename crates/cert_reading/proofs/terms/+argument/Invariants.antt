@@ -1,21 +1,18 @@
-use Rattle.std.proofs.Common.{◌≡◌, ◌<◌, ◌≤◌, ◌+◌, ◌-◌, ◌*◌, if◌then◌else◌, ℕ, suc, true, false, List, [], ◌∷◌, None, length, map}
+use Rattle.std.proofs.Common.{◌≡◌, ◌<◌, ◌≤◌, ◌+◌, ◌-◌, ◌*◌, if◌then◌else◌, ℕ, suc, false, List, [], ◌∷◌, None, length, map}
 use Rattle.rewriting.specs.Terms.{size_all}
 use Rattle.term_core.specs.View.{view, views}
 use Rattle.cert_grammar.specs.Items.{Frame}
 use Rattle.cert_grammar.specs.Items as spec
-use Rattle.cert_words.specs.Nodes.{inner_marks}
 use Rattle.cert_words.specs.Walks.{Reads}
-use Rattle.cert_reading.proofs.TermMarks.{commas}
+use Rattle.cert_reading.specs.Arguments.{behind_argument}
+use Rattle.cert_reading.proofs.TermMarks.{so_far}
 use Rattle.cert_reading.proofs.terms.+argument.Given as goal
 
 abbrev pub invariant-arguments-arguments : goal.invariant-arguments-arguments
 invariant-arguments-arguments l = record {
-  going : l.more ≡ true → (name : List ℕ) (fs : List Frame) → suc (suc (length fs)) ≡ l.fn.depth
-      → Reads l.fn.names l.fn.end (spec.node l.fn.n (record { name = name; argument = 1 } ∷ fs) ∷ []) (λ u. commas u l.fn.depth l.fn.n (map view l.args.items))
-      (spec.node l.next (record { name = name; argument = suc (length l.args.items) } ∷ fs) ∷ []) l.fn.at l.at;
-  closed : l.more ≡ false → (name : List ℕ) (fs : List Frame) → suc (suc (length fs)) ≡ l.fn.depth
-      → Reads l.fn.names l.fn.end (spec.node l.fn.n (record { name = name; argument = 1 } ∷ fs) ∷ []) (λ u. inner_marks u l.fn.depth l.fn.n (views l.args.items))
-      (spec.term_closed l.next name (length l.args.items) fs ∷ []) l.fn.at l.at;
+  read : (name : List ℕ) (fs : List Frame) → suc (suc (length fs)) ≡ l.fn.depth
+      → Reads l.fn.names l.fn.end (spec.node l.fn.n (record { name = name; argument = 1 } ∷ fs) ∷ []) (λ u. so_far l.more u l.fn.depth l.fn.n (map view l.args.items))
+      (behind_argument l.more l.next (record { name = name; argument = length l.args.items }) fs ∷ []) l.fn.at l.at;
   counted : l.at.refused ≡ None → l.next ≡ l.fn.n + size_all (views l.args.items);
   some : l.at.refused ≡ None → l.more ≡ false → 0 < length l.args.items;
   low : l.fn.n ≤ l.next;

@@ -5,9 +5,9 @@ use Rattle.term_core.specs.View.{view, views}
 use Rattle.term_core.proofs.Views.{view-Var, view-Fun}
 use Rattle.cops_names.specs.NameTable.{arity_at}
 use Rattle.cert_grammar.specs.Prelude.{name_of, is_number, fixed, term_marks, line, between, node, name_behind, term_behind, term_closed}
-use Rattle.cert_words.proofs.Walking.{then_reads, as_marks, open_before}
+use Rattle.cert_words.proofs.Walking.{then_reads, as_marks}
 use Rattle.cert_words.proofs.Stepping.{none_now, some_now, arity_met}
-use Rattle.cert_reading.proofs.TermMarks.{symbol_closed}
+use Rattle.cert_reading.proofs.TermMarks.{symbol_alone, symbol_read}
 use Rattle.cert_words.proofs.NodeReads.{refused_node}
 use Rattle.cert_reading.proofs.terms.start_term.Goals as goal
 
@@ -27,11 +27,11 @@ returns-then-not-opened c =
     let names = c.args.names.now in
     let f = c.in-Symbol.f in
     let found = c.in-Symbol.ensures.found (none_now _ _ c.is_some.ensures c.if-is_some.false) in
-    as_marks (λ none u. ap (λ (x : Term). term_marks u 1 1 x ++ (fixed (codes "\n") ∷ [])) (sym (view-Fun f c.new.result ∙ ap (λ l. app f (views l)) c.new.ensures.items)))
-    (then_reads (c.in-Symbol.ensures.read (node 1 []) (λ w. name_behind 2 w [] ∷ []) (term_behind 2 [] ∷ []) refl)
+    symbol_alone 1 1 f _ (fixed (codes "\n")) (view-Fun f c.new.result ∙ ap (λ l. app f (views l)) c.new.ensures.items)
+    (c.in-Symbol.ensures.read (node 1 []) (λ w. name_behind 2 w [] ∷ []) (term_behind 2 [] ∷ []) refl)
     (then_reads (c.opened.ensures.none c.if-not-opened.true names f 0 (name_behind 2 (name_of names f) []) (node 2 (record { name = name_of names f; argument = 1 } ∷ []) ∷ [])
     (between line ∷ []) refl (arity_met names f 0 c.has_so_many.result found c.has_so_many.ensures))
-    (c.text-then-not-opened.ensures.read names (between line) [] refl)))
+    (c.text-then-not-opened.ensures.read names (between line) [] refl))
 
 pub returns-else-not-opened : goal.returns-else-not-opened
 returns-else-not-opened c =
@@ -43,13 +43,8 @@ returns-else-not-opened c =
     let k = length args.items in
     let many : c.len.result ≡ k = omega (arith, args.ok.0, c.len.ensures) in
     let met = arity_met names f k c.has_so_many-in-Symbol.result found (c.has_so_many-in-Symbol.ensures ∙ ap (λ (m : ℕ). is_number m (arity_at names f)) many) in
-    let last =
-    then_reads (c.checked.ensures names f k (term_closed c.arguments-args.result.1 name k []) (between line ∷ []) refl met)
-    (c.text-in-Symbol.ensures.read names (between line) [] refl) in
-    as_marks (λ none u.
-    let len = length-map args.items view in
-    symbol_closed u 1 1 f k (map view args.items) (fixed (codes "\n")) (omega (arith, c.arguments-args.ensures.some (open_before last none), len)) (sym len)
-    ∙ ap (λ (x : Term). term_marks u 1 1 x ++ (fixed (codes "\n") ∷ [])) (sym (view-Fun f args)))
-    (then_reads (c.in-Symbol.ensures.read (node 1 []) (λ w. name_behind 2 w [] ∷ []) (term_behind 2 [] ∷ []) refl)
-    (then_reads (c.opened.ensures.opened c.if-not-opened.false names f 0 (name_behind 2 name []) (node 2 (record { name = name; argument = 1 } ∷ []) ∷ []) (between line ∷ []) refl)
-    (then_reads (c.arguments-args.ensures.read name [] refl) last)))
+    symbol_read 1 1 f k (map view args.items) _ (fixed (codes "\n")) (view-Fun f args) (sym (length-map args.items view))
+    (c.in-Symbol.ensures.read (node 1 []) (λ w. name_behind 2 w [] ∷ []) (term_behind 2 [] ∷ []) refl)
+    (c.opened.ensures.opened c.if-not-opened.false names f 0 (name_behind 2 name []) (node 2 (record { name = name; argument = 1 } ∷ []) ∷ []) (between line ∷ []) refl)
+    (c.arguments-args.ensures.read name [] refl) c.arguments-args.ensures.some
+    (then_reads (c.checked.ensures names f k (term_closed c.arguments-args.result.1 name k []) (between line ∷ []) refl met) (c.text-in-Symbol.ensures.read names (between line) [] refl))
