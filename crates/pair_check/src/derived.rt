@@ -1,5 +1,5 @@
 //! Derivations under the conditions of an overlap: its sides derive one term, or a condition's left side two irreducible ones that do not unify.
-ghost use Rattle.std.specs.Prelude.{map};
+ghost use Rattle.std.specs.Prelude.{◌≡◌, map};
 ghost use Rattle.rewriting.specs.Terms as math;
 ghost use Rattle.certificates.specs.Prelude.{DoConditionsFit, IsShort};
 ghost use Rattle.term_core.specs.Prelude.{view, condition_view};
