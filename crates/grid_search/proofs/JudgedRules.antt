@@ -91,7 +91,7 @@ rule_at_suc : (s : System) (number : ℕ) → 1 ≤ number → rule_at s number 
 rule_at_suc s zero le = absurd (omega (arith, le))
 rule_at_suc s (suc j) le = let same : j ≡ suc j - 1 = omega arith in ap (slice_get s.rules) same
 
-module _ (sys : System) (es : Interpretation) (rs : List Rule) (ns : List ℕ) (w : AreWalked sys (length es) rs ns) where
+module _ {sys : System} (es : Interpretation) {rs : List Rule} {ns : List ℕ} (w : AreWalked sys (length es) rs ns) where
   pub next_at : (i : ℕ) → i < length ns → IsNext sys (length es) rs (get_or ns i 0)
   next_at i lt =
       subst (λ z. i < length z → IsNext sys (length es) rs (get_or z i 0)) (sym w.numbers)

@@ -29,35 +29,41 @@ pub goes : (sys : System) (es next : Interpretation) (b other : Bool) → b ≡ 
 goes sys es next b other is h n done = subst (GoesOn sys next n) is (h sys n done)
 
 -- the walk came to these entries for what was paid
-abbrev pub HasPaidTo : System → Counts → Counts → Interpretation → Type 0
-HasPaidTo sys start here es = (n : ℕ) × Spends start n here × HasComeTo sys es n
+pub record HasPaidTo (sys : System) (start here : Counts) (es : Interpretation) : Type 0 where
+  pub units : ℕ
+  pub spends : Spends start units here
+  pub came_to : HasComeTo sys es units
 
 pub at_start : (sys : System) (start : Counts) (es : Interpretation) → es ≡ [] → HasPaidTo sys start start es
-at_start sys start es e = (0, spends_none start, subst (λ (z : Interpretation). HasComeTo sys z 0) (sym e) (begin sys))
+at_start sys start es e = record { units = 0; spends = spends_none start; came_to = subst (λ (z : Interpretation). HasComeTo sys z 0) (sym e) (begin sys) }
 
-module _ (sys : System) (start here after : Counts) (es : Interpretation) (far : HasPaidTo sys start here es) where
-  pub paid_down : (IsDead sys es → ⊥) → after ≡ here → (more : Interpretation) → HasOneMore sys es more → HasPaidTo sys start after more
-  paid_down alive same more one = (far.0, subst (λ (b : Counts). Spends start far.0 b) (sym same) far.1, go_down sys es more far.0 far.2 alive one)
+module _ {sys : System} {start here : Counts} {es : Interpretation} (far : HasPaidTo sys start here es) where
+  module _ {after : Counts} (same : after ≡ here) where
+    none_paid : Spends start far.units after
+    none_paid = subst (λ (b : Counts). Spends start far.units b) (sym same) far.spends
 
-  module _ (unit : Spends here 1 after) where
-    one_paid : Spends start (far.0 + 1) after
-    one_paid = spends_both start here after far.0 1 far.1 unit
+    pub paid_down : (IsDead sys es → ⊥) → (more : Interpretation) → HasOneMore sys es more → HasPaidTo sys start after more
+    paid_down alive more one = record { units = far.units; spends = none_paid; came_to = go_down sys es more far.units far.came_to alive one }
+
+    pub stopped : IsDead sys es ⊎ (length es ≡ length (heads sys)) → here.left ≡ 0 → (n : ℕ) × Spends start n after × (after.left ≡ 0) × PrunedStops sys n
+    stopped seen none = (far.units, none_paid, ap (λ (b : Counts). b.left) same ∙ none, stops_there sys es far.units far.came_to seen)
+
+  module _ {after : Counts} (unit : Spends here 1 after) where
+    one_paid : Spends start (far.units + 1) after
+    one_paid = spends_both start here after far.units 1 far.spends unit
 
     pub still_kept : (n : ℕ) × Spends start n after
-    still_kept = (far.0 + 1, one_paid)
+    still_kept = (far.units + 1, one_paid)
 
     module _ (dead : IsDead sys es) where
-      done : HasDoneWith sys es (far.0 + 1)
-      done = done_with_dead sys es far.0 far.2 dead
+      done : HasDoneWith sys es (far.units + 1)
+      done = done_with_dead sys es far.units far.came_to dead
 
       pub none_good : ((n : ℕ) → HasDoneWith sys es n → IsPrunedBarren sys n) → (n : ℕ) × Spends start n after × IsNoneGood sys n
-      none_good ends = (far.0 + 1, one_paid, inl (ends (far.0 + 1) done))
+      none_good ends = (far.units + 1, one_paid, inl (ends (far.units + 1) done))
 
       pub paid_on : (next : Interpretation) → ((n : ℕ) → HasDoneWith sys es n → HasComeTo sys next n) → HasPaidTo sys start after next
-      paid_on next goes = (far.0 + 1, one_paid, goes (far.0 + 1) done)
+      paid_on next goes = record { units = far.units + 1; spends = one_paid; came_to = goes (far.units + 1) done }
 
     pub first_good : length es ≡ length (heads sys) → IsInterpretationJudged sys es good → (n : ℕ) × Spends start n after × IsPrunedFirst sys (linear_measure es) n
-    first_good whole judged = (far.0 + 1, one_paid, found_there sys es far.0 far.2 whole judged)
-
-  pub stopped : IsDead sys es ⊎ (length es ≡ length (heads sys)) → here.left ≡ 0 → after ≡ here → (n : ℕ) × Spends start n after × (after.left ≡ 0) × PrunedStops sys n
-  stopped seen none same = (far.0, subst (λ (b : Counts). Spends start far.0 b) (sym same) far.1, ap (λ (b : Counts). b.left) same ∙ none, stops_there sys es far.0 far.2 seen)
+    first_good whole judged = (far.units + 1, one_paid, found_there sys es far.units far.came_to whole judged)

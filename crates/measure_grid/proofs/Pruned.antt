@@ -12,8 +12,7 @@ use Rattle.measure_grid.specs.Pruned.{Prefix, extended, extensions, IsDeadPrefix
 use Rattle.measure_grid.specs.Laws.{EndsOnce}
 use Rattle.measure_grid.proofs.Dead.{dead_more, dead_or_good}
 use Rattle.measure_grid.proofs.Grid.{node, leaf, leaves_are, columns_full}
-use Rattle.measure_grid.proofs.PrunedTrees as trees
-use Rattle.measure_grid.proofs.PrunedTrees.{ComesToOne, tree_comes_to_one, stopped_before_whole, first_of_list, none_of_list}
+use Rattle.measure_grid.proofs.PrunedTrees.{ComesToOne, whole_once, tree_comes_to_one, stopped_before_whole, first_of_list, none_of_list}
 
 module _ (sys : System) where
   abbrev Gives : Prefix → MeasureCertificate → Type 0
@@ -56,14 +55,8 @@ module _ (sys : System) where
   pub comes_to_one : ComesToOne (IsPrunedFirst sys) (IsPrunedBarren sys)
   comes_to_one = tree_comes_to_one extensions (IsDeadPrefix sys) Gives (length (columns sys)) (start sys) (λ p m k x y. x.0 ∙ sym y.0)
 
-  pub first_or_barren : (m : MeasureCertificate) (i j : ℕ) → IsPrunedBarren sys i → IsPrunedFirst sys m j → ⊥
-  first_or_barren = comes_to_one.first_or_barren
-
   pub ends_once : EndsOnce sys
-  ends_once = record { one_at_most = trees.whole_once (IsPrunedFirst sys) (IsPrunedBarren sys) comes_to_one; not_none = comes_to_one.not_none }
-
-  pub whole_once : (n m : ℕ) → IsPrunedWhole sys n → IsPrunedWhole sys m → n ≡ m
-  whole_once = ends_once.one_at_most
+  ends_once = record { one_at_most = whole_once (IsPrunedFirst sys) (IsPrunedBarren sys) comes_to_one; not_none = comes_to_one.not_none }
 
   pub stops_before_whole : (n m : ℕ) → PrunedStops sys n → IsPrunedWhole sys m → n < m
   stops_before_whole = stopped_before_whole extensions (IsDeadPrefix sys) Gives (length (columns sys)) (start sys)

@@ -120,7 +120,7 @@ pub as_many_columns : (sys : System) → length (columns sys) ≡ length (heads 
 as_many_columns sys = columns_long (heads sys) (unraveled sys).arities (length-heads sys)
 
 -- the first symbols are the system's
-file_at : (f : ℕ) (ns : Signature) (rest : List Head) (k : ℕ) (head : Head) → k < length ns → slice_get (file_heads f ns ++ rest) k ≡ Some head → (g : ℕ) × (head ≡ file g)
+pub file_at : (f : ℕ) (ns : Signature) (rest : List Head) (k : ℕ) (head : Head) → k < length ns → slice_get (file_heads f ns ++ rest) k ≡ Some head → (g : ℕ) × (head ≡ file g)
 file_at f [] rest k head l e = absurd (omega (arith, l))
 file_at f (n ∷ ns) rest zero head l e = (f, cc)
 file_at f (n ∷ ns) rest (suc k) head l e = file_at (suc f) ns rest k head (omega (arith, l)) e

@@ -15,18 +15,10 @@ use Rattle.redex_conditions.proofs.Completing.{drop_end}
 use Rattle.redex_conditions.proofs.Parts.{places_split}
 use Rattle.redex_conditions.proofs.Rules.{hit_yes, hit_no}
 use Rattle.first_found.specs.Items.{NoneGives, IsFirst, one}
-use Rattle.first_found.specs.Rows.{AreFirsts}
 use Rattle.search_spaces.specs.Refuting.{refutings}
 use Rattle.noncon_search.specs.Trying.{Refutes}
+use Rattle.noncon_search.proofs.Moving.{firsts_append}
 use Rattle.noncon_search.specs.Entries.{entry_at, Hit, IsRefutedOn, IsUnrefutedOn, EntriesAnswer, RulesAnswer}
-
-module _ (First : RedexPlace → Redex → ℕ → Type 0) where
-  firsts_append : (rs : List RedexPlace) (es : List Redex) (n : ℕ) (ss : List RedexPlace) (fs : List Redex) (m : ℕ) → AreFirsts First rs es n → AreFirsts First ss fs m
-      → (k : ℕ) × AreFirsts First (rs ++ ss) (es ++ fs) k
-  firsts_append [] [] n ss fs m h k = (m, k)
-  firsts_append [] (e ∷ es) n ss fs m h k = absurd h
-  firsts_append (r ∷ rs) [] n ss fs m h k = absurd h
-  firsts_append (r ∷ rs) (e ∷ es) n ss fs m (i, j, f, hs, is) k = let rest = firsts_append rs es j ss fs m hs k in (i + rest.0, (i, rest.0, f, rest.1, refl))
 
 module _ (First : RedexPlace → Redex → ℕ → Type 0) (Lacks : RedexPlace → Type 0) where
   abbrev Answer : List RedexPlace → List Redex → List Redex → Result Bool NoMemory → Type 0
@@ -40,7 +32,7 @@ module _ (First : RedexPlace → Redex → ℕ → Type 0) (Lacks : RedexPlace �
   rest_added rs ss before here after (Ok true) (es, put, (n, h)) (fs, more, (m, k)) = (
     es ++ fs,
     more ∙ ap (λ z. z ++ fs) put ∙ append_assoc before es fs,
-    firsts_append First rs es n ss fs m h k,
+    (n + m, firsts_append First rs ss es fs n m h k),
   )
   rest_added rs ss before here after (Ok false) h (r, at, none) = (r, among_right r rs ss at, none)
   rest_added rs ss before here after (Err e) h k = tt

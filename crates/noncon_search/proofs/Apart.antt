@@ -1,6 +1,6 @@
 -- Whether two listed terms are shown to be apart.
-use Rattle.std.proofs.Common.{ℕ, ◌≡◌, ◌+◌, inl, inr, List, [], ◌∷◌, ◌++◌, map, is_some, Vec, Global, Option, None, Some, Ok, refl, sym, ap, ◌∙◌, subst, subst₂}
-use Rattle.std.specs.Prelude.{Bool, true, false, nat_eq, if◌then◌else◌}
+use Rattle.std.proofs.Common.{ℕ, ◌≡◌, ◌+◌, List, [], ◌∷◌, ◌++◌, map, is_some, Vec, Global, Option, None, Some, Ok, refl, sym, ap, ◌∙◌, subst, subst₂}
+use Rattle.std.specs.Prelude.{false}
 use Rattle.std.proofs.lemmas.Bool.{false≢true}
 use Rattle.std.proofs.lemmas.List.{map-append}
 use Rattle.rewriting.specs.Prelude.{IsAmong, Term, System, IsWellFormed}
@@ -15,7 +15,7 @@ use Rattle.valid_certificates.specs.Certificates.{IsValid}
 use Rattle.valid_certificates.specs.Peaks.{RedexPlace, IsRedexJudged, AreRedexes, AreRefuted, AreShownApart, HasFileSymbols, AreValidEnds, chosen, entry_place}
 use Rattle.cert_model.specs.CertificateView.{redex_view}
 use Rattle.cert_model.specs.declared.model.Redex.{Redex}
-use Rattle.first_found.specs.Rows.{AreFirsts, HasNone, SomeHasNone}
+use Rattle.first_found.specs.Rows.{AreFirsts, HasNone}
 use Rattle.redex_conditions.specs.Redexes.{redexes, place, AreRedexesOf}
 use Rattle.redex_conditions.proofs.Ends.{both}
 use Rattle.redex_conditions.proofs.Places.{redexes_are}
@@ -26,7 +26,7 @@ use Rattle.search_spaces.proofs.PeakOnce.{apart_once}
 use Rattle.noncon_search.specs.Refuted.{RefutedAnswers}
 use Rattle.noncon_search.specs.Ends.{IsOpen}
 use Rattle.noncon_search.specs.Answers.{peak_of}
-use Rattle.noncon_search.proofs.Moving.{refuted_as, firsts_as, firsts_append}
+use Rattle.noncon_search.proofs.Moving.{some_none, chosen_same, refuted_as, firsts_as, firsts_append}
 
 -- a term with a redex that has no evidence
 pub open_of : (sys : System) (w : ℕ) (t : Term) (o : Option (Vec Redex Global)) → RefutedAnswers sys w t (Ok o) → is_some o ≡ false → IsOpen sys t
@@ -37,20 +37,6 @@ open_of sys w t None (rs, are, s) e =
       matches = (are.each s.row (subst (IsAmong s.row) (sym s.split) (among_middle s.row s.before s.behind))).1;
       none = s.none;
     }
-
-some_none : {X B : Type 0} (First : X → B → ℕ → Type 0) (xs : List X) (x : X) → IsAmong x xs → HasNone First x → SomeHasNone First xs
-some_none First [] x h none = absurd h
-some_none First (y ∷ ys) x (inl e) none = record { before = []; row = y; behind = ys; split = refl; none = subst (HasNone First) e none }
-some_none First (y ∷ ys) x (inr l) none =
-    let s = some_none First ys x l none in
-    record { before = y ∷ s.before; row = s.row; behind = s.behind; split = ap (λ zs. y ∷ zs) s.split; none = s.none }
-
-chosen_same : (t : Term) (w : ℕ) → chosen t t w ≡ t
-chosen_same t w = go (nat_eq w 1)
-  where
-    go : (b : Bool) → (if b then t else t) ≡ t
-    go true = refl
-    go false = refl
 
 module _ (sys : System) (u v : Term) where
   -- the redex has none either as one of two terms

@@ -1,5 +1,5 @@
 -- What is tried for a redex of a numbered term is tried for the redex of the term.
-use Rattle.std.proofs.Common.{ℕ, ◌≡◌, Bool, true, false, if◌then◌else◌, nat_eq, List, [], ◌∷◌, length, None, refl, sym, ap, subst}
+use Rattle.std.proofs.Common.{ℕ, ◌≡◌, List, length, None, sym, ap, subst}
 use Rattle.rewriting.specs.Prelude.{AreDistinct, Condition, Rule, System, rule_at, Bindings, apply, conditions_under, Term}
 use Rattle.certificates.specs.Prelude.{Redex, InfeasibilityEvidence, RuleMatches}
 use Rattle.renumbering.specs.Rows.{naming}
@@ -17,24 +17,8 @@ use Rattle.search_spaces.specs.PeakItems.{conditions_of, RefutesRedex, IsFirstRe
 use Rattle.valid_certificates.proofs.OneAnswer.{conditions_once}
 use Rattle.noncon_search.specs.Trying.{Refutes}
 use Rattle.noncon_search.specs.Entries.{entry_at}
+use Rattle.noncon_search.proofs.Moving.{none_as, first_as, chosen_same}
 use Rattle.noncon_search.proofs.Tries.{tries_to, tries_from}
-
--- items that give the same
-module _ {A B : Type 0} (Gives Other : A → B → Type 0) (to : (a : A) (b : B) → Gives a b → Other a b) (from : (a : A) (b : B) → Other a b → Gives a b) where
-  none_other : (items : List A) → NoneGives Gives items → NoneGives Other items
-  none_other [] h = tt
-  none_other (a ∷ items) (h, hs) = (λ b g. h b (from a b g), none_other items hs)
-
-  first_other : (cost : A → ℕ) (items : List A) (b : B) (n : ℕ) → IsFirst cost Gives items b n → IsFirst cost Other items b n
-  first_other cost items b n f =
-      record { before = f.before; item = f.item; behind = f.behind; split = f.split; none = none_other f.before f.none; gives = to f.item b f.gives; up_to = f.up_to }
-
-either_chosen : (t : Term) (w : ℕ) → chosen t t w ≡ t
-either_chosen t w = go (nat_eq w 1)
-  where
-    go : (b : Bool) → (if b then t else t) ≡ t
-    go true = refl
-    go false = refl
 
 module _ (row : List ℕ) (distinct : AreDistinct row) (t n : Term) (is : t ≡ apply (naming row) n) (below : AreBelow (length row) n)
     (sys : System) (r : RedexPlace) (rule : Rule) (match : Bindings) (matches : RuleMatches sys n r.rule r.position rule match) where
@@ -46,7 +30,7 @@ module _ (row : List ℕ) (distinct : AreDistinct row) (t n : Term) (is : t ≡ 
   there = conditions_renamed (spread row) numbered
 
   are_there : AreConditionsAt sys (chosen t t r.which) r there
-  are_there = subst (λ u. AreConditionsAt sys u r there) (sym (either_chosen t r.which)) (redex_conditions row distinct t n is below sys r rule match matches)
+  are_there = subst (λ u. AreConditionsAt sys u r there) (sym (chosen_same t r.which)) (redex_conditions row distinct t n is below sys r rule match matches)
 
   one_there : (cs : List Condition) → AreConditionsAt sys (chosen t t r.which) r cs → cs ≡ there
   one_there cs h = conditions_once sys (chosen t t r.which) r cs there h are_there
@@ -73,7 +57,7 @@ module _ (row : List ℕ) (distinct : AreDistinct row) (t n : Term) (is : t ≡ 
   refuted_there e m f entry same = (
     e,
     subst (λ items. IsFirst one (RefutesRedex sys t t r) items e m) same_items
-        (first_other (Refutes sys numbered) (RefutesRedex sys t t r) refutes_to refutes_from one (refutings (length rule.conditions)) e m f),
+        (first_as one (Refutes sys numbered) (RefutesRedex sys t t r) refutes_to refutes_from (refutings (length rule.conditions)) e m f),
     same,
   )
 
@@ -81,5 +65,5 @@ module _ (row : List ℕ) (distinct : AreDistinct row) (t n : Term) (is : t ≡ 
   unrefuted_there none entry m (e, f, same) =
       not_both (RefutesRedex sys t t r) one (refutings (conditions_of (rule_at sys r.rule))) e m
       (subst (NoneGives (RefutesRedex sys t t r)) same_items
-      (none_other (Refutes sys numbered) (RefutesRedex sys t t r) refutes_to refutes_from (refutings (length rule.conditions)) none))
+      (none_as one (Refutes sys numbered) (RefutesRedex sys t t r) refutes_to refutes_from (refutings (length rule.conditions)) none))
       f

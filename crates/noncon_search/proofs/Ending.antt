@@ -70,8 +70,7 @@ module _ (sys : System) (rs : List Rule) (same : map rule_view rs ≡ sys.rules)
         let sources = peak_items sys (map (λ o. view o.source) os.now) in (
           peak_items sys lefts ++ sources,
           items_of_all os.now are,
-          ends names sys (peak_items sys lefts ++ sources) a a b (peak_items sys lefts ++ sources) (peak_items sys lefts) sources
-              (begins names sys (peak_items sys lefts ++ sources) a (peak_items sys lefts ++ sources) refl) refl r other h,
+          ends (begins names sys (peak_items sys lefts ++ sources) a) b (peak_items sys lefts) sources refl r other h,
         )
     starts_end None none r other h = (peak_items sys lefts, items_of_rules none, h)
 
@@ -86,7 +85,5 @@ module _ (sys : System) (rs : List Rule) (same : map rule_view rs ≡ sys.rules)
         let sources = peak_items sys (map (λ o. view o.source) os) in (
           peak_items sys lefts ++ sources,
           items_of_all os are,
-          last_part names sys (peak_items sys lefts ++ sources) a b c sources
-              (goes_on names sys (peak_items sys lefts ++ sources) a a b (peak_items sys lefts ++ sources) (peak_items sys lefts) sources
-              (begins names sys (peak_items sys lefts ++ sources) a (peak_items sys lefts ++ sources) refl) refl h) r k,
+          last_part (goes_on (begins names sys (peak_items sys lefts ++ sources) a) b (peak_items sys lefts) sources refl Nothing refl h) c r k,
         )

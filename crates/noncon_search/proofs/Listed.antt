@@ -1,5 +1,5 @@
 -- The ends that are left of a list, and starts that fit.
-use Rattle.std.proofs.Common.{ℕ, zero, suc, ◌≡◌, ◌+◌, ◌<◌, inl, inr, List, [], ◌∷◌, ◌++◌, map, length, get_or, take, drop, ◌-◌, length-drop, refl, sym, ap, ◌∙◌, subst, add-one, arith}
+use Rattle.std.proofs.Common.{ℕ, ◌≡◌, ◌+◌, ◌<◌, inl, inr, List, [], ◌∷◌, ◌++◌, map, length, get_or, take, drop, ◌-◌, length-drop, refl, sym, ap, ◌∙◌, subst, arith}
 use Rattle.std.specs.Prelude.{false, ◌||◌}
 use Rattle.std.proofs.lemmas.List.{take_all}
 use Rattle.std.proofs.lemmas.Bool.{false≢true, or_parts}
@@ -19,21 +19,12 @@ use Rattle.reach_lists.specs.Lists.{is_listed, successors, condition_list}
 use Rattle.reach_lists.proofs.Laws.{listed_derived, none_twice}
 use Rattle.reach.specs.Parts.{DoAllFit}
 use Rattle.reach.proofs.Fitting.{listed_fit}
-use Rattle.general_lemmas.proofs.Places.{map-drop_read}
+use Rattle.general_lemmas.proofs.Places.{drop_read, map-drop_read}
 use Rattle.search_spaces.specs.Listings.{listing, pairs_of}
 use Rattle.search_spaces.specs.PeakItems.{try_ends, peak_items_of, peak_items}
 use Rattle.noncon_search.specs.declared.ends.End.{End}
 use Rattle.noncon_search.specs.Ends.{end_view, ends_view, IsEnd, AreMet, AreEnds}
 use Rattle.noncon_search.specs.Answers.{pairs_with, pair_items}
-
--- the items of a list that are left from a place on
-pub rest_splits : {A : Type 0} (xs : List A) (i : ℕ) (x : A) → i < length xs → x ≡ get_or xs i x → drop i xs ≡ x ∷ drop (i + 1) xs
-rest_splits {A} xs i x h e = rw add-one (go xs i h e)
-  where
-    go : (ys : List A) (k : ℕ) → k < length ys → x ≡ get_or ys k x → drop k ys ≡ x ∷ drop (suc k) ys
-    go [] k h e = absurd (omega (arith, h))
-    go (y ∷ ys) zero h e = ap (λ z. z ∷ ys) (sym e)
-    go (y ∷ ys) (suc k) h e = go ys k (omega (arith, h)) e
 
 -- the slice of a list from a place to its end
 pub slice_rest : {A : Type 0} (xs : List A) (k : ℕ) → take (length xs - k) (drop k xs) ≡ drop k xs
@@ -62,7 +53,7 @@ starts_split sys f xs i x h e = ap (peak_items sys) (map-drop_read f xs i x h e)
 
 -- what holds of each item holds of what is left of them
 pub first_of_rest : {A : Type 0} (P : A → Type 0) (xs : List A) (i : ℕ) (x : A) → i < length xs → x ≡ get_or xs i x → EachOf P (drop i xs) → P x × EachOf P (drop (i + 1) xs)
-first_of_rest P xs i x h e each = subst (EachOf P) (rest_splits xs i x h e) each
+first_of_rest P xs i x h e each = subst (EachOf P) (drop_read xs i x h e) each
 
 module _ (sys : System) (t : Term) where
   pub skip_next : (x y : End) (rest : List End) → AreEnds sys t (x ∷ y ∷ rest) → AreEnds sys t (x ∷ rest)
@@ -78,10 +69,10 @@ module _ (sys : System) (t : Term) where
 
   -- the ends that are left of a list
   pub ends_left : (ends : List End) (i : ℕ) (x : End) → i < length ends → x ≡ get_or ends i x → AreEnds sys t (drop i ends) → AreEnds sys t (x ∷ drop (i + 1) ends)
-  ends_left ends i x h e are = subst (AreEnds sys t) (rest_splits ends i x h e) are
+  ends_left ends i x h e are = subst (AreEnds sys t) (drop_read ends i x h e) are
 
   pub later_left : (first : End) (later : List End) (j : ℕ) (y : End) → j < length later → y ≡ get_or later j y → AreEnds sys t (first ∷ drop j later) → AreEnds sys t (first ∷ y ∷ drop (j + 1) later)
-  later_left first later j y h e are = subst (λ z. AreEnds sys t (first ∷ z)) (rest_splits later j y h e) are
+  later_left first later j y h e are = subst (λ z. AreEnds sys t (first ∷ z)) (drop_read later j y h e) are
 
   -- the ends of a listing
   pub ends_are : Fits t → (list : List Reached) → list ≡ listing sys [] t → (es : List End) → ends_view es ≡ list → EachOf (IsEnd sys) es → AreMet sys es → AreEnds sys t es

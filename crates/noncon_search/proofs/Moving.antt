@@ -1,22 +1,38 @@
 -- Evidence for a redex of a term, as one of two terms.
-use Rattle.std.proofs.Common.{ℕ, ◌≡◌, ◌+◌, inl, inr, List, [], ◌∷◌, ◌++◌, Option, None, refl, sym, subst, arith}
+use Rattle.std.proofs.Common.{ℕ, ◌≡◌, ◌+◌, inl, inr, Bool, true, false, if◌then◌else◌, nat_eq, List, [], ◌∷◌, ◌++◌, Option, None, refl, sym, ap, subst, arith}
 use Rattle.rewriting.specs.Prelude.{IsAmong, Term, Condition, System, rule_at}
 use Rattle.certificates.specs.Prelude.{Redex, InfeasibilityEvidence, EvidenceReason}
 use Rattle.valid_certificates.specs.Peaks.{RedexPlace, AreConditionsAt, IsRedexJudged, chosen}
 use Rattle.first_found.specs.Items.{NoneGives, IsFirst, one}
-use Rattle.first_found.specs.Rows.{AreFirsts}
+use Rattle.first_found.specs.Rows.{AreFirsts, HasNone, SomeHasNone}
 use Rattle.redex_conditions.specs.Redexes.{place}
 use Rattle.search_spaces.specs.Refuting.{Refuting, refutings}
 use Rattle.search_spaces.specs.PeakItems.{conditions_of, RefutesRedex, IsFirstRefuted}
 
 module _ {A B : Type 0} (cost : A → ℕ) (Gives Other : A → B → Type 0) (to : (a : A) (b : B) → Gives a b → Other a b) (back : (a : A) (b : B) → Other a b → Gives a b) where
-  none_as : (xs : List A) → NoneGives Gives xs → NoneGives Other xs
+  pub none_as : (xs : List A) → NoneGives Gives xs → NoneGives Other xs
   none_as [] h = tt
   none_as (x ∷ xs) (h, hs) = ((λ b g. h b (back x b g)), none_as xs hs)
 
-  first_as : (items : List A) (b : B) (n : ℕ) → IsFirst cost Gives items b n → IsFirst cost Other items b n
+  pub first_as : (items : List A) (b : B) (n : ℕ) → IsFirst cost Gives items b n → IsFirst cost Other items b n
   first_as items b n f =
       record { before = f.before; item = f.item; behind = f.behind; split = f.split; none = none_as f.before f.none; gives = to f.item b f.gives; up_to = f.up_to }
+
+-- a row that has none is one of some rows
+pub some_none : {X B : Type 0} (First : X → B → ℕ → Type 0) (xs : List X) (x : X) → IsAmong x xs → HasNone First x → SomeHasNone First xs
+some_none First [] x h none = absurd h
+some_none First (y ∷ ys) x (inl e) none = record { before = []; row = y; behind = ys; split = refl; none = subst (HasNone First) e none }
+some_none First (y ∷ ys) x (inr l) none =
+    let s = some_none First ys x l none in
+    record { before = y ∷ s.before; row = s.row; behind = s.behind; split = ap (λ zs. y ∷ zs) s.split; none = s.none }
+
+-- one of two terms that are the same
+pub chosen_same : (t : Term) (w : ℕ) → chosen t t w ≡ t
+chosen_same t w = go (nat_eq w 1)
+  where
+    go : (b : Bool) → (if b then t else t) ≡ t
+    go true = refl
+    go false = refl
 
 module _ (sys : System) where
   -- a redex has the same conditions and judgements, whichever number its term has

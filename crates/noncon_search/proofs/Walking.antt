@@ -25,14 +25,14 @@ pub record Walking (names : NameTable) (sys : System) (items : List PeakItem) (s
   pub none : NoneGives (GivesPeak names sys) done
   pub paid : Spends start (cost_of peak_item_cost done) here
 
-module _ (names : NameTable) (sys : System) (items : List PeakItem) where
+pub begins : (names : NameTable) (sys : System) (items : List PeakItem) (a : Counts) → Walking names sys items a a items
+begins names sys items a = record { done = []; split = refl; none = tt; paid = spends_none a }
+
+module _ {names : NameTable} {sys : System} {items : List PeakItem} {a b : Counts} {rest : List PeakItem} (w : Walking names sys items a b rest) where
   abbrev Gives : PeakItem → math.Certificate → Type 0
   Gives = GivesPeak names sys
 
-  pub begins : (a : Counts) (rest : List PeakItem) → rest ≡ items → Walking names sys items a a rest
-  begins a rest e = record { done = []; split = sym e; none = tt; paid = spends_none a }
-
-  module _ (a b c : Counts) (rest xs ys : List PeakItem) (w : Walking names sys items a b rest) (split : rest ≡ xs ++ ys) where
+  module _ (c : Counts) (xs ys : List PeakItem) (split : rest ≡ xs ++ ys) where
     whole : items ≡ w.done ++ (xs ++ ys)
     whole = w.split ∙ ap (λ (zs : List PeakItem). w.done ++ zs) split
 
@@ -40,8 +40,9 @@ module _ (names : NameTable) (sys : System) (items : List PeakItem) where
     both_paid n s = spends_both a b c (cost_of peak_item_cost w.done) n w.paid s
 
     -- the next items gave nothing
-    pub goes_on : WalkAnswers names sys xs b c (Ok Nothing) → Walking names sys items a c ys
-    goes_on (s, none) =
+    pub goes_on : (r : Search) → r ≡ Nothing → WalkAnswers names sys xs b c (Ok r) → Walking names sys items a c ys
+    goes_on (Found cert) is h = absurd cc
+    goes_on Nothing is (s, none) =
         record {
           done = w.done ++ xs;
           split = whole ∙ sym (append_assoc w.done xs ys);
@@ -49,6 +50,7 @@ module _ (names : NameTable) (sys : System) (items : List PeakItem) where
           paid = spends_same a c (cost_of peak_item_cost w.done + cost_of peak_item_cost xs) (cost_of peak_item_cost (w.done ++ xs)) (sym (cost_append peak_item_cost w.done xs))
               (both_paid (cost_of peak_item_cost xs) s);
         }
+    goes_on Spent is h = absurd cc
 
     -- the walk ended in them
     pub ends : (r : Search) → (r ≡ Nothing → ⊥) → WalkAnswers names sys xs b c (Ok r) → WalkAnswers names sys items a c (Ok r)
@@ -72,17 +74,18 @@ module _ (names : NameTable) (sys : System) (items : List PeakItem) where
     fails (Err e) is (n, s) = (cost_of peak_item_cost w.done + n, both_paid n s)
 
   -- nothing is left
-  pub finishes : (a b : Counts) (rest : List PeakItem) → Walking names sys items a b rest → rest ≡ [] → WalkAnswers names sys items a b (Ok Nothing)
-  finishes a b rest w e =
+  pub finishes : rest ≡ [] → WalkAnswers names sys items a b (Ok Nothing)
+  finishes e =
       let same : items ≡ w.done = w.split ∙ ap (λ (zs : List PeakItem). w.done ++ zs) e ∙ append-nil w.done in
       (subst (λ z. Spends a (cost_of peak_item_cost z) b) (sym same) w.paid, subst (NoneGives Gives) (sym same) w.none)
 
-  -- all that is left is walked through
-  pub last_part : (a b c : Counts) (rest : List PeakItem) → Walking names sys items a b rest → (r : Result Search NoMemory) → WalkAnswers names sys rest b c r → WalkAnswers names sys items a c r
-  last_part a b c rest w (Ok (Found cert)) h = ends a b c rest rest [] w (sym (append-nil rest)) (Found cert) (λ e. cc) h
-  last_part a b c rest w (Ok Nothing) h = finishes a c [] (goes_on a b c rest rest [] w (sym (append-nil rest)) h) refl
-  last_part a b c rest w (Ok Spent) h = ends a b c rest rest [] w (sym (append-nil rest)) Spent (λ e. cc) h
-  last_part a b c rest w (Err e) h = fails a b c rest rest [] w (sym (append-nil rest)) (Err e) refl h
+-- all that is left is walked through
+pub last_part : {names : NameTable} {sys : System} {items : List PeakItem} {a b : Counts} {rest : List PeakItem} (w : Walking names sys items a b rest) (c : Counts) (r : Result Search NoMemory)
+    → WalkAnswers names sys rest b c r → WalkAnswers names sys items a c r
+last_part {rest = rest} w c (Ok (Found cert)) h = ends w c rest [] (sym (append-nil rest)) (Found cert) (λ e. cc) h
+last_part {rest = rest} w c (Ok Nothing) h = finishes (goes_on w c rest [] (sym (append-nil rest)) Nothing refl h) refl
+last_part {rest = rest} w c (Ok Spent) h = ends w c rest [] (sym (append-nil rest)) Spent (λ e. cc) h
+last_part {rest = rest} w c (Err e) h = fails w c rest [] (sym (append-nil rest)) (Err e) refl h
 
 -- one pair
 module _ (names : NameTable) (sys : System) (t : Term) (x y : Reached) (a b : Counts) where

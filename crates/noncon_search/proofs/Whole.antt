@@ -1,5 +1,5 @@
 -- The entries for all redexes of a term, part by part.
-use Rattle.std.proofs.Common.{ℕ, ◌≡◌, inl, inr, Bool, true, false, List, [], ◌∷◌, flat_map, map, length, None, Some, Result, Ok, Err, refl, sym, ap, subst}
+use Rattle.std.proofs.Common.{ℕ, ◌≡◌, inl, inr, Bool, true, false, List, [], ◌∷◌, flat_map, map, length, None, Some, Result, Ok, Err, refl, sym, subst}
 use Rattle.std.specs.Prelude.{Vec}
 use Rattle.std.specs.Global.{Global}
 use Rattle.rewriting.specs.Prelude.{IsAmong, AreDistinct, System, IsSystem, apply, Term}
@@ -16,11 +16,12 @@ use Rattle.redex_conditions.specs.Redexes.{part_redexes, redexes}
 use Rattle.redex_conditions.proofs.Numbers.{AreBelow, same_redexes}
 use Rattle.redex_conditions.proofs.Parts.{AreAhead, ahead_first, ahead_rest, matches_in}
 use Rattle.redex_conditions.proofs.Places.{redexes_are}
-use Rattle.first_found.specs.Rows.{AreFirsts, HasNone, SomeHasNone}
+use Rattle.first_found.specs.Rows.{AreFirsts, HasNone}
 use Rattle.search_spaces.specs.PeakItems.{IsFirstRefuted}
 use Rattle.noncon_search.specs.Refuted.{RefutedAnswers}
 use Rattle.noncon_search.specs.Entries.{IsRefutedOn, IsUnrefutedOn, EntriesAnswer, RulesAnswer}
 use Rattle.noncon_search.proofs.Adding.{no_places, rest_added, first_fails}
+use Rattle.noncon_search.proofs.Moving.{some_none}
 use Rattle.noncon_search.proofs.AtRedexes.{refuted_there, unrefuted_there}
 
 -- an answer that says more
@@ -30,14 +31,6 @@ module _ (First Other : RedexPlace → Redex → ℕ → Type 0) where
   firsts_to [] (e ∷ es) n to h = absurd h
   firsts_to (r ∷ rs) [] n to h = absurd h
   firsts_to (r ∷ rs) (e ∷ es) n to (m, k, f, fs, is) = (m, k, to r (inl refl) e m f, firsts_to rs es k (λ x l. to x (inr l)) fs, is)
-
--- a place that has none is a row that has none
-unrefuted_row : (First : RedexPlace → Redex → ℕ → Type 0) (rs : List RedexPlace) (r : RedexPlace) → IsAmong r rs → HasNone First r → SomeHasNone First rs
-unrefuted_row First [] r at none = absurd at
-unrefuted_row First (x ∷ rs) r (inl e) none = record { before = []; row = x; behind = rs; split = refl; none = subst (HasNone First) e none }
-unrefuted_row First (x ∷ rs) r (inr at) none =
-    let rest = unrefuted_row First rs r at none in
-    record { before = x ∷ rest.before; row = rest.row; behind = rest.behind; split = ap (λ (z : List RedexPlace). x ∷ z) rest.split; none = rest.none }
 
 -- what is answered for places of a term
 abbrev TermAnswer : System → Term → List RedexPlace → List Redex → List Redex → Result Bool NoMemory → Type 0
@@ -106,7 +99,7 @@ module _ (sys : System) (row : List ℕ) (own : ℕ) (long : own ≡ length row)
     some_unrefuted after (r, at, none) = (
       all,
       same_redexes row distinct t n is below sys w all (redexes_are sys w n (well_formed sys good)),
-      unrefuted_row (IsFirstRefuted sys t t) all r at none,
+      some_none (IsFirstRefuted sys t t) all r at none,
     )
 
 -- a walk over the parts of the numbered term: these are left, and there are entries for the redexes of the others

@@ -14,23 +14,29 @@ use std::alloc::Global;
 use term_core::{NoMemory, Term};
 use validity::Search;
 
+// The earlier end of pairs, and the start that reaches it.
+#[derive(Clone, Copy)]
+struct First<'a> {
+    start: &'a Term,
+    end: &'a End<'a>,
+}
+
 // Tries two ends, for a unit.
 fn try_pair(
     alloc: Global,
     sys: &IndexedSystem<'_>,
     names: &Names,
-    start: &Term,
-    first: &End<'_>,
+    first: First<'_>,
     second: &End<'_>,
     budget: &mut Budget,
 ) -> Result<Search, NoMemory>
-    requires ends { AreEnds sys.now (view start.now) (first.now ∷ second.now ∷ []) }
-    ensures { WalkAnswers names.now sys.now (try_ends (view start.now) (end_view first.now) (end_view second.now) ∷ []) budget.old budget.new result }
+    requires ends { AreEnds sys.now (view first.start.now) (first.end.now ∷ second.now ∷ []) }
+    ensures { WalkAnswers names.now sys.now (try_ends (view first.start.now) (end_view first.end.now) (end_view second.now) ∷ []) budget.old budget.new result }
 {
     if !budget.take() {
         return Ok(Search::Spent);
     }
-    match candidate(alloc, sys, names, start, first, second)? {
+    match candidate(alloc, sys, names, first.start, first.end, second)? {
         Some(cert) => Ok(Search::Found(cert)),
         None => Ok(Search::Nothing),
     }
@@ -41,16 +47,15 @@ fn try_with(
     alloc: Global,
     sys: &IndexedSystem<'_>,
     names: &Names,
-    start: &Term,
-    first: &End<'_>,
+    first: First<'_>,
     later: &[End<'_>],
     budget: &mut Budget,
 ) -> Result<Search, NoMemory>
-    requires ends { AreEnds sys.now (view start.now) (first.now ∷ later.now) }
-    ensures { WalkAnswers names.now sys.now (pairs_with (view start.now) (end_view first.now) (ends_view later.now)) budget.old budget.new result }
+    requires ends { AreEnds sys.now (view first.start.now) (first.end.now ∷ later.now) }
+    ensures { WalkAnswers names.now sys.now (pairs_with (view first.start.now) (end_view first.end.now) (ends_view later.now)) budget.old budget.new result }
 {
     'later: for second in later {
-        match try_pair(alloc, sys, names, start, first, second, budget)? {
+        match try_pair(alloc, sys, names, first, second, budget)? {
             Search::Nothing => {}
             end => return Ok(end),
         }
@@ -70,9 +75,10 @@ pub fn try_pairs(
     requires ends { AreEnds sys.now (view start.now) ends.now }
     ensures { WalkAnswers names.now sys.now (pair_items (view start.now) (ends_view ends.now)) budget.old budget.new result }
 {
-    'firsts: for (i, first) in ends.iter().enumerate() {
+    'firsts: for (i, end) in ends.iter().enumerate() {
+        let first = First { start, end };
         let later = &ends[i + 1..];
-        match try_with(alloc, sys, names, start, first, later, budget)? {
+        match try_with(alloc, sys, names, first, later, budget)? {
             Search::Nothing => {}
             end => return Ok(end),
         }

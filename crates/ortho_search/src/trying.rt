@@ -1,5 +1,5 @@
 //! The items of one overlap, tried one after the other for a unit each, up to the first that gives valid evidence.
-ghost use Rattle.std.specs.Prelude.{ℕ, map};
+ghost use Rattle.std.specs.Prelude.{ℕ, ◌∷◌, [], map};
 ghost use Rattle.unifier_run.specs.Overlaps.{IsOverlapOf};
 ghost use Rattle.valid_certificates.specs.Kinds.{ortho};
 ghost use Rattle.critical_pairs.specs.View.{overlap_view};
@@ -45,7 +45,31 @@ fn try_item(
     }
 }
 
-// Tries the items in order, a unit each, up to the first that gives valid evidence.
+// Tries one item, for a unit.
+fn try_one(
+    alloc: Global,
+    sys: &PreparedSystem<'_>,
+    overlap: &Overlap,
+    item: Item,
+    budget: &mut Budget,
+    grown: &mut Grown,
+) -> Result<Sought<PairEvidence>, NoMemory>
+    requires overlap { IsOverlapOf sys.now (overlap_view overlap.now) }
+    requires knows { IsGrown grown.old sys.now }
+    ensures answer { WalkAnswers one (GivesEvidence ortho sys.now (overlap_view overlap.now)) (item_view item ∷ []) budget.old budget.new result }
+    ensures kept { (n : ℕ) × Spends budget.old n budget.new }
+    ensures knows { IsGrown grown.new sys.now }
+{
+    if !budget.take() {
+        return Ok(Sought::Spent);
+    }
+    match try_item(alloc, sys, overlap, item, grown)? {
+        Some(evidence) => Ok(Sought::Found(evidence)),
+        None => Ok(Sought::Nothing),
+    }
+}
+
+// Tries the items in order, up to the first that gives valid evidence.
 fn try_items(
     alloc: Global,
     sys: &PreparedSystem<'_>,
@@ -61,13 +85,9 @@ fn try_items(
     ensures knows { IsGrown grown.new sys.now }
 {
     'items: for item in items {
-        if !budget.take() {
-            return Ok(Sought::Spent);
-        }
-        match try_item(alloc, sys, overlap, *item, grown) {
-            Ok(Some(evidence)) => return Ok(Sought::Found(evidence)),
-            Ok(None) => {}
-            Err(e) => return Err(e),
+        match try_one(alloc, sys, overlap, *item, budget, grown)? {
+            Sought::Nothing => {}
+            end => return Ok(end),
         }
     }
     Ok(Sought::Nothing)

@@ -54,23 +54,28 @@ module _ {A : Type 0} (cost : A → ℕ) (Gives : A → math.PairEvidence → Ty
         (cost_of cost xs + n, spends_both a b c (cost_of cost xs) n s t, end, stopped_right Gives cost xs ys n none stopped)
     goes_behind c (Err e) h k = tt
 
-  -- items that are left of some: what a walk through them answers, one through all answers
-  abbrev pub Walking : List A → Counts → Counts → List A → Type 0
-  Walking items start here rest = (c : Counts) (r : Result (Sought PairEvidence) NoMemory) → WalkAnswers cost Gives rest here c r → WalkAnswers cost Gives items start c r
+-- items that are left of some: what a walk through them answers, one through all answers
+pub record Walking {A : Type 0} (cost : A → ℕ) (Gives : A → math.PairEvidence → Type 0) (items : List A) (start here : Counts) (rest : List A) : Type 0 where
+  pub whole : (c : Counts) (r : Result (Sought PairEvidence) NoMemory) → WalkAnswers cost Gives rest here c r → WalkAnswers cost Gives items start c r
 
-  module _ (items : List A) (start : Counts) where
-    pub begins : (rest : List A) → rest ≡ items → Walking items start start rest
-    begins rest e c r h = subst (λ z. WalkAnswers cost Gives z start c r) e h
+pub begins : {A : Type 0} {cost : A → ℕ} {Gives : A → math.PairEvidence → Type 0} {items rest : List A} {start : Counts} → rest ≡ items → Walking cost Gives items start start rest
+begins {cost = cost} {Gives = Gives} {start = start} e = record { whole = λ c r h. subst (λ z. WalkAnswers cost Gives z start c r) e h }
 
-    module _ (here next : Counts) (rest xs ys : List A) (w : Walking items start here rest) (split : rest ≡ xs ++ ys) where
-      -- the next of them gave nothing
-      pub goes_on : WalkAnswers cost Gives xs here next (Ok Nothing) → Walking items start next ys
-      goes_on h c r k = w c r (subst (λ z. WalkAnswers cost Gives z here c r) (sym split) (goes_behind xs ys here next c r h k))
+module _ {A : Type 0} {cost : A → ℕ} {Gives : A → math.PairEvidence → Type 0} {items : List A} {start here : Counts} {rest : List A} (w : Walking cost Gives items start here rest) where
+  module _ (next : Counts) (xs ys : List A) (split : rest ≡ xs ++ ys) (r : Sought PairEvidence) where
+    -- the next of them gave nothing
+    pub goes_on : r ≡ Nothing → WalkAnswers cost Gives xs here next (Ok r) → Walking cost Gives items start next ys
+    goes_on none h =
+        record {
+          whole = λ c s k.
+              w.whole c s (subst (λ z. WalkAnswers cost Gives z here c s) (sym split)
+              (goes_behind cost Gives xs ys here next c s (subst (λ z. WalkAnswers cost Gives xs here next (Ok z)) none h) k));
+        }
 
-      -- the walk ended in them
-      pub ends : (r : Sought PairEvidence) → (r ≡ Nothing → ⊥) → WalkAnswers cost Gives xs here next (Ok r) → WalkAnswers cost Gives items start next (Ok r)
-      ends r other h = w next (Ok r) (subst (λ z. WalkAnswers cost Gives z here next (Ok r)) (sym split) (ends_early xs ys here next r other h))
+    -- the walk ended in them
+    pub ends : (r ≡ Nothing → ⊥) → WalkAnswers cost Gives xs here next (Ok r) → WalkAnswers cost Gives items start next (Ok r)
+    ends other h = w.whole next (Ok r) (subst (λ z. WalkAnswers cost Gives z here next (Ok r)) (sym split) (ends_early cost Gives xs ys here next r other h))
 
-    -- nothing is left
-    pub finishes : (here : Counts) (rest : List A) → Walking items start here rest → rest ≡ [] → WalkAnswers cost Gives items start here (Ok Nothing)
-    finishes here rest w e = w here (Ok Nothing) (subst (λ z. WalkAnswers cost Gives z here here (Ok Nothing)) (sym e) (spends_none here, tt))
+  -- nothing is left
+  pub finishes : rest ≡ [] → WalkAnswers cost Gives items start here (Ok Nothing)
+  finishes e = w.whole here (Ok Nothing) (subst (λ z. WalkAnswers cost Gives z here here (Ok Nothing)) (sym e) (spends_none here, tt))

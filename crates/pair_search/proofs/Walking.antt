@@ -92,6 +92,3 @@ module _ (First : math.Overlap → certificates.PairEntry → ℕ → Type 0) wh
         up_to = refl;
       },
     )
-
-    pub kept_more : (n : ℕ) × Spends here n after → (n : ℕ) × Spends start n after
-    kept_more (m, unit) = (far.0 + m, spends_both start here after far.0 m far.1 unit)

@@ -1,7 +1,7 @@
 -- How the searches of the last system end behind the steps.
 use Rattle.std.proofs.Common.{ℕ, ◌≡◌, List, map, Vec, Global, Result, Ok, Err, IfOk, refl, sym, subst}
 use Rattle.rewriting.specs.Rules.{System}
-use Rattle.certificates.specs.Certificates.{Simplification, Certificate, simplified_certificate}
+use Rattle.certificates.specs.Certificates.{Simplification, Certificate}
 use Rattle.cert_model.specs.CertificateView.{simp_view, certificate_view}
 use Rattle.cert_model.specs.declared.model.Simp.{Simp}
 use Rattle.cops_names.specs.NameTable.{NameTable}
@@ -9,10 +9,10 @@ use Rattle.term_core.specs.declared.terms.NoMemory.{NoMemory}
 use Rattle.validity.specs.declared.Search.{Search}
 use Rattle.validity.specs.declared.Search.TheVariants as search
 use Rattle.cc_count.specs.Counts.{Counts}
-use Rattle.first_found.specs.Spaces.{Ending, found, nothing, spent, MayEnd, MayEndExactly}
+use Rattle.first_found.specs.Spaces.{Space, Ending, found, nothing, spent, MayEnd, MayEndExactly}
+use Rattle.first_found.proofs.Spaces.{first_found, first_spent}
 use Rattle.search_answers.specs.Answers.{Searches, ending_of}
 use Rattle.search_answers.proofs.OrElse.{stands, or_else}
-use Rattle.search_spaces.specs.Texts.{HasText}
 use Rattle.search_spaces.specs.Ortho.{ortho_space}
 use Rattle.search_spaces.specs.Peak.{peak_space}
 use Rattle.quasi_space.specs.Endings.{MayEndLast}
@@ -31,16 +31,13 @@ not_nothing Spent other e = cc
 
 module _ (names : NameTable) (steps : List Simplification) where
   -- a search of the last system that ends so, ends otherwise behind the steps
-  module _ (Ends Behinds : ℕ → ℕ → Ending Certificate → Type 0)
-      (kept : (left n : ℕ) (c : Certificate) → Ends left n (found c) → HasText names (simplified_certificate steps c) → Behinds left n (found (simplified_certificate steps c)))
-      (lost : (left n : ℕ) (c : Certificate) → Ends left n (found c) → (HasText names (simplified_certificate steps c) → ⊥) → Behinds left n nothing)
-      (none : (left n : ℕ) → Ends left n nothing → Behinds left n nothing) (out : (left n : ℕ) → Ends left n spent → Behinds left n spent) where
+  module _ (Ends Behinds : ℕ → ℕ → Ending Certificate → Type 0) (by : behind.StandsBehind names steps Ends Behinds) where
     ends : (left n : ℕ) (answer : Search) (b : Behind) → AnswersBehind names steps answer (Ok b) → Ends left n (ending_of answer) → Behinds left n (behind_ending b)
-    ends left n (search.Found body) (Found c) (is, text) h = subst (λ z. Behinds left n (found z)) (sym is) (kept left n (certificate_view body) h text)
-    ends left n (search.Found body) (Nothing again) (same, unwritten) h = lost left n (certificate_view body) h unwritten
+    ends left n (search.Found body) (Found c) (is, text) h = subst (λ z. Behinds left n (found z)) (sym is) (by.kept left n (certificate_view body) h text)
+    ends left n (search.Found body) (Nothing again) (same, unwritten) h = by.lost left n (certificate_view body) h unwritten
     ends left n (search.Found body) Spent a h = absurd a
-    ends left n search.Nothing b (is, same) h = subst (Behinds left n) (sym is) (none left n h)
-    ends left n search.Spent b is h = subst (Behinds left n) (sym is) (out left n h)
+    ends left n search.Nothing b (is, same) h = subst (Behinds left n) (sym is) (by.none left n h)
+    ends left n search.Spent b is h = subst (Behinds left n) (sym is) (by.out left n h)
 
     ends_behind : (before after : Counts) (answer : Search) (r : Result Behind NoMemory) → Searches ending_of Ends before after (Ok answer) → AnswersBehind names steps answer r
         → Searches behind_ending Behinds before after r
@@ -65,11 +62,17 @@ module _ (names : NameTable) (steps : List Simplification) where
   hands_on v same r h = subst (λ ss. IfOk r (HandsBack ss)) same h
 
   module _ (last : System) where
+    abbrev ortho : Space Certificate
+    ortho = with_steps names steps (ortho_space names last)
+
+    abbrev peak : Space Certificate
+    peak = with_steps names steps (peak_space names last)
+
     abbrev Ortho : ℕ → ℕ → Ending Certificate → Type 0
-    Ortho = MayEnd (with_steps names steps (ortho_space names last))
+    Ortho = MayEnd ortho
 
     abbrev Peak : ℕ → ℕ → Ending Certificate → Type 0
-    Peak = MayEnd (with_steps names steps (peak_space names last))
+    Peak = MayEnd peak
 
     abbrev Two : ℕ → ℕ → Ending Certificate → Type 0
     Two = MayEnd (two_with_steps names steps last)
@@ -82,28 +85,24 @@ module _ (names : NameTable) (steps : List Simplification) where
 
     module _ (before after : Counts) (answer : Search) (r : Result Behind NoMemory) where
       pub ortho_behind : Searches ending_of (MayEndExactly (ortho_space names last)) before after (Ok answer) → AnswersBehind names steps answer r → Searches behind_ending Ortho before after r
-      ortho_behind =
-          ends_behind (MayEndExactly (ortho_space names last)) Ortho (behind.ortho_kept names steps last) (behind.ortho_lost names steps last) (behind.ortho_nothing names steps last)
-          (behind.ortho_spent names steps last) before after answer r
+      ortho_behind = ends_behind (MayEndExactly (ortho_space names last)) Ortho (behind.ortho_behind names steps last) before after answer r
 
       pub peak_behind : Searches ending_of (MayEndExactly (peak_space names last)) before after (Ok answer) → AnswersBehind names steps answer r → Searches behind_ending Peak before after r
-      peak_behind =
-          ends_behind (MayEndExactly (peak_space names last)) Peak (behind.peak_kept names steps last) (behind.peak_lost names steps last) (behind.peak_nothing names steps last)
-          (behind.peak_spent names steps last) before after answer r
+      peak_behind = ends_behind (MayEndExactly (peak_space names last)) Peak (behind.peak_behind names steps last) before after answer r
 
       pub quasi_behind : Searches ending_of (MayEndLast (quasi_space_by (pruned_measures last) names last)) before after (Ok answer) → AnswersBehind names steps answer r
           → Searches behind_ending Last before after r
-      quasi_behind =
-          ends_behind (MayEndLast (quasi_space_by (pruned_measures last) names last)) Last (behind.quasi_kept names steps last) (behind.quasi_lost names steps last)
-          (behind.quasi_nothing names steps last) (behind.quasi_spent names steps last) before after answer r
+      quasi_behind = ends_behind (MayEndLast (quasi_space_by (pruned_measures last) names last)) Last (behind.quasi_behind names steps last) before after answer r
 
     -- one behind the other
     module _ (before here : Counts) where
       pub two_stand : (b : Behind) → ((v : Vec Simp Global) → b ≡ Nothing v → ⊥) → Searches behind_ending Ortho before here (Ok b) → Searches behind_ending Two before here (Ok b)
-      two_stand b other = stands behind_ending Ortho Two (behind.first_ends_two names steps last) (behind.first_spends_two names steps last) before here b (not_nothing b other)
+      two_stand b other = stands behind_ending Ortho Two (first_found ortho peak) (first_spent ortho peak) before here b (not_nothing b other)
 
       pub three_stand : (b : Behind) → ((v : Vec Simp Global) → b ≡ Nothing v → ⊥) → Searches behind_ending Two before here (Ok b) → Searches behind_ending Three before here (Ok b)
-      three_stand b other = stands behind_ending Two Three (behind.two_end_three names steps last) (behind.two_spend_three names steps last) before here b (not_nothing b other)
+      three_stand b other =
+          stands behind_ending Two Three (first_found (two_with_steps names steps last) (quasi_with_steps names steps last))
+          (first_spent (two_with_steps names steps last) (quasi_with_steps names steps last)) before here b (not_nothing b other)
 
       -- the steps that were handed back are the same
       module _ (after : Counts) (v : Vec Simp Global) (same : HandsBack steps (Nothing v)) (r : Result Behind NoMemory) where

@@ -186,22 +186,29 @@ fn search_three_behind(
     }
 }
 
+// Steps, and the system that they leave.
+#[derive(Drop)]
+struct Simplified {
+    steps: Vec<Simp>,
+    last: System,
+}
+
 // All three, over the last system, prepared once, and one list of overlaps, which has what is known from the system before the steps.
 fn search_last_system(
     alloc: Global,
     sys: &System,
     known: Option<Vec<Overlap>>,
-    last: &System,
     names: &Names,
-    steps: Vec<Simp>,
+    simplified: Simplified,
     budget: &mut Budget,
 ) -> Result<Behind, NoMemory>
     requires known { HasOverlaps sys.now known }
-    requires steps { AllSimplify sys.now (map simp_view steps.items) last.now }
-    ensures searched { Searches behind_ending (MayEndLast (three_with_steps pruned_measures names.now (map simp_view steps.items) last.now)) budget.old budget.new result }
+    requires steps { AllSimplify sys.now (map simp_view simplified.steps.items) simplified.last }
+    ensures searched { Searches behind_ending (MayEndLast (three_with_steps pruned_measures names.now (map simp_view simplified.steps.items) simplified.last)) budget.old budget.new result }
     ensures kept { (n : ℕ) × Spends budget.old n budget.new }
 {
-    let indexed = IndexedSystem::new(alloc, last)?;
+    let Simplified { steps, last } = simplified;
+    let indexed = IndexedSystem::new(alloc, &last)?;
     let prepared = PreparedSystem::new(alloc, indexed)?;
     let found = overlaps_behind(alloc, sys, known, &steps, &prepared)?;
     search_three_behind(alloc, &prepared, names, found.as_deref(), steps, budget)
@@ -236,7 +243,14 @@ pub fn search_simplified(
             if steps.is_empty() {
                 return Ok(Outcome::Exhausted);
             }
-            let end = search_last_system(alloc, sys, known, &last, names, steps, budget)?;
+            let end = search_last_system(
+                alloc,
+                sys,
+                known,
+                names,
+                Simplified { steps, last },
+                budget,
+            )?;
             Ok(outcome_of(end))
         }
         Ok(SimpSearch::Spent) => Ok(Outcome::Spent),

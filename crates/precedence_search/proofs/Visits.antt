@@ -13,44 +13,50 @@ use Rattle.precedence_search.specs.Walks.{HasComeTo, HasDoneWith, GoesDown, Goes
 use Rattle.precedence_search.proofs.Walking.{begin, done_with_barren, found_there, is_alive_before, stops_there}
 
 -- the walk came to these symbols for what was paid
-abbrev pub HasPaidTo : System → Counts → Counts → Precedence → Type 0
-HasPaidTo sys start here order = (n : ℕ) × Spends start n here × HasComeTo sys order n
+pub record HasPaidTo (sys : System) (start here : Counts) (order : Precedence) : Type 0 where
+  pub units : ℕ
+  pub spends : Spends start units here
+  pub came_to : HasComeTo sys order units
 
 pub at_start : (sys : System) (start : Counts) (order : Precedence) → order ≡ [] → HasPaidTo sys start start order
-at_start sys start order e = (0, spends_none start, subst (λ (z : Precedence). HasComeTo sys z 0) (sym e) (begin sys))
+at_start sys start order e = record { units = 0; spends = spends_none start; came_to = subst (λ (z : Precedence). HasComeTo sys z 0) (sym e) (begin sys) }
 
-pub alive_before : (sys : System) (start here : Counts) (order : Precedence) → HasPaidTo sys start here order → IsAliveBefore sys order
-alive_before sys start here order far = is_alive_before sys order far.0 far.2
+module _ {sys : System} {start here : Counts} {order : Precedence} (far : HasPaidTo sys start here order) where
+  pub alive_before : IsAliveBefore sys order
+  alive_before = is_alive_before sys order far.units far.came_to
 
-module _ (sys : System) (start here after : Counts) (order : Precedence) (far : HasPaidTo sys start here order) where
-  pub paid_down : (IsDead sys order → ⊥) → after ≡ here → (longer : Precedence) → GoesDown sys order longer → HasPaidTo sys start after longer
-  paid_down alive same longer goes = (far.0, subst (λ (b : Counts). Spends start far.0 b) (sym same) far.1, goes.1 far.0 far.2 alive)
+  module _ {after : Counts} (same : after ≡ here) where
+    none_paid : Spends start far.units after
+    none_paid = subst (λ (b : Counts). Spends start far.units b) (sym same) far.spends
 
-  pub unspent : after ≡ here → (n : ℕ) × Spends start n after
-  unspent same = (far.0, subst (λ (b : Counts). Spends start far.0 b) (sym same) far.1)
+    pub paid_down : (IsDead sys order → ⊥) → (longer : Precedence) → GoesDown sys order longer → HasPaidTo sys start after longer
+    paid_down alive longer goes = record { units = far.units; spends = none_paid; came_to = goes.1 far.units far.came_to alive }
 
-  module _ (unit : Spends here 1 after) where
-    one_paid : Spends start (far.0 + 1) after
-    one_paid = spends_both start here after far.0 1 far.1 unit
+    pub unspent : (n : ℕ) × Spends start n after
+    unspent = (far.units, none_paid)
+
+    pub stopped : IsDead sys order ⊎ (length order ≡ length (heads sys)) → here.left ≡ 0 → (n : ℕ) × Spends start n after × (after.left ≡ 0) × PrunedStops sys n
+    stopped seen none = (far.units, none_paid, ap (λ (b : Counts). b.left) same ∙ none, stops_there sys order far.units far.came_to seen)
+
+  module _ {after : Counts} (unit : Spends here 1 after) where
+    one_paid : Spends start (far.units + 1) after
+    one_paid = spends_both start here after far.units 1 far.spends unit
 
     pub still_kept : (n : ℕ) × Spends start n after
-    still_kept = (far.0 + 1, one_paid)
+    still_kept = (far.units + 1, one_paid)
 
     module _ (seen : IsDead sys order) where
-      done : HasDoneWith sys order (far.0 + 1)
-      done = done_with_barren sys order far.0 far.2 seen
+      done : HasDoneWith sys order (far.units + 1)
+      done = done_with_barren sys order far.units far.came_to seen
 
       pub none_good : ((n : ℕ) → HasDoneWith sys order n → IsPrunedBarren sys n) → (n : ℕ) × Spends start n after × IsNoneGood sys n
-      none_good ends = (far.0 + 1, one_paid, inl (ends (far.0 + 1) done))
+      none_good ends = (far.units + 1, one_paid, inl (ends (far.units + 1) done))
 
       pub paid_on : (next : Precedence) → ((n : ℕ) → HasDoneWith sys order n → HasComeTo sys next n) → HasPaidTo sys start after next
-      paid_on next goes = (far.0 + 1, one_paid, goes (far.0 + 1) done)
+      paid_on next goes = record { units = far.units + 1; spends = one_paid; came_to = goes (far.units + 1) done }
 
     pub first_good : DoesUnravelingFit sys → length order ≡ length (heads sys) → IsGood sys order → (n : ℕ) × Spends start n after × IsPrunedFirst sys (precedence_measure order) n
-    first_good fit whole good = (far.0 + 1, one_paid, found_there sys order far.0 far.2 whole (fit, good))
-
-  pub stopped : IsDead sys order ⊎ (length order ≡ length (heads sys)) → here.left ≡ 0 → after ≡ here → (n : ℕ) × Spends start n after × (after.left ≡ 0) × PrunedStops sys n
-  stopped seen none same = (far.0, subst (λ (b : Counts). Spends start far.0 b) (sym same) far.1, ap (λ (b : Counts). b.left) same ∙ none, stops_there sys order far.0 far.2 seen)
+    first_good fit whole good = (far.units + 1, one_paid, found_there sys order far.units far.came_to whole (fit, good))
 
 -- what a visit needs of the lists of an unraveled system
 pub sound_of : (sys system : System) (hs : List Head) (rs : List Rule) → system ≡ unraveled sys → hs ≡ heads sys → rs ≡ system.rules → IsSystem system → IsSoundOf sys hs rs

@@ -1,5 +1,5 @@
 -- Listings that were made, and those that could not be paid.
-use Rattle.std.proofs.Common.{ℕ, ◌≡◌, ◌<◌, List, [], ◌∷◌, Vec, Global, Option, None, Some, Result, Ok, refl, sym, subst}
+use Rattle.std.proofs.Common.{◌≡◌, ◌<◌, List, [], ◌∷◌, Vec, Global, Option, None, Some, Result, Ok, refl, sym, subst}
 use Rattle.rewriting.specs.Prelude.{Term, Fits, Condition, System}
 use Rattle.unifier_run.specs.Overlaps.{Overlap}
 use Rattle.cc_count.specs.Counts.{Counts, Spends}
@@ -37,9 +37,6 @@ module _ (sys : System) (o : Overlap) (t : Term) (a b : Counts) where
   listing_made rest l (is, s) c r h =
       goes_behind quasi_item_cost (GivesQuasi sys o) (item ∷ []) rest a b c r (item_bare quasi_item_cost (GivesQuasi sys o) item a b s (λ e g. g.0)) h
 
-  pub made_kept : (l : Vec Entry Global) → ListedAnswers sys o t a b (Ok (Some l)) → (n : ℕ) × Spends a n b
-  made_kept l (is, s) = (listing_cost sys o.pair.conditions t, s)
-
   module _ (f : Option (Vec Entry Global)) (other : (l : Vec Entry Global) → f ≡ Some l → ⊥) (h : ListedAnswers sys o t a b (Ok f)) where
     too_dear : (a.left < listing_cost sys o.pair.conditions t) × Spends a a.left b
     too_dear = go f other h
@@ -51,6 +48,3 @@ module _ (sys : System) (o : Overlap) (t : Term) (a b : Counts) where
 
     pub listing_stops : (rest : List QuasiItem) → WalkAnswers quasi_item_cost (GivesQuasi sys o) (item ∷ rest) a b (Ok Spent)
     listing_stops rest = item_is_dear quasi_item_cost (GivesQuasi sys o) item a b rest too_dear.0 too_dear.1
-
-    pub stopped_kept : (n : ℕ) × Spends a n b
-    stopped_kept = (a.left, too_dear.1)

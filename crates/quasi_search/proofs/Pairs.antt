@@ -71,8 +71,8 @@ module _ {A : Type 0} (P : A → Type 0) where
   each_behind (y ∷ xs) (suc i) each = each_behind xs i each.1
 
 -- a slice from a place on
-pub slice_is : {A : Type 0} (xs : List A) (k : ℕ) → take (length xs - k) (drop k xs) ≡ drop k xs
-slice_is xs k = take_all (length xs - k) (drop k xs) (let long = length-drop k xs in omega (arith, long))
+pub slice_rest : {A : Type 0} (xs : List A) (k : ℕ) → take (length xs - k) (drop k xs) ≡ drop k xs
+slice_rest xs k = take_all (length xs - k) (drop k xs) (let long = length-drop k xs in omega (arith, long))
 
 -- the pairs that are left
 module _ (k : ℕ) where

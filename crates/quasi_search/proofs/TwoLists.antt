@@ -37,14 +37,14 @@ module _ (sys : System) where
     no_interpretation m k f = by none
       where
         by : grid_search.IsNoneGood sys u → ⊥
-        by (inl barren) = of_grid.first_or_barren sys m u k barren f
+        by (inl barren) = (of_grid.comes_to_one sys).first_or_barren m u k barren f
         by (inr (free, large)) = large (grid_fits m k f)
 
     no_more : (i : ℕ) → grid.IsPrunedBarren sys i → u ≤ i
     no_more i other = by none
       where
         by : grid_search.IsNoneGood sys u → u ≤ i
-        by (inl barren) = let same = of_grid.whole_once sys u i (inr barren) (inr other) in omega (arith, same)
+        by (inl barren) = let same = (of_grid.comes_to_one sys).barren_once u i barren other in omega (arith, same)
         by (inr (free, large)) = omega (arith, free)
 
     first_behind : (m : MeasureCertificate) (n : ℕ) → path.IsPrunedFirst sys m n → IsPrunedFirst sys m (u + n)
@@ -58,7 +58,7 @@ module _ (sys : System) where
     none_behind n h = record { none = λ m k f. never m k f h; within = λ k w. within k w h }
       where
         no_precedence : (m : MeasureCertificate) (k : ℕ) → path.IsPrunedFirst sys m k → path_search.IsNoneGood sys n → ⊥
-        no_precedence m k f (inl barren) = of_path.first_or_barren sys m n k barren f
+        no_precedence m k f (inl barren) = (of_path.comes_to_one sys).first_or_barren m n k barren f
         no_precedence m k f (inr (free, large)) = large (path_fits m k f)
 
         never : (m : MeasureCertificate) (k : ℕ) → IsPrunedFirst sys m k → path_search.IsNoneGood sys n → ⊥
@@ -66,7 +66,7 @@ module _ (sys : System) where
         never m k (inr (i, j, barren, f, sum)) h = no_precedence m j f h
 
         least : (j : ℕ) → path.IsPrunedBarren sys j → path_search.IsNoneGood sys n → n ≤ j
-        least j other (inl barren) = let same = of_path.whole_once sys n j (inr barren) (inr other) in omega (arith, same)
+        least j other (inl barren) = let same = (of_path.comes_to_one sys).barren_once n j barren other in omega (arith, same)
         least j other (inr (free, large)) = omega (arith, free)
 
         within : (k : ℕ) → IsPrunedWhole sys k → path_search.IsNoneGood sys n → u + n ≤ k

@@ -2,12 +2,19 @@
 use Rattle.std.specs.Prelude.{ℕ, ◌≡◌, false, List, ◌∷◌, ◌++◌, map, Option, None, Some, Result, Ok, Err, Vec}
 use Rattle.std.specs.Borrow.{Bor}
 use Rattle.std.specs.Global.{Global}
-use Rattle.rewriting.specs.Terms.{Term}
+use Rattle.rewriting.specs.Prelude.{Term, System}
+use Rattle.unifier_run.specs.Overlaps.{Overlap}
 use Rattle.term_core.specs.View.{view}
 use Rattle.term_core.specs.declared.terms.NoMemory.{NoMemory}
+use Rattle.cert_model.specs.declared.evidence.PairEvidence.{PairEvidence}
+use Rattle.cc_count.specs.Counts.{Counts}
+use Rattle.cc_count.specs.declared.Sought.{Sought}
 use Rattle.reach_lists.specs.Solutions as math
 use Rattle.reach_lists.specs.Laws.{EachOf}
 use Rattle.reach_lists.specs.Lists.{is_listed}
+use Rattle.search_spaces.specs.Listings.{listing}
+use Rattle.pair_search.specs.Answers.{WalkAnswers}
+use Rattle.quasi_space.specs.QuasiItems.{quasi_item_cost, GivesQuasi, joins}
 use Rattle.reach.specs.Keys.{cells}
 use Rattle.reach.specs.EntryView.{entry_view}
 use Rattle.reach.specs.declared.listed.Entry.{Entry}
@@ -46,3 +53,9 @@ abbrev pub SharedAnswers : List math.Reached → List math.Reached → Result (O
 SharedAnswers xs ys (Ok (Some p)) = IsFirstShared xs ys (entry_view p.0.now) (entry_view p.1.now)
 SharedAnswers xs ys (Ok None) = ShareNone xs ys
 SharedAnswers xs ys (Err e) = Unit {0}
+
+-- in the listings of the sides of an overlap: what the first of their joins gives, for nothing
+abbrev pub JoinAnswers : List math.Reached → List math.Reached → Result (Sought PairEvidence) NoMemory → Type 0
+JoinAnswers left right r =
+    (sys : System) (o : Overlap) (a : Counts) → left ≡ listing sys o.pair.conditions o.pair.left → right ≡ listing sys o.pair.conditions o.pair.right
+    → WalkAnswers quasi_item_cost (GivesQuasi sys o) (joins (listing sys o.pair.conditions o.pair.left) (listing sys o.pair.conditions o.pair.right)) a a r

@@ -13,7 +13,7 @@ ghost use Rattle.reach.specs.Parts.{DoAllFit};
 ghost use Rattle.reach.specs.EntryView.{entry_view, table_view};
 ghost use Rattle.pair_search.specs.Answers.{WalkAnswers};
 ghost use Rattle.quasi_space.specs.QuasiItems.{quasi_item_cost, GivesQuasi, join_items};
-ghost use Rattle.quasi_search.specs.Joins.{IsIndexOf, FindAnswers, SharedAnswers};
+ghost use Rattle.quasi_search.specs.Joins.{IsIndexOf, FindAnswers, SharedAnswers, JoinAnswers};
 
 use crate::listed::listed_under;
 use cc_count::{Budget, Sought};
@@ -80,6 +80,23 @@ fn joined(alloc: Global, first: &Entry, second: &Entry) -> Result<PairEvidence, 
     })
 }
 
+// The evidence of the first term that is on both lists.
+fn try_shared(
+    alloc: Global,
+    left: &[Entry],
+    right: &[Entry],
+) -> Result<Sought<PairEvidence>, NoMemory>
+    requires left { DoAllFit (table_view left.now) }
+    requires right { DoAllFit (table_view right.now) }
+    requires once { IsWithoutRepetition (table_view right.now) }
+    ensures { JoinAnswers (table_view left.now) (table_view right.now) result }
+{
+    match first_shared(alloc, left, right)? {
+        Some((first, second)) => Ok(Sought::Found(joined(alloc, first, second)?)),
+        None => Ok(Sought::Nothing),
+    }
+}
+
 /// Lists the terms that the left side leads to, then those that the right side leads to, and takes the first shared one.
 pub fn try_joins(
     alloc: Global,
@@ -97,8 +114,5 @@ pub fn try_joins(
     let Some(right) = listed_under(alloc, sys, overlap, &overlap.right, budget)? else {
         return Ok(Sought::Spent);
     };
-    match first_shared(alloc, &left, &right)? {
-        Some((first, second)) => Ok(Sought::Found(joined(alloc, first, second)?)),
-        None => Ok(Sought::Nothing),
-    }
+    try_shared(alloc, &left, &right)
 }

@@ -1,8 +1,10 @@
 //! Terms that a term leads to under the conditions of an overlap, which are taken as hypotheses.
+ghost use Rattle.std.specs.Prelude.{ℕ};
 ghost use Rattle.rewriting.specs.Terms as math;
 ghost use Rattle.unifier_run.specs.Overlaps.{IsOverlapOf};
 ghost use Rattle.term_core.specs.View.{view};
 ghost use Rattle.critical_pairs.specs.View.{overlap_view};
+ghost use Rattle.cc_count.specs.Counts.{Spends};
 ghost use Rattle.quasi_search.specs.Listed.{ListedAnswers};
 
 use cc_count::Budget;
@@ -24,7 +26,8 @@ pub fn listed_under(
 ) -> Result<Option<Vec<Entry>>, NoMemory>
     requires overlap { IsOverlapOf sys.now (overlap_view overlap.now) }
     requires start { math.Fits (view start.now) }
-    ensures { ListedAnswers sys.now (overlap_view overlap.now) (view start.now) budget.old budget.new result }
+    ensures answer { ListedAnswers sys.now (overlap_view overlap.now) (view start.now) budget.old budget.new result }
+    ensures kept { (n : ℕ) × Spends budget.old n budget.new }
 {
     // That conditions are few is known of the rules of a system.
     let _rules = sys.rules();

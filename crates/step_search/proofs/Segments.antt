@@ -1,5 +1,6 @@
 -- Walks over parts of a list of tries, one after the other.
-use Rattle.std.proofs.Common.{◌≡◌, ◌+◌, refl, sym, ap, ◌∙◌, subst, List, [], ◌∷◌, ◌++◌, Some, None, Ok, Err, arith, append_assoc}
+use Rattle.std.proofs.Common.{ℕ, ◌≡◌, ◌+◌, ◌≤◌, refl, sym, ap, ◌∙◌, subst, List, [], ◌∷◌, ◌++◌, Some, None, Result, Ok, Err, IsErr, arith, append_assoc}
+use Rattle.std.proofs.lemmas.Bool.{false≢true}
 use Rattle.rewriting.specs.Rules.{System}
 use Rattle.cc_count.specs.Counts.{Counts, Spends}
 use Rattle.cc_count.proofs.Spending.{spends_none, spends_both}
@@ -9,6 +10,7 @@ use Rattle.term_core.specs.declared.terms.NoMemory.{NoMemory}
 use Rattle.simplified_spaces.specs.Tries.{Try, GivesStep}
 use Rattle.step_search.specs.Answers.{TryAnswers, WalkAnswers}
 use Rattle.step_search.specs.declared.tries.Made.{Made}
+use Rattle.cc_count.specs.declared.Sought.{Sought}
 use Rattle.cc_count.specs.declared.Sought.TheVariants.{Found, Nothing, Spent}
 
 -- these tries gave nothing, and were paid
@@ -40,63 +42,70 @@ module _ (sys : System) (t : Try) (start end : Counts) where
     one_fails e = (1, paid, omega arith)
 
 -- a walk over some tries behind those that gave nothing
-module _ (sys : System) (all done mid rest : List Try) (start here end : Counts) (split : all ≡ done ++ (mid ++ rest)) (so_far : SoFar sys done start here) where
+module _ {sys : System} {done : List Try} {start here : Counts} (so_far : SoFar sys done start here) where
   -- so many units for a part of the middle
   whole_cost : (before : List Try) → cost_of one (done ++ before) ≡ cost_of one done + cost_of one before
   whole_cost before = cost_append one done before
 
-  split_in : (before behind : List Try) (t : Try) → mid ≡ before ++ t ∷ behind → all ≡ (done ++ before) ++ t ∷ (behind ++ rest)
-  split_in before behind t e =
-      split ∙ ap (λ z. done ++ (z ++ rest)) e ∙ ap (λ z. done ++ z) (append_assoc before (t ∷ behind) rest) ∙ sym (append_assoc done before (t ∷ (behind ++ rest)))
+  module _ (end : Counts) (all mid rest : List Try) (split : all ≡ done ++ (mid ++ rest)) where
+    split_in : (before behind : List Try) (t : Try) → mid ≡ before ++ t ∷ behind → all ≡ (done ++ before) ++ t ∷ (behind ++ rest)
+    split_in before behind t e =
+        split ∙ ap (λ z. done ++ (z ++ rest)) e ∙ ap (λ z. done ++ z) (append_assoc before (t ∷ behind) rest) ∙ sym (append_assoc done before (t ∷ (behind ++ rest)))
 
-  pub part_given : (m : Made) → WalkAnswers sys mid here end (Ok (Found m)) → WalkAnswers sys all start end (Ok (Found m))
-  part_given m (change, (n, paid, f)) = (
-    change,
-    (
+    both_paid : (n : ℕ) → Spends here n end → Spends start (cost_of one done + n) end
+    both_paid n paid = spends_both start here end (cost_of one done) n so_far.paid paid
+
+    pub part_ends : (r : Sought Made) → (r ≡ Nothing → ⊥) → WalkAnswers sys mid here end (Ok r) → WalkAnswers sys all start end (Ok r)
+    part_ends (Found m) other (change, (n, paid, f)) = (
+      change,
+      (
+        cost_of one done + n,
+        both_paid n paid,
+        record {
+          before = done ++ f.before;
+          item = f.item;
+          behind = f.behind ++ rest;
+          split = split_in f.before f.behind f.item f.split;
+          none = none_append (GivesStep sys) done f.before so_far.none f.none;
+          gives = f.gives;
+          up_to = let sum = whole_cost f.before in let e = f.up_to in omega (arith, sum, e);
+        },
+      ),
+    )
+    part_ends Nothing other h = absurd (other refl)
+    part_ends Spent other (n, paid, none, f) = (
       cost_of one done + n,
-      spends_both start here end (cost_of one done) n so_far.paid paid,
+      both_paid n paid,
+      none,
       record {
         before = done ++ f.before;
         item = f.item;
         behind = f.behind ++ rest;
         split = split_in f.before f.behind f.item f.split;
         none = none_append (GivesStep sys) done f.before so_far.none f.none;
-        gives = f.gives;
-        up_to = let sum = whole_cost f.before in let e = f.up_to in omega (arith, sum, e);
+        short = let sum = whole_cost f.before in let e = f.short in omega (arith, sum, e);
       },
-    ),
-  )
+    )
 
-  pub part_stops : WalkAnswers sys mid here end (Ok Spent) → WalkAnswers sys all start end (Ok Spent)
-  part_stops (n, paid, none, f) = (
-    cost_of one done + n,
-    spends_both start here end (cost_of one done) n so_far.paid paid,
-    none,
-    record {
-      before = done ++ f.before;
-      item = f.item;
-      behind = f.behind ++ rest;
-      split = split_in f.before f.behind f.item f.split;
-      none = none_append (GivesStep sys) done f.before so_far.none f.none;
-      short = let sum = whole_cost f.before in let e = f.short in omega (arith, sum, e);
-    },
-  )
+    pub part_fails : (r : Result (Sought Made) NoMemory) → IsErr r → (n : ℕ) × Spends here n end × (n ≤ cost_of one mid) → WalkAnswers sys all start end r
+    part_fails (Ok x) is h = absurd (false≢true is)
+    part_fails (Err e) is (n, paid, less) = (
+      cost_of one done + n,
+      both_paid n paid,
+      let sum : cost_of one all ≡ cost_of one done + (cost_of one mid + cost_of one rest) =
+          ap (cost_of one) split ∙ cost_append one done (mid ++ rest) ∙ ap (λ z. cost_of one done + z) (cost_append one mid rest) in omega (arith, sum, less),
+    )
 
-  pub part_fails : (e : NoMemory) → WalkAnswers sys mid here end (Err e) → WalkAnswers sys all start end (Err e)
-  part_fails e (n, paid, less) = (
-    cost_of one done + n,
-    spends_both start here end (cost_of one done) n so_far.paid paid,
-    let sum : cost_of one all ≡ cost_of one done + (cost_of one mid + cost_of one rest) =
-        ap (cost_of one) split ∙ cost_append one done (mid ++ rest) ∙ ap (λ z. cost_of one done + z) (cost_append one mid rest) in omega (arith, sum, less),
-  )
+    pub part_done : (r : Sought Made) → r ≡ Nothing → WalkAnswers sys mid here end (Ok r) → SoFar sys (done ++ mid) start end
+    part_done r is h = nothing_more (subst (λ z. WalkAnswers sys mid here end (Ok z)) is h)
+      where
+        nothing_more : WalkAnswers sys mid here end (Ok Nothing) → SoFar sys (done ++ mid) start end
+        nothing_more (paid, none) =
+            record {
+              none = none_append (GivesStep sys) done mid so_far.none none;
+              paid = subst (λ z. Spends start z end) (sym (whole_cost mid)) (both_paid (cost_of one mid) paid);
+            }
 
-  pub part_done : WalkAnswers sys mid here end (Ok Nothing) → SoFar sys (done ++ mid) start end
-  part_done (paid, none) =
-      record {
-        none = none_append (GivesStep sys) done mid so_far.none none;
-        paid = subst (λ z. Spends start z end) (sym (whole_cost mid)) (spends_both start here end (cost_of one done) (cost_of one mid) so_far.paid paid);
-      }
-
--- all of them gave nothing
-pub all_done : (sys : System) (all done : List Try) (start now : Counts) → done ≡ all → SoFar sys done start now → WalkAnswers sys all start now (Ok Nothing)
-all_done sys all done start now e h = let s = subst (λ z. SoFar sys z start now) e h in (s.paid, s.none)
+  -- all of them gave nothing
+  pub all_done : (all : List Try) → done ≡ all → WalkAnswers sys all start here (Ok Nothing)
+  all_done all e = let s = subst (λ z. SoFar sys z start here) e so_far in (s.paid, s.none)

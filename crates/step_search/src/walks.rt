@@ -53,11 +53,9 @@ fn walk_rule(
     let _rules = sys.rules();
     let count = 2 * rule.conds.len() as u32 + 1;
     'tries: for place in 0..count {
-        match walk_one(alloc, sys, number, rule, place, budget) {
-            Ok(Sought::Found(made)) => return Ok(Sought::Found(made)),
-            Ok(Sought::Nothing) => {}
-            Ok(Sought::Spent) => return Ok(Sought::Spent),
-            Err(e) => return Err(e),
+        match walk_one(alloc, sys, number, rule, place, budget)? {
+            Sought::Nothing => {}
+            end => return Ok(end),
         }
     }
     Ok(Sought::Nothing)
@@ -73,11 +71,9 @@ fn walk_rules(
 {
     let rules = sys.rules();
     'rules: for (i, rule) in rules.iter().enumerate() {
-        match walk_rule(alloc, sys, i as u32 + 1, rule, budget) {
-            Ok(Sought::Found(made)) => return Ok(Sought::Found(made)),
-            Ok(Sought::Nothing) => {}
-            Ok(Sought::Spent) => return Ok(Sought::Spent),
-            Err(e) => return Err(e),
+        match walk_rule(alloc, sys, i as u32 + 1, rule, budget)? {
+            Sought::Nothing => {}
+            end => return Ok(end),
         }
     }
     Ok(Sought::Nothing)

@@ -1,8 +1,9 @@
 -- Numbers that are tried, as a list of them grows and changes, and that they are good.
-use Rattle.std.proofs.Common.{ℕ, zero, suc, ◌≡◌, ◌<◌, ◌≤◌, ◌⊎◌, inl, inr, List, [], ◌∷◌, ◌++◌, length, slice_get, Some, refl, sym, ap, subst, arith}
+use Rattle.std.proofs.Common.{ℕ, zero, suc, ◌≡◌, ◌≤◌, ◌⊎◌, inl, inr, List, [], ◌∷◌, ◌++◌, length, slice_get, Some, refl, sym, ap, subst, arith}
 use Rattle.std.proofs.lemmas.Option.{slice_get_within}
-use Rattle.rewriting.specs.Prelude.{Signature, System, Head, file, auxiliary, file_heads, auxiliary_heads, heads, IsActive}
+use Rattle.rewriting.specs.Prelude.{System, Head, file, auxiliary, auxiliary_heads, heads, IsActive}
 use Rattle.interpretations.specs.Linear.{AreNumbersGood}
+use Rattle.measure_grid.proofs.Shape.{file_at}
 use Rattle.wide_search.specs.Tried.{IsOneAtLeast, IsTriedAt, AreTriedOf, AreTried}
 
 -- what stands at a place of a list with one more at its end
@@ -26,12 +27,6 @@ module _ (head : Head) (count : ℕ) where
       by : (slice_get cs k ≡ Some c) ⊎ ((k ≡ length cs) × (c ≡ n)) → IsTriedAt head count k c
       by (inl at) = h k c at
       by (inr (same, is)) = at_place k (length cs) c n same is last
-
--- the first symbols are the system's
-file_at : (f : ℕ) (ns : Signature) (rest : List Head) (k : ℕ) (head : Head) → k < length ns → slice_get (file_heads f ns ++ rest) k ≡ Some head → (g : ℕ) × (head ≡ file g)
-file_at f [] rest k head l e = absurd (omega (arith, l))
-file_at f (n ∷ ns) rest zero head l e = (f, cc)
-file_at f (n ∷ ns) rest (suc k) head l e = file_at (suc f) ns rest k head (omega (arith, l)) e
 
 module _ (sys : System) (f : ℕ) where
   active_least : (head : Head) (count k : ℕ) → slice_get (heads sys) f ≡ Some head → IsActive sys f (suc k) → 2 ≤ count → IsOneAtLeast head count (suc k)

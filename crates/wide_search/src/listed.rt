@@ -69,23 +69,6 @@ fn tried_ends<'a>(
     }
 }
 
-// Tries the pairs of listed terms.
-fn try_listed(
-    alloc: Global,
-    sys: &IndexedSystem<'_>,
-    names: &Names,
-    start: &Term,
-    listed: &[Entry],
-    tried: Tried,
-    budget: &mut Budget,
-) -> Result<Search, NoMemory>
-    requires fits { math.Fits (view start.now) }
-    requires listed { table_view listed.now ≡ reach_list sys.now [] 8 3 (view start.now) }
-{
-    let ends = tried_ends(alloc, sys, start, listed, tried)?;
-    try_pairs(alloc, sys, names, start, &ends, budget)
-}
-
 /// Lists the terms that a start reaches, and tries their pairs.
 pub(crate) fn try_start(
     alloc: Global,
@@ -99,7 +82,10 @@ pub(crate) fn try_start(
 {
     let mut work = Work::new();
     match reach_in(alloc, sys, &[], start, STEPS, COND_DEPTH, budget, &mut work) {
-        Ok(listed) => try_listed(alloc, sys, names, start, &listed, tried, budget),
+        Ok(listed) => {
+            let ends = tried_ends(alloc, sys, start, &listed, tried)?;
+            try_pairs(alloc, sys, names, start, &ends, budget)
+        }
         Err(ReachStop::Spent) => Ok(Search::Spent),
         Err(ReachStop::NoMemory) => Err(NoMemory),
     }

@@ -129,20 +129,20 @@ fn search_parts(
     names: &Names,
     steps: &[Simp],
     last: &PreparedSystem<'_>,
-    overlaps: Option<&[Overlap]>,
     budget: &mut Budget,
 ) -> Result<Search, NoMemory>
     requires named { sys.now.arities ≡ map (λ s. s.1) names.now.symbols }
-    requires overlaps { IsOverlapList last.now overlaps }
     ensures valid { IfFound ending_of result (IsValid sys.now) }
     ensures written { IfFound ending_of result (HasText names.now) }
 {
+    let found = overlaps_or_none(alloc, last)?;
+    let overlaps = found.as_deref();
     let mut is_cut = false;
     'parts: for (part, left) in PARTS {
         let mut share = part_of(budget, left);
-        let found = search_part(alloc, last, names, overlaps, part, &mut share)?;
+        let body = search_part(alloc, last, names, overlaps, part, &mut share)?;
         settle(budget, &share);
-        match judged(alloc, sys, names, steps, found)? {
+        match judged(alloc, sys, names, steps, body)? {
             Search::Nothing => {}
             Search::Spent => is_cut = true,
             Search::Found(cert) => return Ok(Search::Found(cert)),
@@ -170,14 +170,5 @@ pub(crate) fn search_behind(
 {
     let indexed = IndexedSystem::new(alloc, last)?;
     let prepared = PreparedSystem::new(alloc, indexed)?;
-    let found = overlaps_or_none(alloc, &prepared)?;
-    search_parts(
-        alloc,
-        sys,
-        names,
-        steps,
-        &prepared,
-        found.as_deref(),
-        budget,
-    )
+    search_parts(alloc, sys, names, steps, &prepared, budget)
 }

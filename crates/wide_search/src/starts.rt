@@ -33,6 +33,13 @@ pub(crate) struct Peaks<'a> {
     pub(crate) tried: Tried,
 }
 
+// Ground terms from number `before` on, up to number `last`.
+#[derive(Clone, Copy)]
+struct Level {
+    before: usize,
+    last: usize,
+}
+
 impl Peaks<'_> {
     // Tries the instance of a term under the values to which the numbers have turned.
     fn try_instance(
@@ -53,22 +60,21 @@ impl Peaks<'_> {
         }
     }
 
-    // Tries the instances by the first ground terms, up to number `last`, but those by terms up to number `before` alone.
+    // Tries the instances by the first ground terms, up to the last of the level, but those by terms before it alone.
     fn try_level(
         &self,
         alloc: Global,
         term: &Term,
         vars: &[u32],
-        before: usize,
-        last: usize,
+        level: Level,
         budget: &mut Budget,
     ) -> Result<Search, NoMemory>
         requires fits { math.Fits (view term.now) }
     {
-        let mut turns = Turns::new(alloc, vars.len(), last)?;
+        let mut turns = Turns::new(alloc, vars.len(), level.last)?;
         let mut is_cut = false;
         'instances: while budget.take() {
-            if turns.is_above(before) {
+            if turns.is_above(level.before) {
                 let mut share = share_of(budget, most_of(self.tried));
                 let found = self.try_instance(alloc, term, vars, &turns, &mut share)?;
                 settle(budget, &share);
@@ -96,13 +102,22 @@ impl Peaks<'_> {
     {
         let vars = vars(alloc, term)?;
         let levels = [
-            (0, self.pool.single),
-            (self.pool.single, self.pool.double),
-            (self.pool.double, self.pool.terms.len()),
+            Level {
+                before: 0,
+                last: self.pool.single,
+            },
+            Level {
+                before: self.pool.single,
+                last: self.pool.double,
+            },
+            Level {
+                before: self.pool.double,
+                last: self.pool.terms.len(),
+            },
         ];
         let mut is_cut = false;
-        'levels: for (before, last) in levels {
-            match self.try_level(alloc, term, &vars, before, last, budget)? {
+        'levels: for level in levels {
+            match self.try_level(alloc, term, &vars, level, budget)? {
                 Search::Found(cert) => return Ok(Search::Found(cert)),
                 Search::Nothing => {}
                 Search::Spent => is_cut = true,

@@ -11,20 +11,19 @@ pub visits-preserved-in_ok-go_down-in-Ok-Alive : goal.visits-preserved-in_ok-go_
 visits-preserved-in_ok-go_down-in-Ok-Alive c =
     let (alive, less, same) = seen c.args.judge.now c.visits.budget c.visit.new.budget c.deref.result.now c.visits.prefix.items c.in-Ok-Alive.field-0 Alive c.deref.ensures.value
     c.in-Ok-Alive.field-0-is c.in-Ok-Alive.ensures in
-    paid_down c.args.judge.now c.args.budget.now c.visits.budget c.visit.new.budget (map linear_entry_view c.visits.prefix.items) c.visits.invariant alive same
-    (map linear_entry_view c.go_down.new.prefix.items) c.in_ok-go_down-in-Ok-Alive.ensures
+    paid_down c.visits.invariant same alive (map linear_entry_view c.go_down.new.prefix.items) c.in_ok-go_down-in-Ok-Alive.ensures
 
 pub returns-in_err-go_on-in-Ok-Dead-clause-kept : goal.returns-in_err-go_on-in-Ok-Dead-clause-kept
 returns-in_err-go_on-in-Ok-Dead-clause-kept c =
     let (dead, unit) = seen c.args.judge.now c.visits.budget c.visit.new.budget c.deref.result.now c.visits.prefix.items c.in-Ok-Dead.field-0 Dead c.deref.ensures.value
     c.in-Ok-Dead.field-0-is c.in-Ok-Dead.ensures in
-    still_kept c.args.judge.now c.args.budget.now c.visits.budget c.visit.new.budget (map linear_entry_view c.visits.prefix.items) c.visits.invariant unit
+    still_kept c.visits.invariant unit
 
 pub returns-then-not-branch-clause-answer : goal.returns-then-not-branch-clause-answer
 returns-then-not-branch-clause-answer c =
     let (dead, unit) = seen c.args.judge.now c.visits.budget c.visit.new.budget c.deref.result.now c.visits.prefix.items c.in-Ok-Dead.field-0 Dead c.deref.ensures.value
     c.in-Ok-Dead.field-0-is c.in-Ok-Dead.ensures in
-    none_good c.args.judge.now c.args.budget.now c.visits.budget c.visit.new.budget (map linear_entry_view c.visits.prefix.items) c.visits.invariant unit dead
+    none_good c.visits.invariant unit dead
     (goes c.args.judge.now (map linear_entry_view c.visits.prefix.items) (map linear_entry_view c.go_on.new.prefix.items) c.in_ok-go_on-in-Ok-Dead.field-0 false
     c.if-not-branch.true c.in_ok-go_on-in-Ok-Dead.ensures)
 
@@ -32,14 +31,13 @@ pub returns-then-not-branch-clause-kept : goal.returns-then-not-branch-clause-ke
 returns-then-not-branch-clause-kept c =
     let (dead, unit) = seen c.args.judge.now c.visits.budget c.visit.new.budget c.deref.result.now c.visits.prefix.items c.in-Ok-Dead.field-0 Dead c.deref.ensures.value
     c.in-Ok-Dead.field-0-is c.in-Ok-Dead.ensures in
-    still_kept c.args.judge.now c.args.budget.now c.visits.budget c.visit.new.budget (map linear_entry_view c.visits.prefix.items) c.visits.invariant unit
+    still_kept c.visits.invariant unit
 
 pub visits-preserved : goal.visits-preserved
 visits-preserved c =
     let (dead, unit) = seen c.args.judge.now c.visits.budget c.visit.new.budget c.deref.result.now c.visits.prefix.items c.in-Ok-Dead.field-0 Dead c.deref.ensures.value
     c.in-Ok-Dead.field-0-is c.in-Ok-Dead.ensures in
-    paid_on c.args.judge.now c.args.budget.now c.visits.budget c.visit.new.budget (map linear_entry_view c.visits.prefix.items) c.visits.invariant unit dead
-    (map linear_entry_view c.go_on.new.prefix.items)
+    paid_on c.visits.invariant unit dead (map linear_entry_view c.go_on.new.prefix.items)
     (goes c.args.judge.now (map linear_entry_view c.visits.prefix.items) (map linear_entry_view c.go_on.new.prefix.items) c.in_ok-go_on-in-Ok-Dead.field-0 true
     c.if-not-branch.false c.in_ok-go_on-in-Ok-Dead.ensures)
 
@@ -47,16 +45,16 @@ pub returns-in-Ok-Good-clause-answer : goal.returns-in-Ok-Good-clause-answer
 returns-in-Ok-Good-clause-answer c =
     let (whole, judged, unit) = seen c.args.judge.now c.visits.budget c.visit.new.budget c.deref.result.now c.visits.prefix.items c.in-Ok-Good.field-0 Good c.deref.ensures.value
     c.in-Ok-Good.field-0-is c.in-Ok-Good.ensures in
-    first_good c.args.judge.now c.args.budget.now c.visits.budget c.visit.new.budget (map linear_entry_view c.visits.prefix.items) c.visits.invariant unit whole judged
+    first_good c.visits.invariant unit whole judged
 
 pub returns-in-Ok-Good-clause-kept : goal.returns-in-Ok-Good-clause-kept
 returns-in-Ok-Good-clause-kept c =
     let (whole, judged, unit) = seen c.args.judge.now c.visits.budget c.visit.new.budget c.deref.result.now c.visits.prefix.items c.in-Ok-Good.field-0 Good c.deref.ensures.value
     c.in-Ok-Good.field-0-is c.in-Ok-Good.ensures in
-    still_kept c.args.judge.now c.args.budget.now c.visits.budget c.visit.new.budget (map linear_entry_view c.visits.prefix.items) c.visits.invariant unit
+    still_kept c.visits.invariant unit
 
 pub returns-in-Ok-Unpaid-clause-answer : goal.returns-in-Ok-Unpaid-clause-answer
 returns-in-Ok-Unpaid-clause-answer c =
     let (why, none, same) = seen c.args.judge.now c.visits.budget c.visit.new.budget c.deref.result.now c.visits.prefix.items c.in-Ok-Unpaid.field-0 Unpaid c.deref.ensures.value
     c.in-Ok-Unpaid.field-0-is c.in-Ok-Unpaid.ensures in
-    stopped c.args.judge.now c.args.budget.now c.visits.budget c.visit.new.budget (map linear_entry_view c.visits.prefix.items) c.visits.invariant why none same
+    stopped c.visits.invariant same why none

@@ -9,11 +9,11 @@ use Rattle.noncon_search.proofs.pairs.try_pair.Goals as goal
 
 pub returns-then-not-take : goal.returns-then-not-take
 returns-then-not-take c =
-    pair_stops c.args.names.now c.args.sys.now (view c.args.start.now) (end_view c.args.first.now) (end_view c.args.second.now) c.args.budget.now c.take.new.self
+    pair_stops c.args.names.now c.args.sys.now (view c.args.first.start.now) (end_view c.args.first.end.now) (end_view c.args.second.now) c.args.budget.now c.take.new.self
     (none_left c.args.budget.now c.if-not-take.ensures.some.1) (c.if-not-take.ensures.none refl)
 
 pub returns-in-Some : goal.returns-in-Some
 returns-in-Some c =
-    pair_found c.args.names.now c.args.sys.now (view c.args.start.now) (end_view c.args.first.now) (end_view c.args.second.now) c.args.budget.now c.take.new.self
+    pair_found c.args.names.now c.args.sys.now (view c.args.first.start.now) (end_view c.args.first.end.now) (end_view c.args.second.now) c.args.budget.now c.take.new.self
     (c.if-not-take.ensures.taken refl) c.in-Some.cert
-    (subst (λ z. CandidateAnswers c.args.names.now c.args.sys.now (try_ends (view c.args.start.now) (end_view c.args.first.now) (end_view c.args.second.now)) (Ok z)) c.in-Some.is c.in_ok-cert.ensures)
+    (subst (λ z. CandidateAnswers c.args.names.now c.args.sys.now (try_ends (view c.args.first.start.now) (end_view c.args.first.end.now) (end_view c.args.second.now)) (Ok z)) c.in-Some.is c.in_ok-cert.ensures)

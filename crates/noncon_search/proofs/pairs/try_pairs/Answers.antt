@@ -12,10 +12,8 @@ returns-in_err-end c =
     let all = c.args.ends.now in
     let i = c.firsts.i in
     let x = c.index-ends-i.result in
-    fails c.args.names.now c.args.sys.now (pair_items t (ends_view all)) c.args.budget.now c.firsts.budget c.try_with.new.budget (pair_items t (ends_view (drop i all)))
-    (pairs_with t (end_view x) (ends_view (drop (i + 1) all)))
-    (pair_items t (ends_view (drop (i + 1) all))) c.firsts.invariant.walking (firsts_split t all i x c.firsts-test.true c.index-ends-i.is) c.from_residual.result
-    c.from_residual.ensures.0 c.in_err-end.ensures
+    fails c.firsts.invariant.walking c.try_with.new.budget (pairs_with t (end_view x) (ends_view (drop (i + 1) all))) (pair_items t (ends_view (drop (i + 1) all)))
+    (firsts_split t all i x c.firsts-test.true c.index-ends-i.is) c.from_residual.result c.from_residual.ensures.0 c.in_err-end.ensures
 
 pub returns-in_default : goal.returns-in_default
 returns-in_default c =
@@ -23,9 +21,8 @@ returns-in_default c =
     let all = c.args.ends.now in
     let i = c.firsts.i in
     let x = c.index-ends-i.result in
-    ends c.args.names.now c.args.sys.now (pair_items t (ends_view all)) c.args.budget.now c.firsts.budget c.try_with.new.budget (pair_items t (ends_view (drop i all)))
-    (pairs_with t (end_view x) (ends_view (drop (i + 1) all)))
-    (pair_items t (ends_view (drop (i + 1) all))) c.firsts.invariant.walking (firsts_split t all i x c.firsts-test.true c.index-ends-i.is) c.in_ok-end.end c.in_default.not-Nothing
+    ends c.firsts.invariant.walking c.try_with.new.budget (pairs_with t (end_view x) (ends_view (drop (i + 1) all))) (pair_items t (ends_view (drop (i + 1) all)))
+    (firsts_split t all i x c.firsts-test.true c.index-ends-i.is) c.in_ok-end.end c.in_default.not-Nothing
     (subst (λ l. WalkAnswers c.args.names.now c.args.sys.now (pairs_with t (end_view x) (ends_view l)) c.firsts.budget c.try_with.new.budget (Ok c.in_ok-end.end))
     (slice_rest all (i + 1)) c.in_ok-end.ensures)
 
@@ -36,11 +33,9 @@ firsts-preserved c =
     let i = c.firsts.i in
     let x = c.index-ends-i.result in
     record {
-      walking = goes_on c.args.names.now c.args.sys.now (pair_items t (ends_view all)) c.args.budget.now c.firsts.budget c.try_with.new.budget (pair_items t (ends_view (drop i all)))
-          (pairs_with t (end_view x) (ends_view (drop (i + 1) all))) (pair_items t (ends_view (drop (i + 1) all))) c.firsts.invariant.walking
-          (firsts_split t all i x c.firsts-test.true c.index-ends-i.is)
-          (subst (λ z. WalkAnswers c.args.names.now c.args.sys.now (pairs_with t (end_view x) (ends_view (drop (i + 1) all))) c.firsts.budget c.try_with.new.budget (Ok z)) c.in-Nothing.is
+      walking = goes_on c.firsts.invariant.walking c.try_with.new.budget (pairs_with t (end_view x) (ends_view (drop (i + 1) all))) (pair_items t (ends_view (drop (i + 1) all)))
+          (firsts_split t all i x c.firsts-test.true c.index-ends-i.is) c.in_ok-end.end c.in-Nothing.is
           (subst (λ l. WalkAnswers c.args.names.now c.args.sys.now (pairs_with t (end_view x) (ends_view l)) c.firsts.budget c.try_with.new.budget (Ok c.in_ok-end.end))
-          (slice_rest all (i + 1)) c.in_ok-end.ensures));
+          (slice_rest all (i + 1)) c.in_ok-end.ensures);
       ends = without_first c.args.sys.now t x (drop (i + 1) all) (ends_left c.args.sys.now t all i x c.firsts-test.true c.index-ends-i.is c.firsts.invariant.ends);
     }

@@ -7,7 +7,7 @@ use Rattle.noncon_search.proofs.pairs.try_with.Given as goal
 
 abbrev pub invariant-later : goal.invariant-later
 invariant-later l = record {
-  walking : Walking l.names l.sys (pairs_with (view l.start) (end_view l.first) (ends_view l.later)) l.fn.budget l.budget
-      (pairs_with (view l.start) (end_view l.first) (ends_view (drop l.second-index l.later)));
-  ends : AreEnds l.sys (view l.start) (l.first ∷ drop l.second-index l.later);
+  walking : Walking l.names l.sys (pairs_with (view l.first.start.now) (end_view l.first.end.now) (ends_view l.later)) l.fn.budget l.budget
+      (pairs_with (view l.first.start.now) (end_view l.first.end.now) (ends_view (drop l.second-index l.later)));
+  ends : AreEnds l.sys (view l.first.start.now) (l.first.end.now ∷ drop l.second-index l.later);
 }

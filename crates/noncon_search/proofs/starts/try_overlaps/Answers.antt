@@ -1,8 +1,7 @@
-use Rattle.std.proofs.Common.{◌+◌, Ok, drop, map, subst}
+use Rattle.std.proofs.Common.{◌+◌, drop, map}
 use Rattle.rewriting.specs.Terms.{Fits}
 use Rattle.term_core.specs.View.{view}
 use Rattle.search_spaces.specs.PeakItems.{peak_items_of, peak_items}
-use Rattle.noncon_search.specs.Answers.{WalkAnswers}
 use Rattle.noncon_search.proofs.Walking.{goes_on, ends, fails}
 use Rattle.noncon_search.proofs.Listed.{starts_split, first_of_rest}
 use Rattle.noncon_search.proofs.starts.try_overlaps.Goals as goal
@@ -13,9 +12,7 @@ returns-in_err-end c =
     let all = c.args.overlaps.now in
     let i = c.overlaps.overlap-index in
     let x = c.overlap-item.result in
-    fails c.args.names.now sys (peak_items sys (map (λ o. view o.source) all)) c.args.budget.now c.overlaps.budget c.try_start.new.budget
-    (peak_items sys (map (λ o. view o.source) (drop i all))) (peak_items_of sys (view x.source))
-    (peak_items sys (map (λ o. view o.source) (drop (i + 1) all))) c.overlaps.invariant.walking
+    fails c.overlaps.invariant.walking c.try_start.new.budget (peak_items_of sys (view x.source)) (peak_items sys (map (λ o. view o.source) (drop (i + 1) all)))
     (starts_split sys (λ o. view o.source) all i x c.overlaps-test.true c.overlap-item.is) c.from_residual.result c.from_residual.ensures.0 c.in_err-end.ensures
 
 pub returns-in_default : goal.returns-in_default
@@ -24,9 +21,7 @@ returns-in_default c =
     let all = c.args.overlaps.now in
     let i = c.overlaps.overlap-index in
     let x = c.overlap-item.result in
-    ends c.args.names.now sys (peak_items sys (map (λ o. view o.source) all)) c.args.budget.now c.overlaps.budget c.try_start.new.budget
-    (peak_items sys (map (λ o. view o.source) (drop i all))) (peak_items_of sys (view x.source))
-    (peak_items sys (map (λ o. view o.source) (drop (i + 1) all))) c.overlaps.invariant.walking
+    ends c.overlaps.invariant.walking c.try_start.new.budget (peak_items_of sys (view x.source)) (peak_items sys (map (λ o. view o.source) (drop (i + 1) all)))
     (starts_split sys (λ o. view o.source) all i x c.overlaps-test.true c.overlap-item.is) c.in_ok-end.end c.in_default.not-Nothing c.in_ok-end.ensures
 
 pub overlaps-preserved : goal.overlaps-preserved
@@ -36,9 +31,7 @@ overlaps-preserved c =
     let i = c.overlaps.overlap-index in
     let x = c.overlap-item.result in
     record {
-      walking = goes_on c.args.names.now sys (peak_items sys (map (λ o. view o.source) all)) c.args.budget.now c.overlaps.budget c.try_start.new.budget
-          (peak_items sys (map (λ o. view o.source) (drop i all))) (peak_items_of sys (view x.source))
-          (peak_items sys (map (λ o. view o.source) (drop (i + 1) all))) c.overlaps.invariant.walking (starts_split sys (λ o. view o.source) all i x c.overlaps-test.true c.overlap-item.is)
-          (subst (λ z. WalkAnswers c.args.names.now sys (peak_items_of sys (view x.source)) c.overlaps.budget c.try_start.new.budget (Ok z)) c.in-Nothing.is c.in_ok-end.ensures);
+      walking = goes_on c.overlaps.invariant.walking c.try_start.new.budget (peak_items_of sys (view x.source)) (peak_items sys (map (λ o. view o.source) (drop (i + 1) all)))
+          (starts_split sys (λ o. view o.source) all i x c.overlaps-test.true c.overlap-item.is) c.in_ok-end.end c.in-Nothing.is c.in_ok-end.ensures;
       fit = (first_of_rest (λ y. Fits (view y.source)) all i x c.overlaps-test.true c.overlap-item.is c.overlaps.invariant.fit).1;
     }

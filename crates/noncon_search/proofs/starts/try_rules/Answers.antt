@@ -1,8 +1,7 @@
-use Rattle.std.proofs.Common.{◌+◌, Ok, drop, map, subst}
+use Rattle.std.proofs.Common.{◌+◌, drop, map}
 use Rattle.rewriting.specs.Terms.{Fits}
 use Rattle.term_core.specs.View.{view}
 use Rattle.search_spaces.specs.PeakItems.{peak_items_of, peak_items}
-use Rattle.noncon_search.specs.Answers.{WalkAnswers}
 use Rattle.noncon_search.proofs.Walking.{goes_on, ends, fails}
 use Rattle.noncon_search.proofs.Listed.{starts_split, first_of_rest}
 use Rattle.noncon_search.proofs.starts.try_rules.Goals as goal
@@ -13,10 +12,8 @@ returns-in_err-end c =
     let all = c.args.rules.now in
     let i = c.rules.rule-index in
     let x = c.rule-item.result in
-    fails c.args.names.now sys (peak_items sys (map (λ r. view r.left) all)) c.args.budget.now c.rules.budget c.try_start.new.budget
-    (peak_items sys (map (λ r. view r.left) (drop i all))) (peak_items_of sys (view x.left))
-    (peak_items sys (map (λ r. view r.left) (drop (i + 1) all))) c.rules.invariant.walking (starts_split sys (λ r. view r.left) all i x c.rules-test.true c.rule-item.is)
-    c.from_residual.result c.from_residual.ensures.0 c.in_err-end.ensures
+    fails c.rules.invariant.walking c.try_start.new.budget (peak_items_of sys (view x.left)) (peak_items sys (map (λ r. view r.left) (drop (i + 1) all)))
+    (starts_split sys (λ r. view r.left) all i x c.rules-test.true c.rule-item.is) c.from_residual.result c.from_residual.ensures.0 c.in_err-end.ensures
 
 pub returns-in_default : goal.returns-in_default
 returns-in_default c =
@@ -24,10 +21,8 @@ returns-in_default c =
     let all = c.args.rules.now in
     let i = c.rules.rule-index in
     let x = c.rule-item.result in
-    ends c.args.names.now sys (peak_items sys (map (λ r. view r.left) all)) c.args.budget.now c.rules.budget c.try_start.new.budget
-    (peak_items sys (map (λ r. view r.left) (drop i all))) (peak_items_of sys (view x.left))
-    (peak_items sys (map (λ r. view r.left) (drop (i + 1) all))) c.rules.invariant.walking (starts_split sys (λ r. view r.left) all i x c.rules-test.true c.rule-item.is)
-    c.in_ok-end.end c.in_default.not-Nothing c.in_ok-end.ensures
+    ends c.rules.invariant.walking c.try_start.new.budget (peak_items_of sys (view x.left)) (peak_items sys (map (λ r. view r.left) (drop (i + 1) all)))
+    (starts_split sys (λ r. view r.left) all i x c.rules-test.true c.rule-item.is) c.in_ok-end.end c.in_default.not-Nothing c.in_ok-end.ensures
 
 pub rules-preserved : goal.rules-preserved
 rules-preserved c =
@@ -36,9 +31,7 @@ rules-preserved c =
     let i = c.rules.rule-index in
     let x = c.rule-item.result in
     record {
-      walking = goes_on c.args.names.now sys (peak_items sys (map (λ r. view r.left) all)) c.args.budget.now c.rules.budget c.try_start.new.budget
-          (peak_items sys (map (λ r. view r.left) (drop i all))) (peak_items_of sys (view x.left))
-          (peak_items sys (map (λ r. view r.left) (drop (i + 1) all))) c.rules.invariant.walking (starts_split sys (λ r. view r.left) all i x c.rules-test.true c.rule-item.is)
-          (subst (λ z. WalkAnswers c.args.names.now sys (peak_items_of sys (view x.left)) c.rules.budget c.try_start.new.budget (Ok z)) c.in-Nothing.is c.in_ok-end.ensures);
+      walking = goes_on c.rules.invariant.walking c.try_start.new.budget (peak_items_of sys (view x.left)) (peak_items sys (map (λ r. view r.left) (drop (i + 1) all)))
+          (starts_split sys (λ r. view r.left) all i x c.rules-test.true c.rule-item.is) c.in_ok-end.end c.in-Nothing.is c.in_ok-end.ensures;
       fit = (first_of_rest (λ y. Fits (view y.left)) all i x c.rules-test.true c.rule-item.is c.rules.invariant.fit).1;
     }

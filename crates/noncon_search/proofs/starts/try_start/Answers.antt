@@ -2,8 +2,6 @@ use Rattle.std.proofs.Common.{◌∙◌, [], Err, ap, subst}
 use Rattle.term_core.specs.View.{view}
 use Rattle.reach.specs.Answers.{ReachAnswers}
 use Rattle.reach.specs.EntryView.{table_view}
-use Rattle.search_spaces.specs.Listings.{listing}
-use Rattle.search_spaces.specs.PeakItems.{peak_items_of}
 use Rattle.noncon_search.specs.Answers.{pair_items, WalkAnswers}
 use Rattle.noncon_search.proofs.Walking.{listing_made, listing_stops, last_part}
 use Rattle.noncon_search.proofs.starts.try_start.Goals as goal
@@ -13,8 +11,7 @@ returns-in-Ok c =
     let names = c.args.names.now in
     let sys = c.args.sys.now in
     let t = view c.args.start.now in
-    last_part names sys (peak_items_of sys t) c.args.budget.now c.reach_in.new.budget c.try_listed.new.budget (pair_items t (listing sys [] t))
-    (listing_made names sys t c.args.budget.now c.reach_in.new.budget c.in-Ok.ensures.listed.1) c.try_listed.result
+    last_part (listing_made names sys t c.args.budget.now c.reach_in.new.budget c.in-Ok.ensures.listed.1) c.try_listed.new.budget c.try_listed.result
     (subst (λ l. WalkAnswers names sys (pair_items t l) c.reach_in.new.budget c.try_listed.new.budget c.try_listed.result)
     (ap table_view c.deref.ensures.value ∙ c.in-Ok.ensures.listed.0) c.try_listed.ensures)
 

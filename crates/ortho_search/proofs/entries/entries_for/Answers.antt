@@ -7,8 +7,9 @@ use Rattle.search_spaces.specs.PairItems.{GivesEvidence, ortho_items}
 use Rattle.search_spaces.specs.Entries.{entry_for, overlap_cost, StopsAtOverlap}
 use Rattle.search_spaces.specs.Ortho.{IsOrthoEntry}
 use Rattle.search_spaces.proofs.Entries.{no_entry}
+use Rattle.cc_count.proofs.Spending.{kept_on}
 use Rattle.cc_count.specs.declared.Sought.TheVariants.{Found, Nothing, Spent}
-use Rattle.pair_search.proofs.Walking.{among_here, told, entry_more, row_ends, row_stops, kept_more}
+use Rattle.pair_search.proofs.Walking.{among_here, told, entry_more, row_ends, row_stops}
 use Rattle.ortho_search.proofs.entries.entries_for.Goals as goal
 
 pub try_overlap-requires : goal.try_overlap-requires
@@ -18,9 +19,7 @@ try_overlap-requires c = record {
 }
 
 pub returns-in_err-add_entry-in-Ok-Found-clause-kept : goal.returns-in_err-add_entry-in-Ok-Found-clause-kept
-returns-in_err-add_entry-in-Ok-Found-clause-kept c =
-    kept_more (IsOrthoEntry c.args.sys.now) c.args.overlaps.now c.rows.overlap-index c.overlap-item.result c.rows-test.true c.overlap-item.is c.args.budget.now c.rows.budget
-    c.try_overlap.new.budget c.rows.entries.items c.rows.invariant.far c.in-Ok-Found.ensures.kept
+returns-in_err-add_entry-in-Ok-Found-clause-kept c = kept_on _ _ _ (c.rows.invariant.far.0, c.rows.invariant.far.1) c.in-Ok-Found.ensures.kept
 
 pub returns-in-Ok-Nothing-clause-answer : goal.returns-in-Ok-Nothing-clause-answer
 returns-in-Ok-Nothing-clause-answer c =
@@ -32,9 +31,7 @@ returns-in-Ok-Nothing-clause-answer c =
     (overlap_cost ortho_items) w.0 (no_entry ortho c.args.sys.now ortho_items o w.1)
 
 pub returns-in-Ok-Nothing-clause-kept : goal.returns-in-Ok-Nothing-clause-kept
-returns-in-Ok-Nothing-clause-kept c =
-    kept_more (IsOrthoEntry c.args.sys.now) c.args.overlaps.now c.rows.overlap-index c.overlap-item.result c.rows-test.true c.overlap-item.is c.args.budget.now c.rows.budget
-    c.try_overlap.new.budget c.rows.entries.items c.rows.invariant.far c.in-Ok-Nothing.ensures.kept
+returns-in-Ok-Nothing-clause-kept c = kept_on _ _ _ (c.rows.invariant.far.0, c.rows.invariant.far.1) c.in-Ok-Nothing.ensures.kept
 
 pub returns-in-Ok-Spent-clause-answer : goal.returns-in-Ok-Spent-clause-answer
 returns-in-Ok-Spent-clause-answer c =
@@ -45,14 +42,10 @@ returns-in-Ok-Spent-clause-answer c =
     (told one (GivesEvidence ortho c.args.sys.now o) (ortho_items o) c.rows.budget c.try_overlap.new.budget c.in-Ok-Spent.field-0 Spent c.in-Ok-Spent.field-0-is c.in-Ok-Spent.ensures.answer)
 
 pub returns-in-Ok-Spent-clause-kept : goal.returns-in-Ok-Spent-clause-kept
-returns-in-Ok-Spent-clause-kept c =
-    kept_more (IsOrthoEntry c.args.sys.now) c.args.overlaps.now c.rows.overlap-index c.overlap-item.result c.rows-test.true c.overlap-item.is c.args.budget.now c.rows.budget
-    c.try_overlap.new.budget c.rows.entries.items c.rows.invariant.far c.in-Ok-Spent.ensures.kept
+returns-in-Ok-Spent-clause-kept c = kept_on _ _ _ (c.rows.invariant.far.0, c.rows.invariant.far.1) c.in-Ok-Spent.ensures.kept
 
 pub returns-in-Err-clause-kept : goal.returns-in-Err-clause-kept
-returns-in-Err-clause-kept c =
-    kept_more (IsOrthoEntry c.args.sys.now) c.args.overlaps.now c.rows.overlap-index c.overlap-item.result c.rows-test.true c.overlap-item.is c.args.budget.now c.rows.budget
-    c.try_overlap.new.budget c.rows.entries.items c.rows.invariant.far c.in-Err.ensures.kept
+returns-in-Err-clause-kept c = kept_on _ _ _ (c.rows.invariant.far.0, c.rows.invariant.far.1) c.in-Err.ensures.kept
 
 pub rows-preserved : goal.rows-preserved
 rows-preserved c =

@@ -11,10 +11,10 @@ use Rattle.portfolio.specs.StepAnswers.{behind_ending}
 pub overlaps_behind-requires-clause-steps : goal.overlaps_behind-requires-clause-steps
 overlaps_behind-requires-clause-steps c =
     subst (λ ss. AllSimplify c.args.sys.now (map simp_view ss) c.in_ok-prepared.prepared) (sym c.deref.ensures.value)
-    (subst (AllSimplify c.args.sys.now (map simp_view c.args.steps.items)) (sym (c.in_ok-prepared.ensures ∙ c.in_ok-indexed.ensures)) c.requires.steps)
+    (subst (AllSimplify c.args.sys.now (map simp_view c.args.simplified.steps.items)) (sym (c.in_ok-prepared.ensures ∙ c.in_ok-indexed.ensures)) c.requires.steps)
 
 pub returns-clause-searched : goal.returns-clause-searched
 returns-clause-searched c =
-    subst (λ s. Searches behind_ending (MayEndLast (three_with_steps pruned_measures c.args.names.now (map simp_view c.args.steps.items) s)) c.args.budget.now
+    subst (λ s. Searches behind_ending (MayEndLast (three_with_steps pruned_measures c.args.names.now (map simp_view c.args.simplified.steps.items) s)) c.args.budget.now
     c.search_three_behind.new.budget c.search_three_behind.result)
     (c.in_ok-prepared.ensures ∙ c.in_ok-indexed.ensures) c.search_three_behind.ensures.searched

@@ -1,4 +1,4 @@
-use Rattle.std.proofs.Common.{◌≡◌, ◌+◌, ◌-◌, List, [], true, false, map, length, sym, ap, ◌∙◌, subst, arith}
+use Rattle.std.proofs.Common.{◌≡◌, ◌+◌, ◌-◌, List, [], true, false, map, length, ap, ◌∙◌, sym, subst, arith}
 use Rattle.std.proofs.lemmas.List.{length-map}
 use Rattle.interpretations.proofs.Bound.{few_heads}
 use Rattle.rewriting.specs.Unraveling.{Head}
@@ -12,196 +12,110 @@ use Rattle.precedence_search.proofs.walk.walk_precedences.Goals as goal
 pub visits-init : goal.visits-init
 visits-init c =
     let empty : map head_view c.new.result.items ≡ [] = ap (map head_view) c.new.ensures.items in
+    let heads_are = ap (map head_view) c.deref-heads.ensures.value ∙ c.requires.heads in
+    let few = few_heads c.args.sys.now c.args.unraveled.now.system c.requires.system c.rules-rules.ensures.sound in
+    let many = length-map c.deref-heads.result.now head_view in
+    let same = ap length heads_are in
     record {
       in_place = subst (λ (z : List Head). ArePlaces (map head_view c.deref-heads.result.now) z (length z) c.in_ok-places.places.items) (sym empty) c.in_ok-places.ensures;
       paid = at_start c.args.sys.now c.args.budget.now (map head_view c.new.result.items) empty;
+      sorted = sorted_heads c.args.sys.now (map head_view c.deref-heads.result.now) heads_are;
+      few = omega (arith, few, many, same);
+      sound = sound_of c.args.sys.now c.args.unraveled.now.system (map head_view c.deref-heads.result.now) (map rule_view c.rules-rules.result.now)
+          c.requires.system heads_are c.rules-rules.ensures.rules c.rules-rules.ensures.sound;
     }
-
-pub go_down-requires-clause-sorted : goal.go_down-requires-clause-sorted
-go_down-requires-clause-sorted c = sorted_heads c.args.sys.now (map head_view c.deref-heads.result.now) (ap (map head_view) c.deref-heads.ensures.value ∙ c.requires.heads)
-
-pub go_down-requires-clause-few : goal.go_down-requires-clause-few
-go_down-requires-clause-few c =
-    let few = few_heads c.args.sys.now c.args.unraveled.now.system c.requires.system c.rules-rules.ensures.sound in
-    let many = length-map c.deref-heads.result.now head_view in
-    let same = ap length (ap (map head_view) c.deref-heads.ensures.value ∙ c.requires.heads) in
-    omega (arith, few, many, same)
-
-pub go_on-requires-clause-sorted : goal.go_on-requires-clause-sorted
-go_on-requires-clause-sorted c = sorted_heads c.args.sys.now (map head_view c.deref-heads.result.now) (ap (map head_view) c.deref-heads.ensures.value ∙ c.requires.heads)
-
-pub go_on-requires-clause-few : goal.go_on-requires-clause-few
-go_on-requires-clause-few c =
-    let few = few_heads c.args.sys.now c.args.unraveled.now.system c.requires.system c.rules-rules.ensures.sound in
-    let many = length-map c.deref-heads.result.now head_view in
-    let same = ap length (ap (map head_view) c.deref-heads.ensures.value ∙ c.requires.heads) in
-    omega (arith, few, many, same)
-
-pub returns-in_err-go_on-in-Barren-clause-kept : goal.returns-in_err-go_on-in-Barren-clause-kept
-returns-in_err-go_on-in-Barren-clause-kept c =
-    let heads_are = ap (map head_view) c.deref-heads.ensures.value ∙ c.requires.heads in
-    let sound =
-    sound_of c.args.sys.now c.args.unraveled.now.system (map head_view c.deref-heads.result.now) (map rule_view c.rules-rules.result.now)
-    c.requires.system heads_are c.rules-rules.ensures.rules c.rules-rules.ensures.sound in
-    let alive = alive_before c.args.sys.now c.args.budget.now c.visits.budget (map head_view c.visits.walk.prefix.items) c.visits.invariant.paid in
-    let seen = c.in-Barren.ensures c.args.sys.now sound alive in
-    still_kept c.args.sys.now c.args.budget.now c.visits.budget c.visit.new.budget (map head_view c.visits.walk.prefix.items) c.visits.invariant.paid seen.1
-
-pub returns-then-not-branch-clause-answer : goal.returns-then-not-branch-clause-answer
-returns-then-not-branch-clause-answer c =
-    let heads_are = ap (map head_view) c.deref-heads.ensures.value ∙ c.requires.heads in
-    let sound =
-    sound_of c.args.sys.now c.args.unraveled.now.system (map head_view c.deref-heads.result.now) (map rule_view c.rules-rules.result.now)
-    c.requires.system heads_are c.rules-rules.ensures.rules c.rules-rules.ensures.sound in
-    let alive = alive_before c.args.sys.now c.args.budget.now c.visits.budget (map head_view c.visits.walk.prefix.items) c.visits.invariant.paid in
-    let seen = c.in-Barren.ensures c.args.sys.now sound alive in
-    none_good c.args.sys.now c.args.budget.now c.visits.budget c.visit.new.budget (map head_view c.visits.walk.prefix.items) c.visits.invariant.paid seen.1 seen.0
-    (goes c.args.sys.now (map head_view c.visits.walk.prefix.items) (map head_view c.go_on.new.walk.prefix.items) c.in_ok-go_on-in-Barren.field-0 false c.if-not-branch.true
-    (λ n done. c.in_ok-go_on-in-Barren.ensures.goes c.args.sys.now n heads_are done))
-
-pub returns-then-not-branch-clause-kept : goal.returns-then-not-branch-clause-kept
-returns-then-not-branch-clause-kept c =
-    let heads_are = ap (map head_view) c.deref-heads.ensures.value ∙ c.requires.heads in
-    let sound =
-    sound_of c.args.sys.now c.args.unraveled.now.system (map head_view c.deref-heads.result.now) (map rule_view c.rules-rules.result.now)
-    c.requires.system heads_are c.rules-rules.ensures.rules c.rules-rules.ensures.sound in
-    let alive = alive_before c.args.sys.now c.args.budget.now c.visits.budget (map head_view c.visits.walk.prefix.items) c.visits.invariant.paid in
-    let seen = c.in-Barren.ensures c.args.sys.now sound alive in
-    still_kept c.args.sys.now c.args.budget.now c.visits.budget c.visit.new.budget (map head_view c.visits.walk.prefix.items) c.visits.invariant.paid seen.1
-
-pub visits-preserved : goal.visits-preserved
-visits-preserved c =
-    let heads_are = ap (map head_view) c.deref-heads.ensures.value ∙ c.requires.heads in
-    let sound =
-    sound_of c.args.sys.now c.args.unraveled.now.system (map head_view c.deref-heads.result.now) (map rule_view c.rules-rules.result.now)
-    c.requires.system heads_are c.rules-rules.ensures.rules c.rules-rules.ensures.sound in
-    let alive = alive_before c.args.sys.now c.args.budget.now c.visits.budget (map head_view c.visits.walk.prefix.items) c.visits.invariant.paid in
-    let seen = c.in-Barren.ensures c.args.sys.now sound alive in
-    record {
-      in_place = c.in_ok-go_on-in-Barren.ensures.in_place;
-      paid =
-          paid_on c.args.sys.now c.args.budget.now c.visits.budget c.visit.new.budget (map head_view c.visits.walk.prefix.items) c.visits.invariant.paid seen.1 seen.0
-          (map head_view c.go_on.new.walk.prefix.items)
-          (goes c.args.sys.now (map head_view c.visits.walk.prefix.items) (map head_view c.go_on.new.walk.prefix.items) c.in_ok-go_on-in-Barren.field-0 true c.if-not-branch.false
-          (λ n done. c.in_ok-go_on-in-Barren.ensures.goes c.args.sys.now n heads_are done));
-    }
-
-pub returns-in-Good-clause-answer : goal.returns-in-Good-clause-answer
-returns-in-Good-clause-answer c =
-    let heads_are = ap (map head_view) c.deref-heads.ensures.value ∙ c.requires.heads in
-    let sound =
-    sound_of c.args.sys.now c.args.unraveled.now.system (map head_view c.deref-heads.result.now) (map rule_view c.rules-rules.result.now)
-    c.requires.system heads_are c.rules-rules.ensures.rules c.rules-rules.ensures.sound in
-    let alive = alive_before c.args.sys.now c.args.budget.now c.visits.budget (map head_view c.visits.walk.prefix.items) c.visits.invariant.paid in
-    let seen = c.in-Good.ensures c.args.sys.now sound alive in
-    first_good c.args.sys.now c.args.budget.now c.visits.budget c.visit.new.budget (map head_view c.visits.walk.prefix.items) c.visits.invariant.paid seen.2 c.requires.fits seen.0 seen.1
-
-pub returns-in-Good-clause-kept : goal.returns-in-Good-clause-kept
-returns-in-Good-clause-kept c =
-    let heads_are = ap (map head_view) c.deref-heads.ensures.value ∙ c.requires.heads in
-    let sound =
-    sound_of c.args.sys.now c.args.unraveled.now.system (map head_view c.deref-heads.result.now) (map rule_view c.rules-rules.result.now)
-    c.requires.system heads_are c.rules-rules.ensures.rules c.rules-rules.ensures.sound in
-    let alive = alive_before c.args.sys.now c.args.budget.now c.visits.budget (map head_view c.visits.walk.prefix.items) c.visits.invariant.paid in
-    let seen = c.in-Good.ensures c.args.sys.now sound alive in
-    still_kept c.args.sys.now c.args.budget.now c.visits.budget c.visit.new.budget (map head_view c.visits.walk.prefix.items) c.visits.invariant.paid seen.2
-
-pub returns-in-Unpaid-clause-answer : goal.returns-in-Unpaid-clause-answer
-returns-in-Unpaid-clause-answer c =
-    let heads_are = ap (map head_view) c.deref-heads.ensures.value ∙ c.requires.heads in
-    let sound =
-    sound_of c.args.sys.now c.args.unraveled.now.system (map head_view c.deref-heads.result.now) (map rule_view c.rules-rules.result.now)
-    c.requires.system heads_are c.rules-rules.ensures.rules c.rules-rules.ensures.sound in
-    let alive = alive_before c.args.sys.now c.args.budget.now c.visits.budget (map head_view c.visits.walk.prefix.items) c.visits.invariant.paid in
-    let seen = c.in-Unpaid.ensures c.args.sys.now sound alive in
-    stopped c.args.sys.now c.args.budget.now c.visits.budget c.visit.new.budget (map head_view c.visits.walk.prefix.items) c.visits.invariant.paid seen.0 seen.1 seen.2
-
-pub visit-requires-clause-sorted : goal.visit-requires-clause-sorted
-visit-requires-clause-sorted c = sorted_heads c.args.sys.now (map head_view c.deref-heads.result.now) (ap (map head_view) c.deref-heads.ensures.value ∙ c.requires.heads)
-
-pub visit-requires-clause-few : goal.visit-requires-clause-few
-visit-requires-clause-few c =
-    let few = few_heads c.args.sys.now c.args.unraveled.now.system c.requires.system c.rules-rules.ensures.sound in
-    let many = length-map c.deref-heads.result.now head_view in
-    let same = ap length (ap (map head_view) c.deref-heads.ensures.value ∙ c.requires.heads) in
-    omega (arith, few, many, same)
 
 pub go_down-requires-clause-some : goal.go_down-requires-clause-some
 go_down-requires-clause-some c =
-    let heads_are = ap (map head_view) c.deref-heads.ensures.value ∙ c.requires.heads in
-    let sound =
-    sound_of c.args.sys.now c.args.unraveled.now.system (map head_view c.deref-heads.result.now) (map rule_view c.rules-rules.result.now)
-    c.requires.system heads_are c.rules-rules.ensures.rules c.rules-rules.ensures.sound in
-    let alive = alive_before c.args.sys.now c.args.budget.now c.visits.budget (map head_view c.visits.walk.prefix.items) c.visits.invariant.paid in
-    let seen = c.in-Alive.ensures c.args.sys.now sound alive in
+    let seen = c.in-Alive.ensures c.args.sys.now c.visits.invariant.sound (alive_before c.visits.invariant.paid) in
     let less = seen.1 in
     let one = length-map c.visits.walk.prefix.items head_view in
     let two = length-map c.deref-heads.result.now head_view in
-    let same = ap length heads_are in
+    let same = ap length c.visits.invariant.sound.of.heads_are in
     omega (arith, less, one, two, same)
 
+-- behind one that is alive
 pub visits-preserved-in_ok-go_down-in-Alive : goal.visits-preserved-in_ok-go_down-in-Alive
 visits-preserved-in_ok-go_down-in-Alive c =
-    let heads_are = ap (map head_view) c.deref-heads.ensures.value ∙ c.requires.heads in
-    let sound =
-    sound_of c.args.sys.now c.args.unraveled.now.system (map head_view c.deref-heads.result.now) (map rule_view c.rules-rules.result.now)
-    c.requires.system heads_are c.rules-rules.ensures.rules c.rules-rules.ensures.sound in
-    let alive = alive_before c.args.sys.now c.args.budget.now c.visits.budget (map head_view c.visits.walk.prefix.items) c.visits.invariant.paid in
-    let seen = c.in-Alive.ensures c.args.sys.now sound alive in
+    let seen = c.in-Alive.ensures c.args.sys.now c.visits.invariant.sound (alive_before c.visits.invariant.paid) in
     record {
       in_place = c.in_ok-go_down-in-Alive.ensures.in_place;
       paid =
-          paid_down c.args.sys.now c.args.budget.now c.visits.budget c.visit.new.budget (map head_view c.visits.walk.prefix.items) c.visits.invariant.paid seen.0 seen.2
-          (map head_view c.go_down.new.walk.prefix.items)
-          (c.in_ok-go_down-in-Alive.ensures.down c.args.sys.now heads_are);
+          paid_down c.visits.invariant.paid seen.2 seen.0 (map head_view c.go_down.new.walk.prefix.items)
+          (c.in_ok-go_down-in-Alive.ensures.down c.args.sys.now c.visits.invariant.sound.of.heads_are);
+      sorted = c.visits.invariant.sorted;
+      few = c.visits.invariant.few;
+      sound = c.visits.invariant.sound;
     }
 
 pub visits-smaller-in_ok-go_down-in-Alive : goal.visits-smaller-in_ok-go_down-in-Alive
 visits-smaller-in_ok-go_down-in-Alive c =
-    let heads_are = ap (map head_view) c.deref-heads.ensures.value ∙ c.requires.heads in
-    let sound =
-    sound_of c.args.sys.now c.args.unraveled.now.system (map head_view c.deref-heads.result.now) (map rule_view c.rules-rules.result.now)
-    c.requires.system heads_are c.rules-rules.ensures.rules c.rules-rules.ensures.sound in
-    let alive = alive_before c.args.sys.now c.args.budget.now c.visits.budget (map head_view c.visits.walk.prefix.items) c.visits.invariant.paid in
-    let seen = c.in-Alive.ensures c.args.sys.now sound alive in
+    let seen = c.in-Alive.ensures c.args.sys.now c.visits.invariant.sound (alive_before c.visits.invariant.paid) in
     let all = length c.deref-heads.result.now in
-    let down = (c.in_ok-go_down-in-Alive.ensures.down c.args.sys.now heads_are).0 in
+    let down = (c.in_ok-go_down-in-Alive.ensures.down c.args.sys.now c.visits.invariant.sound.of.heads_are).0 in
     let less = seen.1 in
-    let same = ap length heads_are in
+    let same = ap length c.visits.invariant.sound.of.heads_are in
     let many = length-map c.deref-heads.result.now head_view in
     let before = length-map c.visits.walk.prefix.items head_view in
     let behind = length-map c.go_down.new.walk.prefix.items head_view in
     fewer_left c.visit.new.budget.left c.visits.budget.left (all + 1) (all - length c.go_down.new.walk.prefix.items) (all - length c.visits.walk.prefix.items) (ap (λ (b : Counts). b.left) seen.2)
     (omega (arith, down, less, same, many, before, behind))
 
+pub returns-in_err-go_down-in-Alive-clause-kept : goal.returns-in_err-go_down-in-Alive-clause-kept
+returns-in_err-go_down-in-Alive-clause-kept c =
+    let seen = c.in-Alive.ensures c.args.sys.now c.visits.invariant.sound (alive_before c.visits.invariant.paid) in unspent c.visits.invariant.paid seen.2
+
+-- behind one that is dead
+pub visits-preserved : goal.visits-preserved
+visits-preserved c =
+    let seen = c.in-Barren.ensures c.args.sys.now c.visits.invariant.sound (alive_before c.visits.invariant.paid) in
+    record {
+      in_place = c.in_ok-go_on-in-Barren.ensures.in_place;
+      paid =
+          paid_on c.visits.invariant.paid seen.1 seen.0 (map head_view c.go_on.new.walk.prefix.items)
+          (goes c.args.sys.now (map head_view c.visits.walk.prefix.items) (map head_view c.go_on.new.walk.prefix.items) c.in_ok-go_on-in-Barren.field-0 true c.if-not-branch.false
+          (λ n done. c.in_ok-go_on-in-Barren.ensures.goes c.args.sys.now n c.visits.invariant.sound.of.heads_are done));
+      sorted = c.visits.invariant.sorted;
+      few = c.visits.invariant.few;
+      sound = c.visits.invariant.sound;
+    }
+
 pub visits-smaller : goal.visits-smaller
 visits-smaller c =
-    let heads_are = ap (map head_view) c.deref-heads.ensures.value ∙ c.requires.heads in
-    let sound =
-    sound_of c.args.sys.now c.args.unraveled.now.system (map head_view c.deref-heads.result.now) (map rule_view c.rules-rules.result.now)
-    c.requires.system heads_are c.rules-rules.ensures.rules c.rules-rules.ensures.sound in
-    let alive = alive_before c.args.sys.now c.args.budget.now c.visits.budget (map head_view c.visits.walk.prefix.items) c.visits.invariant.paid in
-    let seen = c.in-Barren.ensures c.args.sys.now sound alive in
+    let seen = c.in-Barren.ensures c.args.sys.now c.visits.invariant.sound (alive_before c.visits.invariant.paid) in
     let all = length c.deref-heads.result.now in
     let unit = seen.1.left in
     smaller c.visit.new.budget.left c.visits.budget.left (all + 1) (all - length c.go_on.new.walk.prefix.items) (all - length c.visits.walk.prefix.items) (omega (arith, unit)) (omega arith)
 
-pub returns-in_err-go_down-in-Alive-clause-kept : goal.returns-in_err-go_down-in-Alive-clause-kept
-returns-in_err-go_down-in-Alive-clause-kept c =
-    let heads_are = ap (map head_view) c.deref-heads.ensures.value ∙ c.requires.heads in
-    let sound =
-    sound_of c.args.sys.now c.args.unraveled.now.system (map head_view c.deref-heads.result.now) (map rule_view c.rules-rules.result.now)
-    c.requires.system heads_are c.rules-rules.ensures.rules c.rules-rules.ensures.sound in
-    let alive = alive_before c.args.sys.now c.args.budget.now c.visits.budget (map head_view c.visits.walk.prefix.items) c.visits.invariant.paid in
-    let seen = c.in-Alive.ensures c.args.sys.now sound alive in
-    unspent c.args.sys.now c.args.budget.now c.visits.budget c.visit.new.budget (map head_view c.visits.walk.prefix.items) c.visits.invariant.paid seen.2
+pub returns-then-not-branch-clause-answer : goal.returns-then-not-branch-clause-answer
+returns-then-not-branch-clause-answer c =
+    let seen = c.in-Barren.ensures c.args.sys.now c.visits.invariant.sound (alive_before c.visits.invariant.paid) in
+    none_good c.visits.invariant.paid seen.1 seen.0
+    (goes c.args.sys.now (map head_view c.visits.walk.prefix.items) (map head_view c.go_on.new.walk.prefix.items) c.in_ok-go_on-in-Barren.field-0 false c.if-not-branch.true
+    (λ n done. c.in_ok-go_on-in-Barren.ensures.goes c.args.sys.now n c.visits.invariant.sound.of.heads_are done))
+
+pub returns-then-not-branch-clause-kept : goal.returns-then-not-branch-clause-kept
+returns-then-not-branch-clause-kept c =
+    let seen = c.in-Barren.ensures c.args.sys.now c.visits.invariant.sound (alive_before c.visits.invariant.paid) in still_kept c.visits.invariant.paid seen.1
+
+pub returns-in_err-go_on-in-Barren-clause-kept : goal.returns-in_err-go_on-in-Barren-clause-kept
+returns-in_err-go_on-in-Barren-clause-kept c =
+    let seen = c.in-Barren.ensures c.args.sys.now c.visits.invariant.sound (alive_before c.visits.invariant.paid) in still_kept c.visits.invariant.paid seen.1
+
+-- at a good one, and where no unit is left
+pub returns-in-Good-clause-answer : goal.returns-in-Good-clause-answer
+returns-in-Good-clause-answer c =
+    let seen = c.in-Good.ensures c.args.sys.now c.visits.invariant.sound (alive_before c.visits.invariant.paid) in
+    first_good c.visits.invariant.paid seen.2 c.requires.fits seen.0 seen.1
+
+pub returns-in-Good-clause-kept : goal.returns-in-Good-clause-kept
+returns-in-Good-clause-kept c =
+    let seen = c.in-Good.ensures c.args.sys.now c.visits.invariant.sound (alive_before c.visits.invariant.paid) in still_kept c.visits.invariant.paid seen.2
+
+pub returns-in-Unpaid-clause-answer : goal.returns-in-Unpaid-clause-answer
+returns-in-Unpaid-clause-answer c =
+    let seen = c.in-Unpaid.ensures c.args.sys.now c.visits.invariant.sound (alive_before c.visits.invariant.paid) in stopped c.visits.invariant.paid seen.2 seen.0 seen.1
 
 pub returns-in-Unpaid-clause-kept : goal.returns-in-Unpaid-clause-kept
 returns-in-Unpaid-clause-kept c =
-    let heads_are = ap (map head_view) c.deref-heads.ensures.value ∙ c.requires.heads in
-    let sound =
-    sound_of c.args.sys.now c.args.unraveled.now.system (map head_view c.deref-heads.result.now) (map rule_view c.rules-rules.result.now)
-    c.requires.system heads_are c.rules-rules.ensures.rules c.rules-rules.ensures.sound in
-    let alive = alive_before c.args.sys.now c.args.budget.now c.visits.budget (map head_view c.visits.walk.prefix.items) c.visits.invariant.paid in
-    let seen = c.in-Unpaid.ensures c.args.sys.now sound alive in
-    unspent c.args.sys.now c.args.budget.now c.visits.budget c.visit.new.budget (map head_view c.visits.walk.prefix.items) c.visits.invariant.paid seen.2
+    let seen = c.in-Unpaid.ensures c.args.sys.now c.visits.invariant.sound (alive_before c.visits.invariant.paid) in unspent c.visits.invariant.paid seen.2

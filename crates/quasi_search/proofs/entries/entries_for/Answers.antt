@@ -5,8 +5,9 @@ use Rattle.search_spaces.specs.Entries.{entry_for}
 use Rattle.quasi_space.specs.QuasiItems.{quasi_item_cost, GivesQuasi, quasi_items}
 use Rattle.quasi_space.specs.Quasi.{IsQuasiEntry, StopsAtQuasi, items_cost}
 use Rattle.quasi_space.proofs.Entries.{no_quasi_entry}
+use Rattle.cc_count.proofs.Spending.{kept_on}
 use Rattle.cc_count.specs.declared.Sought.TheVariants.{Found, Nothing, Spent}
-use Rattle.pair_search.proofs.Walking.{among_here, told, entry_more, row_ends, row_stops, kept_more}
+use Rattle.pair_search.proofs.Walking.{among_here, told, entry_more, row_ends, row_stops}
 use Rattle.quasi_search.proofs.entries.entries_for.Goals as goal
 
 pub try_overlap-requires : goal.try_overlap-requires
@@ -16,9 +17,7 @@ try_overlap-requires c = record {
 }
 
 pub returns-in_err-add_entry-in-Ok-Found-clause-kept : goal.returns-in_err-add_entry-in-Ok-Found-clause-kept
-returns-in_err-add_entry-in-Ok-Found-clause-kept c =
-    kept_more (IsQuasiEntry c.args.sys.now) c.args.overlaps.now c.rows.overlap-index c.overlap-item.result c.rows-test.true c.overlap-item.is c.args.budget.now c.rows.budget
-    c.try_overlap.new.budget c.rows.entries.items c.rows.invariant.far c.in-Ok-Found.ensures.kept
+returns-in_err-add_entry-in-Ok-Found-clause-kept c = kept_on _ _ _ (c.rows.invariant.far.0, c.rows.invariant.far.1) c.in-Ok-Found.ensures.kept
 
 pub returns-in-Ok-Nothing-clause-answer : goal.returns-in-Ok-Nothing-clause-answer
 returns-in-Ok-Nothing-clause-answer c =
@@ -30,9 +29,7 @@ returns-in-Ok-Nothing-clause-answer c =
     (items_cost c.args.sys.now) w.0 (no_quasi_entry c.args.sys.now o w.1)
 
 pub returns-in-Ok-Nothing-clause-kept : goal.returns-in-Ok-Nothing-clause-kept
-returns-in-Ok-Nothing-clause-kept c =
-    kept_more (IsQuasiEntry c.args.sys.now) c.args.overlaps.now c.rows.overlap-index c.overlap-item.result c.rows-test.true c.overlap-item.is c.args.budget.now c.rows.budget
-    c.try_overlap.new.budget c.rows.entries.items c.rows.invariant.far c.in-Ok-Nothing.ensures.kept
+returns-in-Ok-Nothing-clause-kept c = kept_on _ _ _ (c.rows.invariant.far.0, c.rows.invariant.far.1) c.in-Ok-Nothing.ensures.kept
 
 pub returns-in-Ok-Spent-clause-answer : goal.returns-in-Ok-Spent-clause-answer
 returns-in-Ok-Spent-clause-answer c =
@@ -44,14 +41,10 @@ returns-in-Ok-Spent-clause-answer c =
     c.in-Ok-Spent.field-0-is c.in-Ok-Spent.ensures.answer)
 
 pub returns-in-Ok-Spent-clause-kept : goal.returns-in-Ok-Spent-clause-kept
-returns-in-Ok-Spent-clause-kept c =
-    kept_more (IsQuasiEntry c.args.sys.now) c.args.overlaps.now c.rows.overlap-index c.overlap-item.result c.rows-test.true c.overlap-item.is c.args.budget.now c.rows.budget
-    c.try_overlap.new.budget c.rows.entries.items c.rows.invariant.far c.in-Ok-Spent.ensures.kept
+returns-in-Ok-Spent-clause-kept c = kept_on _ _ _ (c.rows.invariant.far.0, c.rows.invariant.far.1) c.in-Ok-Spent.ensures.kept
 
 pub returns-in-Err-clause-kept : goal.returns-in-Err-clause-kept
-returns-in-Err-clause-kept c =
-    kept_more (IsQuasiEntry c.args.sys.now) c.args.overlaps.now c.rows.overlap-index c.overlap-item.result c.rows-test.true c.overlap-item.is c.args.budget.now c.rows.budget
-    c.try_overlap.new.budget c.rows.entries.items c.rows.invariant.far c.in-Err.ensures.kept
+returns-in-Err-clause-kept c = kept_on _ _ _ (c.rows.invariant.far.0, c.rows.invariant.far.1) c.in-Err.ensures.kept
 
 pub rows-preserved : goal.rows-preserved
 rows-preserved c =

@@ -11,7 +11,7 @@ use Rattle.pair_search.specs.Answers.{WalkAnswers}
 use Rattle.quasi_space.specs.QuasiItems.{two_reducts, quasi_item_cost, GivesQuasi}
 use Rattle.quasi_search.specs.Listed.{ListedAnswers}
 use Rattle.quasi_search.specs.Reducts.{reducts_view, IsJudged}
-use Rattle.quasi_search.proofs.Listings.{listing_made, listing_stops, made_kept}
+use Rattle.quasi_search.proofs.Listings.{listing_made, listing_stops}
 use Rattle.quasi_search.proofs.Pairs.{each_listed, condition_fits}
 use Rattle.quasi_search.proofs.reducts.try_condition.Goals as goal
 
@@ -25,7 +25,7 @@ returns-in_default-clause-answer c =
     let sys = c.args.sys.now in
     let o = overlap_view c.args.overlap.now in
     let t = view c.args.cond.now.left in
-    listing_stops sys o t c.args.budget.now c.listed_under.new.budget c.in_ok-list.field-0 c.in_default.not-Some c.in_ok-list.ensures
+    listing_stops sys o t c.args.budget.now c.listed_under.new.budget c.in_ok-list.field-0 c.in_default.not-Some c.in_ok-list.ensures.answer
     (map (two_reducts c.args.number) (pairs_of (listing sys o.pair.conditions t)))
 
 pub returns-clause-answer : goal.returns-clause-answer
@@ -33,7 +33,7 @@ returns-clause-answer c =
     let sys = c.args.sys.now in
     let o = overlap_view c.args.overlap.now in
     let t = view c.args.cond.now.left in
-    let made = subst (λ z. ListedAnswers sys o t c.args.budget.now c.listed_under.new.budget (Ok z)) c.in-Some.is c.in_ok-list.ensures in
+    let made = subst (λ z. ListedAnswers sys o t c.args.budget.now c.listed_under.new.budget (Ok z)) c.in-Some.is c.in_ok-list.ensures.answer in
     let all : reducts_view c.deref-2.result.now ≡ listing sys o.pair.conditions t =
     ap reducts_view c.deref-2.ensures.value ∙ c.in_ok-reducts.ensures.listed ∙ ap table_view c.deref.ensures.value ∙ made.0 in
     listing_made sys o t c.args.budget.now c.listed_under.new.budget (map (two_reducts c.args.number) (pairs_of (listing sys o.pair.conditions t))) c.in-Some.list made
@@ -44,11 +44,4 @@ returns-clause-answer c =
     (λ x h. subst (IsAmong x) all h))))
 
 pub returns-clause-kept : goal.returns-clause-kept
-returns-clause-kept c =
-    let sys = c.args.sys.now in
-    let o = overlap_view c.args.overlap.now in
-    let t = view c.args.cond.now.left in
-    kept_on c.args.budget.now c.listed_under.new.budget c.try_pairs.new.budget
-    (made_kept sys o t c.args.budget.now c.listed_under.new.budget c.in-Some.list
-    (subst (λ z. ListedAnswers sys o t c.args.budget.now c.listed_under.new.budget (Ok z)) c.in-Some.is c.in_ok-list.ensures))
-    c.try_pairs.ensures.kept
+returns-clause-kept c = kept_on _ _ _ c.in_ok-list.ensures.kept c.try_pairs.ensures.kept

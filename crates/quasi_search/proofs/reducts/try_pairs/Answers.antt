@@ -1,12 +1,18 @@
-use Rattle.cc_count.proofs.Spending.{kept_on}
-use Rattle.std.proofs.Common.{◌+◌, Ok, drop, arith, sym, subst}
+use Rattle.cc_count.proofs.Spending.{spends_none, kept_on}
+use Rattle.std.proofs.Common.{◌+◌, Ok, drop, arith, sym, subst, refl}
 use Rattle.reach_lists.specs.Laws.{EachOf}
 use Rattle.pair_search.specs.Answers.{WalkAnswers}
-use Rattle.pair_search.proofs.Composed.{goes_on, ends, finishes}
+use Rattle.pair_search.proofs.Composed.{begins, goes_on, ends, finishes}
 use Rattle.quasi_space.specs.QuasiItems.{quasi_item_cost, GivesQuasi}
 use Rattle.quasi_search.specs.Reducts.{reduct_view, IsReductOf}
-use Rattle.quasi_search.proofs.Pairs.{each_at, each_behind, slice_is, items_with, items_of, next_first, none_of}
+use Rattle.quasi_search.proofs.Pairs.{each_at, each_behind, slice_rest, items_with, items_of, next_first, none_of}
 use Rattle.quasi_search.proofs.reducts.try_pairs.Goals as goal
+
+pub firsts-init : goal.firsts-init
+firsts-init c = record {
+  walking = λ sys o each. begins refl;
+  kept = (0, spends_none c.args.budget.now);
+}
 
 pub returns-in_err-end-clause-kept : goal.returns-in_err-end-clause-kept
 returns-in_err-end-clause-kept c = kept_on c.args.budget.now c.firsts.budget c.try_with.new.budget c.firsts.invariant.kept c.in_err-end.ensures.kept
@@ -19,12 +25,12 @@ returns-in_default c =
     let x = c.index-reducts-i.result in
     record {
       answer = λ sys o each.
-          ends quasi_item_cost (GivesQuasi sys o) (items_of k all) c.args.budget.now c.firsts.budget c.try_with.new.budget (items_of k (drop i all)) (items_with k (reduct_view x) (drop (i + 1) all))
-          (items_of k (drop (i + 1) all)) (c.firsts.invariant.walking sys o each) (next_first k all i x c.firsts-test.true c.index-reducts-i.is) c.in_ok-end.end c.in_default.not-Nothing
-          (subst (λ l. WalkAnswers quasi_item_cost (GivesQuasi sys o) (items_with k (reduct_view x) l) c.firsts.budget c.try_with.new.budget (Ok c.in_ok-end.end)) (slice_is all (i + 1))
+          ends (c.firsts.invariant.walking sys o each) c.try_with.new.budget (items_with k (reduct_view x) (drop (i + 1) all)) (items_of k (drop (i + 1) all))
+          (next_first k all i x c.firsts-test.true c.index-reducts-i.is) c.in_ok-end.end c.in_default.not-Nothing
+          (subst (λ l. WalkAnswers quasi_item_cost (GivesQuasi sys o) (items_with k (reduct_view x) l) c.firsts.budget c.try_with.new.budget (Ok c.in_ok-end.end)) (slice_rest all (i + 1))
           (c.in_ok-end.ensures.answer sys o (
             each_at (IsReductOf sys o k) all i x c.firsts-test.true c.index-reducts-i.is each,
-            subst (EachOf (IsReductOf sys o k)) (sym (slice_is all (i + 1)))
+            subst (EachOf (IsReductOf sys o k)) (sym (slice_rest all (i + 1)))
                 (each_behind (IsReductOf sys o k) all (i + 1) each),
           )));
       kept = kept_on c.args.budget.now c.firsts.budget c.try_with.new.budget c.firsts.invariant.kept c.in_ok-end.ensures.kept;
@@ -38,24 +44,17 @@ firsts-preserved c =
     let x = c.index-reducts-i.result in
     record {
       walking = λ sys o each.
-          goes_on quasi_item_cost (GivesQuasi sys o) (items_of k all) c.args.budget.now c.firsts.budget c.try_with.new.budget (items_of k (drop i all))
-          (items_with k (reduct_view x) (drop (i + 1) all))
-          (items_of k (drop (i + 1) all)) (c.firsts.invariant.walking sys o each) (next_first k all i x c.firsts-test.true c.index-reducts-i.is)
-          (subst (λ z. WalkAnswers quasi_item_cost (GivesQuasi sys o) (items_with k (reduct_view x) (drop (i + 1) all)) c.firsts.budget c.try_with.new.budget (Ok z)) c.in-Nothing.is
-          (subst (λ l. WalkAnswers quasi_item_cost (GivesQuasi sys o) (items_with k (reduct_view x) l) c.firsts.budget c.try_with.new.budget (Ok c.in_ok-end.end)) (slice_is all (i + 1))
+          goes_on (c.firsts.invariant.walking sys o each) c.try_with.new.budget (items_with k (reduct_view x) (drop (i + 1) all)) (items_of k (drop (i + 1) all))
+          (next_first k all i x c.firsts-test.true c.index-reducts-i.is) c.in_ok-end.end c.in-Nothing.is
+          (subst (λ l. WalkAnswers quasi_item_cost (GivesQuasi sys o) (items_with k (reduct_view x) l) c.firsts.budget c.try_with.new.budget (Ok c.in_ok-end.end)) (slice_rest all (i + 1))
           (c.in_ok-end.ensures.answer sys o (
             each_at (IsReductOf sys o k) all i x c.firsts-test.true c.index-reducts-i.is each,
-            subst (EachOf (IsReductOf sys o k)) (sym (slice_is all (i + 1)))
+            subst (EachOf (IsReductOf sys o k)) (sym (slice_rest all (i + 1)))
                 (each_behind (IsReductOf sys o k) all (i + 1) each),
-          ))));
+          )));
       kept = kept_on c.args.budget.now c.firsts.budget c.try_with.new.budget c.firsts.invariant.kept c.in_ok-end.ensures.kept;
     }
 
 pub returns-clause-answer : goal.returns-clause-answer
 returns-clause-answer c sys o each =
-    let k = c.args.cond in
-    let all = c.args.reducts.now in
-    let i = c.firsts.i in
-    let over = c.firsts-test.false in
-    finishes quasi_item_cost (GivesQuasi sys o) (items_of k all) c.args.budget.now c.firsts.budget (items_of k (drop i all)) (c.firsts.invariant.walking sys o each)
-    (none_of k all i (omega (arith, over)))
+    let over = c.firsts-test.false in finishes (c.firsts.invariant.walking sys o each) (none_of c.args.cond c.args.reducts.now c.firsts.i (omega (arith, over)))

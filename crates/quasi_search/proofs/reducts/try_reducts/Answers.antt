@@ -1,14 +1,18 @@
-use Rattle.cc_count.proofs.Spending.{kept_on}
-use Rattle.std.proofs.Common.{◌+◌, ◌<◌, ◌≡◌, Ok, get_or, length, map, ap, arith, subst}
+use Rattle.cc_count.proofs.Spending.{spends_none, kept_on}
+use Rattle.std.proofs.Common.{◌+◌, ◌<◌, ◌≡◌, get_or, length, ap, arith, subst, refl}
 use Rattle.term_core.specs.Prelude.{view, condition_view}
 use Rattle.critical_pairs.specs.View.{overlap_view}
-use Rattle.pair_search.specs.Answers.{WalkAnswers}
-use Rattle.pair_search.proofs.Composed.{goes_on, ends, finishes}
-use Rattle.quasi_space.specs.QuasiItems.{reduct_items, quasi_item_cost, GivesQuasi}
+use Rattle.pair_search.proofs.Composed.{begins, goes_on, ends, finishes}
 use Rattle.quasi_search.specs.Reducts.{condition_items}
 use Rattle.quasi_search.proofs.Growths.{few_conditions}
 use Rattle.quasi_search.proofs.Pairs.{numbered, items_behind, none_behind, next_condition}
 use Rattle.quasi_search.proofs.reducts.try_reducts.Goals as goal
+
+pub conds-init : goal.conds-init
+conds-init c = record {
+  walking = begins refl;
+  kept = (0, spends_none c.args.budget.now);
+}
 
 pub overflow_cast-number : goal.overflow_cast-number
 overflow_cast-number c =
@@ -32,12 +36,10 @@ pub returns-in_default : goal.returns-in_default
 returns-in_default c =
     let sys = c.args.sys.now in
     let v = c.args.overlap.now in
-    let hyps = map condition_view v.conds.items in
     let i = c.conds.i in
     let x = c.cond-item.result in
     record {
-      answer = ends quasi_item_cost (GivesQuasi sys (overlap_view v)) (reduct_items sys hyps 1 hyps) c.args.budget.now c.conds.budget c.try_condition.new.budget (items_behind sys v i)
-          (condition_items sys (overlap_view v) (i + 1) (view x.left)) (items_behind sys v (i + 1)) c.conds.invariant.walking
+      answer = ends c.conds.invariant.walking c.try_condition.new.budget (condition_items sys (overlap_view v) (i + 1) (view x.left)) (items_behind sys v (i + 1))
           (next_condition sys v i x (subst (λ z. i < length z) c.deref-cond-items.ensures.value c.conds-test.true) (subst (λ z. x ≡ get_or z i x) c.deref-cond-items.ensures.value c.cond-item.is))
           c.in_ok-end.end c.in_default.not-Nothing c.in_ok-end.ensures.answer;
       kept = kept_on c.args.budget.now c.conds.budget c.try_condition.new.budget c.conds.invariant.kept c.in_ok-end.ensures.kept;
@@ -47,25 +49,17 @@ pub conds-preserved : goal.conds-preserved
 conds-preserved c =
     let sys = c.args.sys.now in
     let v = c.args.overlap.now in
-    let hyps = map condition_view v.conds.items in
     let i = c.conds.i in
     let x = c.cond-item.result in
     record {
-      walking = goes_on quasi_item_cost (GivesQuasi sys (overlap_view v)) (reduct_items sys hyps 1 hyps) c.args.budget.now c.conds.budget c.try_condition.new.budget (items_behind sys v i)
-          (condition_items sys (overlap_view v) (i + 1) (view x.left)) (items_behind sys v (i + 1)) c.conds.invariant.walking
+      walking = goes_on c.conds.invariant.walking c.try_condition.new.budget (condition_items sys (overlap_view v) (i + 1) (view x.left)) (items_behind sys v (i + 1))
           (next_condition sys v i x (subst (λ z. i < length z) c.deref-cond-items.ensures.value c.conds-test.true) (subst (λ z. x ≡ get_or z i x) c.deref-cond-items.ensures.value c.cond-item.is))
-          (subst (λ z. WalkAnswers quasi_item_cost (GivesQuasi sys (overlap_view v)) (condition_items sys (overlap_view v) (i + 1) (view x.left)) c.conds.budget
-          c.try_condition.new.budget (Ok z)) c.in-Nothing.is
-          c.in_ok-end.ensures.answer);
+          c.in_ok-end.end c.in-Nothing.is c.in_ok-end.ensures.answer;
       kept = kept_on c.args.budget.now c.conds.budget c.try_condition.new.budget c.conds.invariant.kept c.in_ok-end.ensures.kept;
     }
 
 pub returns-clause-answer : goal.returns-clause-answer
 returns-clause-answer c =
-    let sys = c.args.sys.now in
-    let v = c.args.overlap.now in
-    let hyps = map condition_view v.conds.items in
     let over = c.conds-test.false in
     let same = ap length c.deref-cond-items.ensures.value in
-    finishes quasi_item_cost (GivesQuasi sys (overlap_view v)) (reduct_items sys hyps 1 hyps) c.args.budget.now c.conds.budget (items_behind sys v c.conds.i) c.conds.invariant.walking
-    (none_behind sys v c.conds.i (omega (arith, over, same)))
+    finishes c.conds.invariant.walking (none_behind c.args.sys.now c.args.overlap.now c.conds.i (omega (arith, over, same)))

@@ -1,11 +1,16 @@
-use Rattle.cc_count.proofs.Spending.{kept_on}
-use Rattle.std.proofs.Common.{◌+◌, ◌∷◌, [], Ok, drop, arith, subst}
-use Rattle.pair_search.specs.Answers.{WalkAnswers}
-use Rattle.pair_search.proofs.Composed.{goes_on, ends, finishes}
-use Rattle.quasi_space.specs.QuasiItems.{two_reducts, quasi_item_cost, GivesQuasi}
+use Rattle.cc_count.proofs.Spending.{spends_none, kept_on}
+use Rattle.std.proofs.Common.{◌+◌, ◌∷◌, [], drop, arith, refl}
+use Rattle.pair_search.proofs.Composed.{begins, goes_on, ends, finishes}
+use Rattle.quasi_space.specs.QuasiItems.{two_reducts}
 use Rattle.quasi_search.specs.Reducts.{reduct_view, IsReductOf}
 use Rattle.quasi_search.proofs.Pairs.{each_at, items_with, next_with, none_with}
 use Rattle.quasi_search.proofs.reducts.try_with.Goals as goal
+
+pub later-init : goal.later-init
+later-init c = record {
+  walking = λ sys o each. begins refl;
+  kept = (0, spends_none c.args.budget.now);
+}
 
 pub returns-in_err-end-clause-kept : goal.returns-in_err-end-clause-kept
 returns-in_err-end-clause-kept c = kept_on c.args.budget.now c.later.budget c.try_pair.new.budget c.later.invariant.kept c.in_err-end.ensures.kept
@@ -19,8 +24,8 @@ returns-in_default c =
     let y = c.second-item.result in
     record {
       answer = λ sys o each.
-          ends quasi_item_cost (GivesQuasi sys o) (items_with k x all) c.args.budget.now c.later.budget c.try_pair.new.budget (items_with k x (drop j all)) (two_reducts k (x, reduct_view y) ∷ [])
-          (items_with k x (drop (j + 1) all)) (c.later.invariant.walking sys o each) (next_with k x all j y c.later-test.true c.second-item.is) c.in_ok-end.end c.in_default.not-Nothing
+          ends (c.later.invariant.walking sys o each) c.try_pair.new.budget (two_reducts k (x, reduct_view y) ∷ []) (items_with k x (drop (j + 1) all))
+          (next_with k x all j y c.later-test.true c.second-item.is) c.in_ok-end.end c.in_default.not-Nothing
           (c.in_ok-end.ensures.answer sys o (each.0, (each_at (IsReductOf sys o k) all j y c.later-test.true c.second-item.is each.1, tt)));
       kept = kept_on c.args.budget.now c.later.budget c.try_pair.new.budget c.later.invariant.kept c.in_ok-end.ensures.kept;
     }
@@ -34,19 +39,13 @@ later-preserved c =
     let y = c.second-item.result in
     record {
       walking = λ sys o each.
-          goes_on quasi_item_cost (GivesQuasi sys o) (items_with k x all) c.args.budget.now c.later.budget c.try_pair.new.budget (items_with k x (drop j all)) (two_reducts k (x, reduct_view y) ∷ [])
-          (items_with k x (drop (j + 1) all)) (c.later.invariant.walking sys o each) (next_with k x all j y c.later-test.true c.second-item.is)
-          (subst (λ z. WalkAnswers quasi_item_cost (GivesQuasi sys o) (two_reducts k (x, reduct_view y) ∷ []) c.later.budget c.try_pair.new.budget (Ok z)) c.in-Nothing.is
-          (c.in_ok-end.ensures.answer sys o (each.0, (each_at (IsReductOf sys o k) all j y c.later-test.true c.second-item.is each.1, tt))));
+          goes_on (c.later.invariant.walking sys o each) c.try_pair.new.budget (two_reducts k (x, reduct_view y) ∷ []) (items_with k x (drop (j + 1) all))
+          (next_with k x all j y c.later-test.true c.second-item.is) c.in_ok-end.end c.in-Nothing.is
+          (c.in_ok-end.ensures.answer sys o (each.0, (each_at (IsReductOf sys o k) all j y c.later-test.true c.second-item.is each.1, tt)));
       kept = kept_on c.args.budget.now c.later.budget c.try_pair.new.budget c.later.invariant.kept c.in_ok-end.ensures.kept;
     }
 
 pub returns-clause-answer : goal.returns-clause-answer
 returns-clause-answer c sys o each =
-    let k = c.args.cond in
-    let x = reduct_view c.args.first.now in
-    let all = c.args.later.now in
-    let j = c.later.second-index in
     let over = c.later-test.false in
-    finishes quasi_item_cost (GivesQuasi sys o) (items_with k x all) c.args.budget.now c.later.budget (items_with k x (drop j all)) (c.later.invariant.walking sys o each)
-    (none_with k x all j (omega (arith, over)))
+    finishes (c.later.invariant.walking sys o each) (none_with c.args.cond (reduct_view c.args.first.now) c.args.later.now c.later.second-index (omega (arith, over)))

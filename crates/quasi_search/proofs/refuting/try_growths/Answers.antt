@@ -18,8 +18,7 @@ pub growths-init : goal.growths-init
 growths-init c =
     record {
       within = omega arith;
-      walking = begins quasi_item_cost (GivesQuasi c.args.sys.now (overlap_view c.args.overlap.now)) (map try_refuting (growths c.len-count.result)) c.args.budget.now
-          (growths_behind 0 c.len-count.result) (all_left c.len-count.result);
+      walking = begins (all_left c.len-count.result);
       kept = (0, spends_none c.args.budget.now);
       knows = c.requires.knows;
     }
@@ -36,8 +35,7 @@ returns-in_default c =
     record {
       answer = subst (λ m. WalkAnswers quasi_item_cost (GivesQuasi c.args.sys.now (overlap_view c.args.overlap.now)) (map try_refuting (growths m)) c.args.budget.now
           c.try_way.new.budget (Ok c.in_ok-end.end)) all
-          (ends quasi_item_cost (GivesQuasi c.args.sys.now (overlap_view c.args.overlap.now)) (map try_refuting (growths n)) c.args.budget.now c.growths.budget c.try_way.new.budget
-          (growths_behind i n) (try_refuting (try_growth (i + 1)) ∷ []) (growths_behind (i + 1) n) c.growths.invariant.walking (next_growth i n c.growths-test.true)
+          (ends c.growths.invariant.walking c.try_way.new.budget (try_refuting (try_growth (i + 1)) ∷ []) (growths_behind (i + 1) n) (next_growth i n c.growths-test.true)
           c.in_ok-end.end c.in_default.not-Nothing c.in_ok-end.ensures.answer);
       kept = kept_on c.args.budget.now c.growths.budget c.try_way.new.budget c.growths.invariant.kept c.in_ok-end.ensures.kept;
       knows = c.in_ok-end.ensures.knows;
@@ -50,11 +48,8 @@ growths-preserved c =
     let below = c.growths-test.true in
     record {
       within = omega (arith, below);
-      walking = goes_on quasi_item_cost (GivesQuasi c.args.sys.now (overlap_view c.args.overlap.now)) (map try_refuting (growths n)) c.args.budget.now c.growths.budget c.try_way.new.budget
-          (growths_behind i n) (try_refuting (try_growth (i + 1)) ∷ []) (growths_behind (i + 1) n) c.growths.invariant.walking (next_growth i n c.growths-test.true)
-          (subst (λ z. WalkAnswers quasi_item_cost (GivesQuasi c.args.sys.now (overlap_view c.args.overlap.now)) (try_refuting (try_growth (i + 1)) ∷ []) c.growths.budget
-          c.try_way.new.budget (Ok z)) c.in-Nothing.is
-          c.in_ok-end.ensures.answer);
+      walking = goes_on c.growths.invariant.walking c.try_way.new.budget (try_refuting (try_growth (i + 1)) ∷ []) (growths_behind (i + 1) n) (next_growth i n c.growths-test.true)
+          c.in_ok-end.end c.in-Nothing.is c.in_ok-end.ensures.answer;
       kept = kept_on c.args.budget.now c.growths.budget c.try_way.new.budget c.growths.invariant.kept c.in_ok-end.ensures.kept;
       knows = c.in_ok-end.ensures.knows;
     }
@@ -67,9 +62,7 @@ returns-clause-answer c =
     let all : n ≡ length (overlap_view c.args.overlap.now).pair.conditions =
     counted c.args.sys.now c.args.overlap.now c.rules-rules.ensures.sound c.requires.overlap n (omega (arith, c.len-count.ensures, c.args.overlap.now.conds.ok.0)) in
     subst (λ m. WalkAnswers quasi_item_cost (GivesQuasi c.args.sys.now (overlap_view c.args.overlap.now)) (map try_refuting (growths m)) c.args.budget.now c.growths.budget (Ok Nothing)) all
-    (finishes quasi_item_cost (GivesQuasi c.args.sys.now (overlap_view c.args.overlap.now)) (map try_refuting (growths n)) c.args.budget.now c.growths.budget
-    (growths_behind i n) c.growths.invariant.walking
-    (none_behind i n (omega (arith, over))))
+    (finishes c.growths.invariant.walking (none_behind i n (omega (arith, over))))
 
 pub returns-clause-kept : goal.returns-clause-kept
 returns-clause-kept c = c.growths.invariant.kept

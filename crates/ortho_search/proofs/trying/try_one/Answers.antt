@@ -1,0 +1,21 @@
+use Rattle.cc_count.proofs.Spending.{none_left}
+use Rattle.std.proofs.Common.{Ok, refl, subst, arith}
+use Rattle.valid_certificates.specs.Kinds.{ortho}
+use Rattle.critical_pairs.specs.View.{overlap_view}
+use Rattle.first_found.specs.Items.{one}
+use Rattle.search_spaces.specs.PairItems.{GivesEvidence}
+use Rattle.pair_search.specs.Answers.{ItemAnswers}
+use Rattle.pair_search.proofs.Composed.{item_stops, item_gives}
+use Rattle.ortho_search.specs.ItemView.{item_view}
+use Rattle.ortho_search.proofs.trying.try_one.Goals as goal
+
+pub returns-then-not-take-clause-answer : goal.returns-then-not-take-clause-answer
+returns-then-not-take-clause-answer c =
+    item_stops one (GivesEvidence ortho c.args.sys.now (overlap_view c.args.overlap.now)) (item_view c.args.item) c.args.budget.now c.take.new.self (omega arith)
+    (none_left c.args.budget.now c.if-not-take.ensures.some.1) (c.if-not-take.ensures.none refl)
+
+pub returns-in-Some-clause-answer : goal.returns-in-Some-clause-answer
+returns-in-Some-clause-answer c =
+    let o = overlap_view c.args.overlap.now in
+    item_gives one (GivesEvidence ortho c.args.sys.now o) (item_view c.args.item) c.args.budget.now c.take.new.self (c.if-not-take.ensures.taken refl) c.in-Some.evidence
+    (subst (λ z. ItemAnswers ortho c.args.sys.now o (item_view c.args.item) (Ok z)) c.in-Some.is c.in_ok-evidence.ensures.answer)
