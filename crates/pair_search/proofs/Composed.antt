@@ -58,8 +58,8 @@ module _ {A : Type 0} (cost : A → ℕ) (Gives : A → math.PairEvidence → Ty
 pub record Walking {A : Type 0} (cost : A → ℕ) (Gives : A → math.PairEvidence → Type 0) (items : List A) (start here : Counts) (rest : List A) : Type 0 where
   pub whole : (c : Counts) (r : Result (Sought PairEvidence) NoMemory) → WalkAnswers cost Gives rest here c r → WalkAnswers cost Gives items start c r
 
-pub begins : {A : Type 0} (cost : A → ℕ) (Gives : A → math.PairEvidence → Type 0) (items : List A) (start : Counts) (rest : List A) → rest ≡ items → Walking cost Gives items start start rest
-begins cost Gives items start rest e = record { whole = λ c r h. subst (λ z. WalkAnswers cost Gives z start c r) e h }
+pub begins : {A : Type 0} {cost : A → ℕ} {Gives : A → math.PairEvidence → Type 0} {items rest : List A} {start : Counts} → rest ≡ items → Walking cost Gives items start start rest
+begins {cost = cost} {Gives = Gives} {start = start} e = record { whole = λ c r h. subst (λ z. WalkAnswers cost Gives z start c r) e h }
 
 module _ {A : Type 0} {cost : A → ℕ} {Gives : A → math.PairEvidence → Type 0} {items : List A} {start here : Counts} {rest : List A} (w : Walking cost Gives items start here rest) where
   module _ (next : Counts) (xs ys : List A) (split : rest ≡ xs ++ ys) (r : Sought PairEvidence) where
