@@ -1,10 +1,6 @@
 use Rattle.cc_count.proofs.Spending.{spends_none, kept_on}
 use Rattle.std.proofs.Common.{◌+◌, ◌∷◌, [], map, drop, get_or, ap, refl, arith}
 use Rattle.std.proofs.lemmas.List.{drop_more, drop_all}
-use Rattle.valid_certificates.specs.Kinds.{ortho}
-use Rattle.critical_pairs.specs.View.{overlap_view}
-use Rattle.first_found.specs.Items.{one}
-use Rattle.search_spaces.specs.PairItems.{GivesEvidence}
 use Rattle.pair_search.proofs.Composed.{begins, goes_on, ends, finishes}
 use Rattle.ortho_search.specs.ItemView.{item_view}
 use Rattle.ortho_search.specs.declared.items.Item.TheVariants.{Trivial}
@@ -13,7 +9,7 @@ use Rattle.ortho_search.proofs.trying.try_items.Goals as goal
 pub items-init : goal.items-init
 items-init c =
     record {
-      walking = begins one (GivesEvidence ortho c.args.sys.now (overlap_view c.args.overlap.now)) (map item_view c.args.items.now) c.args.budget.now (map item_view c.args.items.now) refl;
+      walking = begins refl;
       kept = (0, spends_none c.args.budget.now);
       knows = c.requires.knows;
     }
