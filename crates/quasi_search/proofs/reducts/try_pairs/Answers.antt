@@ -1,12 +1,18 @@
-use Rattle.cc_count.proofs.Spending.{kept_on}
-use Rattle.std.proofs.Common.{◌+◌, Ok, drop, arith, sym, subst}
+use Rattle.cc_count.proofs.Spending.{spends_none, kept_on}
+use Rattle.std.proofs.Common.{◌+◌, Ok, drop, arith, sym, subst, refl}
 use Rattle.reach_lists.specs.Laws.{EachOf}
 use Rattle.pair_search.specs.Answers.{WalkAnswers}
-use Rattle.pair_search.proofs.Composed.{goes_on, ends, finishes}
+use Rattle.pair_search.proofs.Composed.{begins, goes_on, ends, finishes}
 use Rattle.quasi_space.specs.QuasiItems.{quasi_item_cost, GivesQuasi}
 use Rattle.quasi_search.specs.Reducts.{reduct_view, IsReductOf}
 use Rattle.quasi_search.proofs.Pairs.{each_at, each_behind, slice_rest, items_with, items_of, next_first, none_of}
 use Rattle.quasi_search.proofs.reducts.try_pairs.Goals as goal
+
+pub firsts-init : goal.firsts-init
+firsts-init c = record {
+  walking = λ sys o each. begins refl;
+  kept = (0, spends_none c.args.budget.now);
+}
 
 pub returns-in_err-end-clause-kept : goal.returns-in_err-end-clause-kept
 returns-in_err-end-clause-kept c = kept_on c.args.budget.now c.firsts.budget c.try_with.new.budget c.firsts.invariant.kept c.in_err-end.ensures.kept

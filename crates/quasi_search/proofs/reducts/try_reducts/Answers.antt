@@ -1,12 +1,18 @@
-use Rattle.cc_count.proofs.Spending.{kept_on}
-use Rattle.std.proofs.Common.{◌+◌, ◌<◌, ◌≡◌, get_or, length, ap, arith, subst}
+use Rattle.cc_count.proofs.Spending.{spends_none, kept_on}
+use Rattle.std.proofs.Common.{◌+◌, ◌<◌, ◌≡◌, get_or, length, ap, arith, subst, refl}
 use Rattle.term_core.specs.Prelude.{view, condition_view}
 use Rattle.critical_pairs.specs.View.{overlap_view}
-use Rattle.pair_search.proofs.Composed.{goes_on, ends, finishes}
+use Rattle.pair_search.proofs.Composed.{begins, goes_on, ends, finishes}
 use Rattle.quasi_search.specs.Reducts.{condition_items}
 use Rattle.quasi_search.proofs.Growths.{few_conditions}
 use Rattle.quasi_search.proofs.Pairs.{numbered, items_behind, none_behind, next_condition}
 use Rattle.quasi_search.proofs.reducts.try_reducts.Goals as goal
+
+pub conds-init : goal.conds-init
+conds-init c = record {
+  walking = begins refl;
+  kept = (0, spends_none c.args.budget.now);
+}
 
 pub overflow_cast-number : goal.overflow_cast-number
 overflow_cast-number c =

@@ -1,10 +1,16 @@
-use Rattle.cc_count.proofs.Spending.{kept_on}
-use Rattle.std.proofs.Common.{◌+◌, ◌∷◌, [], drop, arith}
-use Rattle.pair_search.proofs.Composed.{goes_on, ends, finishes}
+use Rattle.cc_count.proofs.Spending.{spends_none, kept_on}
+use Rattle.std.proofs.Common.{◌+◌, ◌∷◌, [], drop, arith, refl}
+use Rattle.pair_search.proofs.Composed.{begins, goes_on, ends, finishes}
 use Rattle.quasi_space.specs.QuasiItems.{two_reducts}
 use Rattle.quasi_search.specs.Reducts.{reduct_view, IsReductOf}
 use Rattle.quasi_search.proofs.Pairs.{each_at, items_with, next_with, none_with}
 use Rattle.quasi_search.proofs.reducts.try_with.Goals as goal
+
+pub later-init : goal.later-init
+later-init c = record {
+  walking = λ sys o each. begins refl;
+  kept = (0, spends_none c.args.budget.now);
+}
 
 pub returns-in_err-end-clause-kept : goal.returns-in_err-end-clause-kept
 returns-in_err-end-clause-kept c = kept_on c.args.budget.now c.later.budget c.try_pair.new.budget c.later.invariant.kept c.in_err-end.ensures.kept

@@ -18,8 +18,7 @@ pub growths-init : goal.growths-init
 growths-init c =
     record {
       within = omega arith;
-      walking = begins quasi_item_cost (GivesQuasi c.args.sys.now (overlap_view c.args.overlap.now)) (map try_refuting (growths c.len-count.result)) c.args.budget.now
-          (growths_behind 0 c.len-count.result) (all_left c.len-count.result);
+      walking = begins (all_left c.len-count.result);
       kept = (0, spends_none c.args.budget.now);
       knows = c.requires.knows;
     }
