@@ -31,7 +31,7 @@ fn try_pair(
     budget: &mut Budget,
 ) -> Result<Search, NoMemory>
     requires ends { AreEnds sys.now (view first.start.now) (first.end.now ∷ second.now ∷ []) }
-    ensures { WalkAnswers names.now sys.now (try_ends (view first.start.now) (end_view first.end.now) (end_view second.now) ∷ []) budget.old budget.new result }
+    ensures { WalkAnswers names.now sys.now (try_ends (view first.entry.start.now) (end_view first.entry.end.now) (end_view second.now) ∷ []) budget.old budget.new result }
 {
     if !budget.take() {
         return Ok(Search::Spent);
@@ -52,7 +52,7 @@ fn try_with(
     budget: &mut Budget,
 ) -> Result<Search, NoMemory>
     requires ends { AreEnds sys.now (view first.start.now) (first.end.now ∷ later.now) }
-    ensures { WalkAnswers names.now sys.now (pairs_with (view first.start.now) (end_view first.end.now) (ends_view later.now)) budget.old budget.new result }
+    ensures { WalkAnswers names.now sys.now (pairs_with (view first.entry.start.now) (end_view first.entry.end.now) (ends_view later.now)) budget.old budget.new result }
 {
     'later: for second in later {
         match try_pair(alloc, sys, names, first, second, budget)? {

@@ -14,6 +14,10 @@ returns-then-not-take c =
 
 pub returns-in-Some : goal.returns-in-Some
 returns-in-Some c =
-    pair_found c.args.names.now c.args.sys.now (view c.args.first.start.now) (end_view c.args.first.end.now) (end_view c.args.second.now) c.args.budget.now c.take.new.self
-    (c.if-not-take.ensures.taken refl) c.in-Some.cert
-    (subst (λ z. CandidateAnswers c.args.names.now c.args.sys.now (try_ends (view c.args.first.start.now) (end_view c.args.first.end.now) (end_view c.args.second.now)) (Ok z)) c.in-Some.is c.in_ok-cert.ensures)
+    let names = c.args.names.now in
+    let sys = c.args.sys.now in
+    let t = view c.args.first.start.now in
+    let x = end_view c.args.first.end.now in
+    let y = end_view c.args.second.now in
+    pair_found names sys t x y c.args.budget.now c.take.new.self (c.if-not-take.ensures.taken refl) c.in-Some.cert
+    (subst (λ z. CandidateAnswers names sys (try_ends t x y) (Ok z)) c.in-Some.is c.in_ok-cert.ensures)
