@@ -174,7 +174,8 @@ clash_at_root i j a b lt at_i at_j =
     (each_numbered (λ j b. 1 < j → AreClashing add_zero b) (λ l. absurd (omega (arith, l))) (λ l u. let same = u.1 in cc) (λ l u. let same = u.1 in cc) (λ l u. let same = u.1 in cc) j b at_j)
     (each_numbered (λ j b. 2 < j → AreClashing add_next b) (λ l. absurd (omega (arith, l))) (λ l. absurd (omega (arith, l))) (λ l u. let same = u.1 in cc) (λ l u. let same = u.1 in cc) j b at_j)
     (each_numbered (λ j b. 3 < j → AreClashing fib_zero b) (λ l. absurd (omega (arith, l))) (λ l. absurd (omega (arith, l))) (λ l. absurd (omega (arith, l))) (λ l u. let same = u.1 in cc) j b at_j)
-    (each_numbered (λ j b. 4 < j → AreClashing fibonacci b) (λ l. absurd (omega (arith, l))) (λ l. absurd (omega (arith, l))) (λ l. absurd (omega (arith, l))) (λ l. absurd (omega (arith, l))) j b at_j)
+    (each_numbered (λ j b. 4 < j → AreClashing fibonacci b) (λ l. absurd (omega (arith, l))) (λ l. absurd (omega (arith, l)))
+    (λ l. absurd (omega (arith, l))) (λ l. absurd (omega (arith, l))) j b at_j)
     i a at_i lt
 
 abbrev Empty : Position

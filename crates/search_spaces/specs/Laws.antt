@@ -10,7 +10,8 @@ use Rattle.search_spaces.specs.Ortho.{ortho_space}
 use Rattle.search_spaces.specs.Peak.{peak_space}
 use Rattle.search_spaces.specs.OrthoThenPeak.{ortho_then_peak_space}
 
--- what the space finds is in it and valid, and where it finds nothing, nothing in it is valid; it finds one certificate at most, at one price, which is no more than its cost; that is one number, and it cannot be that it has none
+-- what the space finds is in it and valid, and where it finds nothing, nothing in it is valid;
+-- it finds one certificate at most, at one price, which is no more than its cost; that is one number, and it cannot be that it has none
 pub record IsSearchable (sys : System) (S : Space Certificate) : Type 0 where
   pub searched : IsSearched (IsValid sys) S
   pub finds_once : FindsOnce S
