@@ -96,11 +96,7 @@ module _ (symbols : Symbols) (a : Automaton) where
     Arrives cs q = IsAccepting a q × ReachBy (Has symbols a) t cs q
 
     arrives : (cs : List ℕ) → ((q : ℕ) → q < a.states → Arrives cs q → ⊥) ⊎ FirstBelow (λ q. Arrives cs q → ⊥) (Arrives cs) a.states
-    arrives cs = search_below (λ q. Arrives cs q → ⊥) (Arrives cs) (λ q. other (decided (dec_and (is_accepting q) (reach_by t cs q)))) a.states
-      where
-        other : {A : Type 0} → A ⊎ (A → ⊥) → (A → ⊥) ⊎ A
-        other (inl a) = inr a
-        other (inr k) = inl k
+    arrives cs = search_below (λ q. Arrives cs q → ⊥) (Arrives cs) (λ q. no_or_yes (dec_and (is_accepting q) (reach_by t cs q))) a.states
 
     excludes : Dec (Excludes symbols a t)
     excludes = go (search_lists (λ cs. (q : ℕ) → q < a.states → Arrives cs q → ⊥) (λ cs. FirstBelow (λ q. Arrives cs q → ⊥) (Arrives cs) a.states) arrives a.states (length (variable_occurrences t)))

@@ -13,8 +13,14 @@ module _ (sys : System) where
   large_apart : (i k : ℕ) → i < k → IsFirstTooLarge sys i → IsFirstTooLarge sys k → ⊥
   large_apart i k lt a b = a.here (b.before i a.rule lt a.is_rule)
 
-  abbrev LargeCase : Judgement → Type 0
-  LargeCase j = (i : ℕ) × IsFirstTooLarge sys i × (j ≡ unraveling_large i)
+  -- the unraveled system is too large, or it fits and the rest of the judgement holds
+  abbrev pub SizeCases : (Judgement → Type 0) → Judgement → Type 0
+  SizeCases Rest j = ((i : ℕ) × IsFirstTooLarge sys i × (j ≡ unraveling_large i)) ⊎ (DoesUnravelingFit sys × Rest j)
+
+  pub sizes_once : (Rest : Judgement → Type 0) → IsOnce Judgement Rest → IsOnce Judgement (SizeCases Rest)
+  sizes_once Rest rest_once =
+      test_once Judgement (DoesUnravelingFit sys) (λ j. (i : ℕ) × IsFirstTooLarge sys i × (j ≡ unraveling_large i)) Rest (λ j h fit. h.1.here (fit h.0 h.1.rule h.1.is_rule))
+      (with_once Judgement ℕ (IsFirstTooLarge sys) (λ i j. j ≡ unraveling_large i) (least_once (IsFirstTooLarge sys) large_apart) (λ x j k h q. h ∙ sym q)) rest_once
 
   module _ (es : Interpretation) where
     shape_apart : (i k : ℕ) → i < k → IsFirstMisshapen sys es i → IsFirstMisshapen sys es k → ⊥
@@ -62,7 +68,7 @@ module _ (sys : System) where
     ShapeCases j = ShapeCase j ⊎ (HasShape sys es × NumberCases j)
 
     abbrev MeasureCases : Judgement → Type 0
-    MeasureCases j = LargeCase j ⊎ (DoesUnravelingFit sys × ShapeCases j)
+    MeasureCases j = SizeCases ShapeCases j
 
     -- a rule at which the value does not fall, for a reason
     fails_there : (n : ℕ) (Why : Rule → Type 0) (a : FailsAt sys es n Why) → (Falls es a.rule → ⊥) → IsFirstKept (n, a.rule)
@@ -145,6 +151,4 @@ module _ (sys : System) where
 
     pub judgement_once : IsOnce Judgement (IsInterpretationJudged sys es)
     judgement_once =
-        once_within Judgement (IsInterpretationJudged sys es) MeasureCases measure_cases
-        (test_once Judgement (DoesUnravelingFit sys) LargeCase ShapeCases (λ j h fit. h.1.here (fit h.0 h.1.rule h.1.is_rule))
-        (with_once Judgement ℕ (IsFirstTooLarge sys) (λ i j. j ≡ unraveling_large i) (least_once (IsFirstTooLarge sys) large_apart) (λ x j k h q. h ∙ sym q)) shape_once)
+        once_within Judgement (IsInterpretationJudged sys es) MeasureCases measure_cases (sizes_once ShapeCases shape_once)

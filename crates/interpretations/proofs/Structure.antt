@@ -2,23 +2,14 @@
 use Rattle.std.proofs.Common.{◌≡◌, ℕ, zero, suc, ◌+◌, ◌*◌, ◌<◌, ◌≤◌, ◌⊎◌, inl, inr, refl, sym, ap, ◌∙◌, subst, arith, List, [], ◌∷◌, ◌++◌, length, slice_get, Option, Some, None}
 use Rattle.std.proofs.Common.{option_and_then, ◌^◌, Bool, true, false, nat_eq, if◌then◌else◌}
 use Rattle.std.proofs.Math.Nat.{mul-le-mul_right}
-use Rattle.std.proofs.lemmas.Option.{slice_get_within}
 use Rattle.rewriting.specs.Prelude.{Each, terms_of_rule, IsWellFormed, unraveled, unraveled_from, unraveled_rule, unraveled_rules, keeper, variable_terms, IsActive}
-use Rattle.rewriting.proofs.Common.{Term, var, app, Terms, nil, cons, count, Position, argument, subterm, apply, apply_all, Signature, IsOver, AreOver, Rule, System, rule_at}
+use Rattle.rewriting.proofs.Common.{Term, var, app, Terms, nil, cons, count, Position, argument, subterm, apply, apply_all, Signature, IsOver, Rule, System, rule_at}
 use Rattle.rewriting.proofs.Common.{Condition, sides, variables, with_variables}
+use Rattle.rewriting.specs.Signatures.{HasSymbolsBelow, HaveSymbolsBelow}
+use Rattle.rewriting.proofs.Over.{below_of_over}
 use Rattle.rewriting.proofs.Unraveled.{argument_of_over}
 use Rattle.interpretations.specs.Linear.{Interpretation, number_of, constant, coefficient, coefficient_from, HasShape, AreAllNumbersGood, IsLarge, HasLargePart}
 use Rattle.interpretations.proofs.Bound.{active_number_by, argument_within, in_sum}
-
--- every symbol is below n
-abbrev mutual
-  pub IsPlain : ℕ → Term → Type 0
-  IsPlain n (var x) = Unit {0}
-  IsPlain n (app f ts) = (f < n) × ArePlain n ts
-
-  pub ArePlain : ℕ → Terms → Type 0
-  ArePlain n nil = Unit {0}
-  ArePlain n (cons t ts) = IsPlain n t × ArePlain n ts
 
 abbrev pub AreVariables : Terms → Type 0
 AreVariables nil = Unit {0}
@@ -30,32 +21,23 @@ pub record IsKept (n : ℕ) (t : Term) : Type 0 where
   pub first : Term
   pub others : Terms
   pub shown : t ≡ app symbol (cons first others)
-  pub plain : IsPlain n first
+  pub plain : HasSymbolsBelow n first
   pub variable : AreVariables others
 
 abbrev pub IsSide : ℕ → Term → Type 0
-IsSide n t = IsPlain n t ⊎ IsKept n t
+IsSide n t = HasSymbolsBelow n t ⊎ IsKept n t
 
-mutual
-  over_plain : (arities : Signature) (t : Term) → IsOver arities t → IsPlain (length arities) t
-  over_plain arities (var x) h = tt
-  over_plain arities (app f ts) h = (slice_get_within arities f (count ts) h.0, over_all_plain arities ts h.1)
-
-  over_all_plain : (arities : Signature) (ts : Terms) → AreOver arities ts → ArePlain (length arities) ts
-  over_all_plain arities nil h = tt
-  over_all_plain arities (cons t ts) h = (over_plain arities t h.0, over_all_plain arities ts h.1)
-
-each_plain : (arities : Signature) (ts : Terms) → Each (IsOver arities) ts → Each (IsPlain (length arities)) ts
+each_plain : (arities : Signature) (ts : Terms) → Each (IsOver arities) ts → Each (HasSymbolsBelow (length arities)) ts
 each_plain arities nil h = tt
-each_plain arities (cons t ts) h = (over_plain arities t h.0, each_plain arities ts h.1)
+each_plain arities (cons t ts) h = (below_of_over arities t h.0, each_plain arities ts h.1)
 
 -- renaming variables keeps all this
 mutual
-  plain_renamed : (n : ℕ) (f : ℕ → ℕ) (t : Term) → IsPlain n t → IsPlain n (apply (λ x. var (f x)) t)
+  plain_renamed : (n : ℕ) (f : ℕ → ℕ) (t : Term) → HasSymbolsBelow n t → HasSymbolsBelow n (apply (λ x. var (f x)) t)
   plain_renamed n f (var x) h = tt
   plain_renamed n f (app g ts) h = (h.0, plain_all_renamed n f ts h.1)
 
-  plain_all_renamed : (n : ℕ) (f : ℕ → ℕ) (ts : Terms) → ArePlain n ts → ArePlain n (apply_all (λ x. var (f x)) ts)
+  plain_all_renamed : (n : ℕ) (f : ℕ → ℕ) (ts : Terms) → HaveSymbolsBelow n ts → HaveSymbolsBelow n (apply_all (λ x. var (f x)) ts)
   plain_all_renamed n f nil h = tt
   plain_all_renamed n f (cons t ts) h = (plain_renamed n f t h.0, plain_all_renamed n f ts h.1)
 
@@ -79,7 +61,7 @@ variables_variable : (xs : List ℕ) → AreVariables (variable_terms xs)
 variables_variable [] = tt
 variables_variable (x ∷ xs) = ((x, refl), variables_variable xs)
 
-keeper_side : (n f : ℕ) (t : Term) (xs : List ℕ) → IsPlain n t → IsSide n (keeper f t xs)
+keeper_side : (n f : ℕ) (t : Term) (xs : List ℕ) → HasSymbolsBelow n t → IsSide n (keeper f t xs)
 keeper_side n f t xs h = inr record { symbol = f; first = t; others = variable_terms xs; shown = refl; plain = h; variable = variables_variable xs }
 
 abbrev AllSides : ℕ → List Rule → Type 0
@@ -90,7 +72,8 @@ sides_append : (n : ℕ) (ps qs : List Rule) → AllSides n ps → AllSides n qs
 sides_append n [] qs h k = k
 sides_append n (p ∷ ps) qs (h, hs) k = (h, sides_append n ps qs hs k)
 
-from_sides : (n f : ℕ) (xs : List ℕ) (head : Term) (cs : List Condition) (r : Term) → IsSide n head → Each (IsPlain n) (sides cs) → IsPlain n r → AllSides n (unraveled_from f xs head cs r)
+from_sides : (n f : ℕ) (xs : List ℕ) (head : Term) (cs : List Condition) (r : Term) → IsSide n head → Each (HasSymbolsBelow n) (sides cs) → HasSymbolsBelow n r
+    → AllSides n (unraveled_from f xs head cs r)
 from_sides n f xs head [] r h k p = ((side_renamed n _ head h, side_renamed n _ r (inl p)), tt)
 from_sides n f xs head (c ∷ cs) r h k p = (
   (side_renamed n _ head h, side_renamed n _ (keeper f c.left xs) (keeper_side n f c.left xs k.0)),
@@ -98,7 +81,7 @@ from_sides n f xs head (c ∷ cs) r h k p = (
       (keeper_side n f c.right xs k.1.0) k.1.1 p,
 )
 
-rules_sides : (n f : ℕ) (qs : List Rule) → ((i : ℕ) (q : Rule) → slice_get qs i ≡ Some q → Each (IsPlain n) (terms_of_rule q)) → AllSides n (unraveled_rules f qs)
+rules_sides : (n f : ℕ) (qs : List Rule) → ((i : ℕ) (q : Rule) → slice_get qs i ≡ Some q → Each (HasSymbolsBelow n) (terms_of_rule q)) → AllSides n (unraveled_rules f qs)
 rules_sides n f [] h = tt
 rules_sides n f (q ∷ qs) h =
     let first = h 0 q refl in
@@ -146,10 +129,10 @@ argument_at_most es f ts k t e le =
     let a = in_sum es f 1 ts k t e there in
     record { constants = omega (arith, a); coefficients = λ x. coefficient_in es x f 1 ts k t e there }
 
-plain_argument : (n : ℕ) (ts : Terms) (k : ℕ) (t : Term) → ArePlain n ts → argument ts k ≡ Some t → IsPlain n t
+plain_argument : (n : ℕ) (ts : Terms) (k : ℕ) (t : Term) → HaveSymbolsBelow n ts → argument ts k ≡ Some t → HasSymbolsBelow n t
 plain_argument n nil k t h e = absurd (cc)
 plain_argument n (cons s ts) zero t h e = absurd (cc)
-plain_argument n (cons s ts) (suc zero) t h e = let same : s ≡ t = cc in subst (IsPlain n) same h.0
+plain_argument n (cons s ts) (suc zero) t h e = let same : s ≡ t = cc in subst (HasSymbolsBelow n) same h.0
 plain_argument n (cons s ts) (suc (suc k)) t h e = plain_argument n ts (suc k) t h.1 e
 
 variable_argument : (ts : Terms) (k : ℕ) (t : Term) → AreVariables ts → argument ts k ≡ Some t → (x : ℕ) × (t ≡ var x)
@@ -168,13 +151,13 @@ module _ (sys : System) (es : Interpretation) (shape : HasShape sys es) (numbers
   active_at_most f ts (suc k) s over active e = let w = argument_within ts (suc k) s e in argument_at_most es f ts k s e (active_number_by sys es shape numbers f k (count ts) over.0 active w.1)
 
   -- no subterm of a plain term is greater
-  plain_dominates : (p : Position) (t u : Term) → IsOver (unraveled sys).arities t → IsPlain (length sys.arities) t → subterm t p ≡ Some u → IsAtMost es u t
+  plain_dominates : (p : Position) (t u : Term) → IsOver (unraveled sys).arities t → HasSymbolsBelow (length sys.arities) t → subterm t p ≡ Some u → IsAtMost es u t
   plain_dominates [] t u over plain e = same_term es t u e
   plain_dominates (k ∷ p) (var x) u over plain e = absurd (cc)
   plain_dominates (k ∷ p) (app f ts) u over plain e = below (argument ts k) refl e (λ s o q at. plain_dominates p s u o q at)
     where
       below : (o : Option Term) → argument ts k ≡ o → option_and_then (λ s. subterm s p) o ≡ Some u
-          → ((s : Term) → IsOver (unraveled sys).arities s → IsPlain (length sys.arities) s → subterm s p ≡ Some u → IsAtMost es u s) → IsAtMost es u (app f ts)
+          → ((s : Term) → IsOver (unraveled sys).arities s → HasSymbolsBelow (length sys.arities) s → subterm s p ≡ Some u → IsAtMost es u s) → IsAtMost es u (app f ts)
       below None here at ih = absurd (cc)
       below (Some s) here at ih =
           at_most-trans es u s (app f ts) (ih s (argument_of_over (unraveled sys).arities (app f ts) k s here over) (plain_argument (length sys.arities) ts k s plain.1 here) at)
@@ -186,7 +169,7 @@ module _ (sys : System) (es : Interpretation) (shape : HasShape sys es) (numbers
 
   -- a subterm of a side is at most the side, or a variable
   kept_dominates : (p : Position) (symbol : ℕ) (first : Term) (others : Terms) (u : Term) → IsOver (unraveled sys).arities (app symbol (cons first others))
-      → IsPlain (length sys.arities) first → AreVariables others → subterm (app symbol (cons first others)) p ≡ Some u
+      → HasSymbolsBelow (length sys.arities) first → AreVariables others → subterm (app symbol (cons first others)) p ≡ Some u
       → IsAtMost es u (app symbol (cons first others)) ⊎ ((x : ℕ) × (u ≡ var x))
   kept_dominates [] symbol first others u over plain vs e = inl (same_term es _ u e)
   kept_dominates (zero ∷ p) symbol first others u over plain vs e = absurd (cc)

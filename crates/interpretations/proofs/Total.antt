@@ -5,11 +5,19 @@ use Rattle.std.proofs.lemmas.Option.{slice_get_within}
 use Rattle.rewriting.specs.Prelude.{System, EachRule, unraveled, unraveled_rule, heads}
 use Rattle.rewriting.proofs.Search.{FirstBelow, search_below, FirstAt, search_at, FirstRule, search_rules}
 use Rattle.certificates.specs.Prelude.{LinearEntry, wrong_shape, wrong_coefficient, overflow_at, smaller_variable, smaller_constant}
-use Rattle.interpretations.specs.Size.{first_keeper, DoesRuleFit, DoesUnravelingFit}
+use Rattle.interpretations.specs.Size.{first_keeper, DoesRuleFit, DoesUnravelingFit, IsFirstTooLarge}
 use Rattle.interpretations.specs.Judgement.{Judgement, good, not_good, unraveling_large}
 use Rattle.interpretations.specs.Linear.{Interpretation, IsEntry, HasShape, AreNumbersGood, AreAllNumbersGood, Falls}
 use Rattle.interpretations.specs.Judged.{IsFirstMisshapen, IsInterpretationJudged}
 use Rattle.interpretations.proofs.Decided.{sides_fit, entry, numbers_good, DoesNotFall, overflows, variable_counts_more, constant_is_kept, falls}
+
+-- the unraveled system fits, or some rule of it is the first that is too large
+pub fit_or_large : (sys : System) → DoesUnravelingFit sys ⊎ ((i : ℕ) × IsFirstTooLarge sys i)
+fit_or_large sys = go (search_rules (DoesRuleFit sys) (λ i q. DoesRuleFit sys i q → ⊥) sys (λ i q at. sides_fit (unraveled_rule (first_keeper sys i) q)))
+  where
+    go : DoesUnravelingFit sys ⊎ FirstRule (DoesRuleFit sys) (λ i q. DoesRuleFit sys i q → ⊥) sys → DoesUnravelingFit sys ⊎ ((i : ℕ) × IsFirstTooLarge sys i)
+    go (inl fit) = inl fit
+    go (inr first) = inr (first.number, record { rule = first.found; is_rule = first.is_rule; before = first.before; here = first.has })
 
 module _ (sys : System) (es : Interpretation) where
   abbrev Judged : Type 0
@@ -65,9 +73,9 @@ module _ (sys : System) (es : Interpretation) where
   of_shape fit (inl s) = of_numbers fit s (search_at Good Bad es (λ k e at. numbers_good sys k e.coefficients))
   of_shape fit (inr (k, h)) = (not_good (wrong_shape (suc k)), (fit, (k, refl, h)))
 
-  of_sizes : DoesUnravelingFit sys ⊎ FirstRule (DoesRuleFit sys) (λ i q. DoesRuleFit sys i q → ⊥) sys → Judged
+  of_sizes : DoesUnravelingFit sys ⊎ ((i : ℕ) × IsFirstTooLarge sys i) → Judged
   of_sizes (inl fit) = of_shape fit shape
-  of_sizes (inr first) = (unraveling_large first.number, record { rule = first.found; is_rule = first.is_rule; before = first.before; here = first.has })
+  of_sizes (inr (i, large)) = (unraveling_large i, large)
 
   pub interpretation_total : (j : Judgement) × IsInterpretationJudged sys es j
-  interpretation_total = of_sizes (search_rules (DoesRuleFit sys) (λ i q. DoesRuleFit sys i q → ⊥) sys (λ i q at. sides_fit (unraveled_rule (first_keeper sys i) q)))
+  interpretation_total = of_sizes (fit_or_large sys)

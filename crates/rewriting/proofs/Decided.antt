@@ -2,7 +2,7 @@
 use Rattle.std.proofs.Common.{◌≡◌, ℕ, zero, suc, ◌<◌, ◌≤◌, ◌⊎◌, inl, inr, refl, subst, [], ◌∷◌, Some, Bool, true, false, arith}
 use Rattle.general_lemmas.proofs.Numbers.{le_or_lt}
 use Rattle.rewriting.proofs.Common.{Term, var, app, Terms, nil, cons, Position, argument, argument_of, subterm}
-use Rattle.rewriting.proofs.Positions.{within}
+use Rattle.rewriting.proofs.Positions.{none_at_zero, within}
 
 -- a fact, or its contrary
 abbrev pub IsDecided : Type 0 → Type 0
@@ -58,10 +58,6 @@ module _ (P : Term → Type 0) (test : (t : Term) → IsDecided (P t)) where
   part_here : (t : Term) → P t ⊎ ((k : ℕ) × (u : Term) × (argument_of t k ≡ Some u) × HasPart P u) → HasPart P t
   part_here t (inl h) = ([], t, refl, h)
   part_here t (inr (k, u, at, (p, v, e, h))) = (k ∷ p, v, rw at e, h)
-
-  none_at_zero : (ts : Terms) (u : Term) → argument ts zero ≡ Some u → ⊥
-  none_at_zero nil u e = cc
-  none_at_zero (cons t ts) u e = cc
 
   no_argument : HasArgument nil → ⊥
   no_argument (k, t, at, h) = cc

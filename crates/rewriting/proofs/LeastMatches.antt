@@ -1,15 +1,14 @@
--- Least matches: whether there is one is decided, and its values are those that were there and those of the pattern's variables.
-use Rattle.std.proofs.Common.{◌≡◌, ℕ, ◌⊎◌, inl, inr, Bool, true, false, ◌||◌, cond, Option, Some, None, is_some, nat_cmp, refl, sym, ap, ◌∙◌, ◌↔◌, eq-eqb, Equal}
+-- Least matches: that of a variable, and where their values are from: what was there and the pattern's variables.
+use Rattle.std.proofs.Common.{◌≡◌, ℕ, ◌⊎◌, inl, inr, Bool, true, false, ◌||◌, cond, Option, Some, None, is_some, nat_cmp, refl, sym, ap, ◌∙◌, eq-eqb}
 use Rattle.std.proofs.lemmas.Bool.{or_left, or_right}
 use Rattle.std.specs.Ordering.{eq_by_cmp}
-use Rattle.std.specs.Cmp.{nat_cmp_total, nat_cmp_is, Equal-is}
+use Rattle.std.specs.Cmp.{nat_cmp_total}
 use Rattle.std.specs.FinMap.{get, insert, get-insert, retain_keys, get-retain_keys, nat_cmp-IsAntisymmetric}
-use native.Mathlib.Decide.{ℕ_discrete}
 use Rattle.rewriting.specs.Terms.{Term, Terms, var, app, nil, cons}
 use Rattle.rewriting.specs.Substitutions.{Bindings}
 use Rattle.rewriting.specs.Variables.{occurs, occurs_in}
-use Rattle.rewriting.specs.Matching.{Extends, Solves, SolvesAll, IsLeastMatch, HasNoMatch}
-use Rattle.rewriting.proofs.Equality.{same}
+use Rattle.rewriting.specs.Matching.{Extends, Solves, SolvesAll, IsLeastMatch}
+use Rattle.rewriting.proofs.Finite.{key_is, same_key}
 use Rattle.rewriting.proofs.Instances.{or_cases}
 
 mutual
@@ -24,25 +23,19 @@ mutual
   SolvesAll-extends b c (cons p ps) nil e h = absurd h
   SolvesAll-extends b c (cons p ps) (cons s ss) e h = (Solves-extends b c p s e h.0, SolvesAll-extends b c ps ss e h.1)
 
-key_is : (x y : ℕ) (b : Bool) → eq_by_cmp nat_cmp x y ≡ b → (b ≡ true) ↔ (x ≡ y)
-key_is x y b e = (
-  λ t. nat_cmp-IsAntisymmetric x y ((Equal-is (nat_cmp x y)).0 (e ∙ t)),
-  λ t. sym e ∙ (Equal-is (nat_cmp x y)).1 (sym (nat_cmp_is x y Equal t)),
-)
-
 pub bound_least : (b : Bindings) (x : ℕ) (s : Term) → get b x ≡ None → IsLeastMatch b (insert b x s) (var x) s
 bound_least b x s free = record {
   extends = λ y t h. get-insert nat_cmp_total b x s y ∙ other y t h _ refl;
-  solves = get-insert nat_cmp_total b x s x ∙ ap (λ c. cond c (Some s) (get b x)) ((key_is x x _ refl).1 refl);
+  solves = get-insert nat_cmp_total b x s x ∙ ap (λ c. cond c (Some s) (get b x)) (same_key x x refl);
   least = λ d f k y t h. from d f k y t _ refl (sym (get-insert nat_cmp_total b x s y) ∙ h);
 }
   where
     other : (y : ℕ) (t : Term) → get b y ≡ Some t → (c : Bool) → eq_by_cmp nat_cmp y x ≡ c → cond c (Some s) (get b y) ≡ Some t
-    other y t h true e = (let same : y ≡ x = (key_is y x true e).0 refl in let gone : get b y ≡ None = ap (get b) same ∙ free in cc)
+    other y t h true e = (let same : y ≡ x = key_is y x true e refl in let gone : get b y ≡ None = ap (get b) same ∙ free in cc)
     other y t h false e = h
 
     from : (d : Bindings) → Extends b d → get d x ≡ Some s → (y : ℕ) (t : Term) (c : Bool) → eq_by_cmp nat_cmp y x ≡ c → cond c (Some s) (get b y) ≡ Some t → get d y ≡ Some t
-    from d f k y t true e h = (let same : y ≡ x = (key_is y x true e).0 refl in ap (get d) same ∙ k ∙ h)
+    from d f k y t true e h = (let same : y ≡ x = key_is y x true e refl in ap (get d) same ∙ k ∙ h)
     from d f k y t false e h = f y t h
 
 -- whether the least match needs a variable: it is there beforehand, or occurs in the pattern
@@ -91,56 +84,3 @@ least_needs b c p s m x t e =
     before : (o : Option Term) → get b x ≡ o → is_some (get b x) ≡ true → get b x ≡ Some t
     before None q l = (let none : is_some (get b x) ≡ false = ap is_some q in cc)
     before (Some u) q l = (let there : get c x ≡ Some u = m.extends x u q in q ∙ sym there ∙ e)
-
--- the same for lists
-record AreLeast (b c : Bindings) (ps ss : Terms) : Type 0 where
-  extends : Extends b c
-  solves : SolvesAll c ps ss
-  least : (d : Bindings) → Extends b d → SolvesAll d ps ss → Extends c d
-
-abbrev Match : Bindings → Term → Term → Type 0
-Match b p s = ((c : Bindings) × IsLeastMatch b c p s) ⊎ HasNoMatch b p s
-
-abbrev Matches : Bindings → Terms → Terms → Type 0
-Matches b ps ss = ((c : Bindings) × AreLeast b c ps ss) ⊎ ((d : Bindings) → Extends b d → SolvesAll d ps ss → ⊥)
-
-at_variable : (b : Bindings) (x : ℕ) (s : Term) (o : Option Term) → get b x ≡ o → Match b (var x) s
-at_variable b x s None e = inl (insert b x s, bound_least b x s e)
-at_variable b x s (Some t) e = go (same t s)
-  where
-    go : Dec (t ≡ s) → Match b (var x) s
-    go (yes q) = inl (b, record { extends = λ y u h. h; solves = e ∙ ap Some q; least = λ d f h. f })
-    go (no k) = inr (λ d f h. k (let there = f x t e in let here : get d x ≡ Some s = h in cc))
-
-at_symbol : (b : Bindings) (f g : ℕ) (ps ss : Terms) → Dec (f ≡ g) → Matches b ps ss → Match b (app f ps) (app g ss)
-at_symbol b f g ps ss (no k) m = inr (λ d e h. k h.0)
-at_symbol b f g ps ss (yes q) (inl (c, m)) = inl (c, record { extends = m.extends; solves = (q, m.solves); least = λ d e h. m.least d e h.1 })
-at_symbol b f g ps ss (yes q) (inr none) = inr (λ d e h. none d e h.1)
-
-in_turn : (b : Bindings) (p s : Term) (ps ss : Terms) → Match b p s → ((c : Bindings) → Matches c ps ss) → Matches b (cons p ps) (cons s ss)
-in_turn b p s ps ss (inr none) rest = inr (λ d e h. none d e h.0)
-in_turn b p s ps ss (inl (c, m)) rest = go (rest c)
-  where
-    go : Matches c ps ss → Matches b (cons p ps) (cons s ss)
-    go (inl (e, n)) = inl (
-      e,
-      record {
-        extends = λ x t h. n.extends x t (m.extends x t h);
-        solves = (Solves-extends c e p s n.extends m.solves, n.solves);
-        least = λ d f h. n.least d (m.least d f h.0) h.1;
-      },
-    )
-    go (inr none) = inr (λ d f h. none d (m.least d f h.0) h.1)
-
--- a term matches, with a least extension of the values, or none does
-mutual
-  pub matched : (b : Bindings) (p s : Term) → ((c : Bindings) × IsLeastMatch b c p s) ⊎ HasNoMatch b p s
-  matched b (var x) s = at_variable b x s (get b x) refl
-  matched b (app f ps) (var y) = inr (λ d e h. h)
-  matched b (app f ps) (app g ss) = at_symbol b f g ps ss (ℕ_discrete f g) (matched_all b ps ss)
-
-  matched_all : (b : Bindings) (ps ss : Terms) → Matches b ps ss
-  matched_all b nil nil = inl (b, record { extends = λ x t h. h; solves = tt; least = λ d e h. e })
-  matched_all b nil (cons s ss) = inr (λ d e h. h)
-  matched_all b (cons p ps) nil = inr (λ d e h. h)
-  matched_all b (cons p ps) (cons s ss) = in_turn b p s ps ss (matched b p s) (λ c. matched_all c ps ss)

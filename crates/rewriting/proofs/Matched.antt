@@ -4,8 +4,9 @@ use Rattle.std.specs.FinMap.{get, insert, empty, get-empty}
 use Rattle.rewriting.specs.Matching.{Extends, Solves, SolvesAll, IsLeastMatch, HasNoMatch}
 use Rattle.rewriting.specs.Substitutions.{Matches}
 use Rattle.rewriting.proofs.Common.{Term, var, app, Terms, nil, cons, Substitution, Bindings, apply, apply_all, values_of, occurs}
-use Rattle.rewriting.proofs.LeastMatches.{matched, bound_least, least_needs, Solves-extends}
+use Rattle.rewriting.proofs.LeastMatches.{bound_least, least_needs, Solves-extends}
 use Rattle.rewriting.proofs.Matching.{solved_instance}
+use Rattle.rewriting.proofs.MatchedOnto.{matched}
 
 -- values that a substitution has too
 abbrev Agrees : Bindings → Substitution → Type 0

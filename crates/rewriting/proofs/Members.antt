@@ -1,7 +1,7 @@
 -- Members of lists: on the lists for each member, at their places, at one place, at the end.
 use Rattle.std.proofs.Common.{◌≡◌, ◌⊎◌, inl, inr, ℕ, zero, suc, ◌<◌, List, [], ◌∷◌, ◌++◌, flat_map, length, Some, slice_get, refl, sym, ap, ◌∙◌, subst, arith, Contains}
-use Rattle.rewriting.specs.Lists.{IsAmong, AreDistinct}
-use Rattle.rewriting.proofs.Lists.{among_left, among_right, among_either}
+use Rattle.rewriting.specs.Lists.{IsAmong, AreDistinct, IsSorted}
+use Rattle.rewriting.proofs.Lists.{among_left, among_right, among_either, sorted_append, before_one}
 
 -- what is on the lists for the members of another list
 pub flat_among : {X Y : Type 0} (f : X → List Y) (x : X) (y : Y) (xs : List X) → IsAmong x xs → IsAmong y (f x) → IsAmong y (flat_map f xs)
@@ -16,6 +16,14 @@ of_flat {X = X} f y (z ∷ xs) i = go (among_either y (f z) (flat_map f xs) i) (
     go : IsAmong y (f z) ⊎ IsAmong y (flat_map f xs) → (IsAmong y (flat_map f xs) → (x : X) × IsAmong x xs × IsAmong y (f x)) → (x : X) × IsAmong x (z ∷ xs) × IsAmong y (f x)
     go (inl h) rest = (z, inl refl, h)
     go (inr h) rest = let r = rest h in (r.0, inr r.1, r.2)
+
+-- these lists put end to end are in order, where each is, and what comes from an earlier item is earlier
+pub sorted_flat : {X Y : Type 0} (f : X → List Y) (order : X → X → Type 0) (other : Y → Y → Type 0) → ((x y : X) → order x y → (a b : Y) → IsAmong a (f x) → IsAmong b (f y) → other a b)
+    → (xs : List X) → ((x : X) → IsAmong x xs → IsSorted other (f x)) → IsSorted order xs → IsSorted other (flat_map f xs)
+sorted_flat f order other across [] each h = tt
+sorted_flat f order other across (x ∷ xs) each (h, hs) =
+    sorted_append other (f x) (flat_map f xs) (each x (inl refl)) (sorted_flat f order other across xs (λ y l. each y (inr l)) hs)
+    (λ a b k l. let y = of_flat f b xs l in across x y.0 (before_one order x y.0 xs h y.1) a b k y.2)
 
 -- the places of members
 pub place_among : {X : Type 0} (xs : List X) (i : ℕ) (x : X) → slice_get xs i ≡ Some x → IsAmong x xs

@@ -3,7 +3,7 @@ use Rattle.std.proofs.Common.{ℕ, zero, suc, ◌≡◌, ◌+◌, ◌<◌, ◌�
 use Rattle.rewriting.specs.Terms.{Term, var, app, Terms, nil, cons}
 use Rattle.rewriting.specs.Positions.{Position, IsBefore, argument, subterm}
 use Rattle.rewriting.specs.Rules.{Rule, System, rule_at}
-use Rattle.rewriting.proofs.Positions.{within}
+use Rattle.rewriting.proofs.Positions.{none_at_zero, within}
 use Rattle.rewriting.proofs.Conditions.{Order, is_smaller, is_equal, is_greater, order}
 
 -- the first number below n without P, which has Q
@@ -110,6 +110,11 @@ pub record FirstInside (P Q : Position → Term → Type 0) (k : ℕ) (ts : Term
   pub has : Q ((k + number) ∷ rest) part
   pub before : (l : ℕ) (p : Position) (t u : Term) → (l < number) ⊎ ((l ≡ number) × IsBefore p rest) → argument ts (suc l) ≡ Some t → subterm t p ≡ Some u → P ((k + l) ∷ p) u
 
+-- one number lower on both sides
+lower : (l n : ℕ) (p q : Position) → (suc l < suc n) ⊎ ((suc l ≡ suc n) × IsBefore p q) → (l < n) ⊎ ((l ≡ n) × IsBefore p q)
+lower l n p q (inl less) = inl (omega (arith, less))
+lower l n p q (inr (same, b)) = inr (omega (arith, same), b)
+
 abbrev pub AllSubterms : (P : Position → Term → Type 0) → Term → Type 0
 AllSubterms P t = (p : Position) (u : Term) → subterm t p ≡ Some u → P p u
 
@@ -123,13 +128,9 @@ at_root P Q f ts q = record { position = []; part = app f ts; is_part = refl; ha
     before_root [] b = b
     before_root (k ∷ p) b = b
 
-no_argument : (ts : Terms) (s : Term) → argument ts zero ≡ Some s → ⊥
-no_argument nil s e = cc
-no_argument (cons t ts) s e = cc
-
 all_below : (P : Position → Term → Type 0) (f : ℕ) (ts : Terms) → P [] (app f ts) → AllInside P 1 ts → AllSubterms P (app f ts)
 all_below P f ts h all [] u e = subst (P []) (let same : app f ts ≡ u = cc in same) h
-all_below P f ts h all (zero ∷ p) u e = absurd (let w = within (app f ts) zero p u e in no_argument ts w.part w.here)
+all_below P f ts h all (zero ∷ p) u e = absurd (let w = within (app f ts) zero p u e in none_at_zero ts w.part w.here)
 all_below P f ts h all (suc k ∷ p) u e =
     let w = within (app f ts) (suc k) p u e in
     let number : 1 + k ≡ suc k = omega arith in
@@ -148,15 +149,11 @@ first_below P Q f ts h i =
   where
     before : (p : Position) (u : Term) → IsBefore p (suc i.number ∷ i.rest) → subterm (app f ts) p ≡ Some u → P p u
     before [] u b e = subst (P []) (let same : app f ts ≡ u = cc in same) h
-    before (zero ∷ p) u b e = absurd (let w = within (app f ts) zero p u e in no_argument ts w.part w.here)
+    before (zero ∷ p) u b e = absurd (let w = within (app f ts) zero p u e in none_at_zero ts w.part w.here)
     before (suc l ∷ p) u b e =
         let w = within (app f ts) (suc l) p u e in
         let number : 1 + l ≡ suc l = omega arith in
-        subst (λ z. P (z ∷ p) u) number (i.before l p w.part u (lower b) w.here w.inside)
-      where
-        lower : (suc l < suc i.number) ⊎ ((suc l ≡ suc i.number) × IsBefore p i.rest) → (l < i.number) ⊎ ((l ≡ i.number) × IsBefore p i.rest)
-        lower (inl less) = inl (omega (arith, less))
-        lower (inr (same, q)) = inr (omega (arith, same), q)
+        subst (λ z. P (z ∷ p) u) number (i.before l p w.part u (lower l i.number p i.rest b) w.here w.inside)
 
 all_more : (P : Position → Term → Type 0) (k : ℕ) (t : Term) (ts : Terms) → AllSubterms (λ p. P (k ∷ p)) t → AllInside P (suc k) ts → AllInside P k (cons t ts)
 all_more P k t ts h all zero p s u here e =
@@ -206,11 +203,7 @@ in_later P Q k t ts h i =
         let same : t ≡ s = cc in
         let number : k ≡ k + 0 = omega arith in
         subst (λ z. P (z ∷ p) u) number (h p u (subst (λ z. subterm z p ≡ Some u) (sym same) e))
-    before (suc l) p s u b here e = let number : suc k + l ≡ k + suc l = omega arith in subst (λ z. P (z ∷ p) u) number (i.before l p s u (lower b) here e)
-      where
-        lower : (suc l < suc i.number) ⊎ ((suc l ≡ suc i.number) × IsBefore p i.rest) → (l < i.number) ⊎ ((l ≡ i.number) × IsBefore p i.rest)
-        lower (inl less) = inl (omega (arith, less))
-        lower (inr (same, q)) = inr (omega (arith, same), q)
+    before (suc l) p s u b here e = let number : suc k + l ≡ k + suc l = omega arith in subst (λ z. P (z ∷ p) u) number (i.before l p s u (lower l i.number p i.rest b) here e)
 
 mutual
   pub search_subterms : (P Q : Position → Term → Type 0) → ((p : Position) (u : Term) → P p u ⊎ Q p u) → (t : Term) → AllSubterms P t ⊎ FirstSubterm P Q t

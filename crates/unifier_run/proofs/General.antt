@@ -17,6 +17,9 @@ Absorbs s m = (x : ℕ) → s x ≡ apply s (m x)
 pub absorbed : (s m : Substitution) → Absorbs s m → (t : Term) → apply s (apply m t) ≡ apply s t
 absorbed s m a t = apply-apply m s t ∙ sym (apply-agree s (λ x. apply s (m x)) t (λ x o. a x))
 
+pub only-same : (x : ℕ) (v : Term) → only x v x ≡ v
+only-same x v = rw (eq-eqb x x refl) refl
+
 -- one variable put in for v leaves the instance where s has the two alike
 if_only : (s : Substitution) (x : ℕ) (v : Term) → s x ≡ apply s v → (y : ℕ) (b : Bool) → nat_eq y x ≡ b → apply s (if b then v else var y) ≡ s y
 if_only s x v e y true h = sym e ∙ ap s (sym (eqb-true y x h))
@@ -113,16 +116,10 @@ takes_back b c l r xs ys s (binding f n x v h o d e k) hl hr a u =
     let here : s x ≡ apply s v = at x ∙ ap (apply s) (value-extended b x v x ∙ (ap (apply (only x v)) same ∙ only-same x v)) in
     (binds_back s l r x v h here, λ y. at y ∙ (ap (apply s) (value-extended b x v y) ∙ absorbs_only s x v here (value b y)))
   where
-    only-same : (x : ℕ) (v : Term) → only x v x ≡ v
-    only-same x v = rw (eq-eqb x x refl) refl
-
     fixed_variable : (b : List Binding) (l r : Term) (x : ℕ) (v : Term) → Binds l r x v → apply (value b) l ≡ l → apply (value b) r ≡ r → value b x ≡ var x
     fixed_variable b (var y) r x v (e, h) hl hr = ap (value b) e ∙ (hl ∙ ap var (sym e))
     fixed_variable b (app f ts) (var y) x v (e, h) hl hr = ap (value b) e ∙ (hr ∙ ap var (sym e))
     fixed_variable b (app f ts) (app g us) x v h hl hr = absurd h
-
-pub only-same : (x : ℕ) (v : Term) → only x v x ≡ v
-only-same x v = rw (eq-eqb x x refl) refl
 
 takes_lengths : (b c : List Binding) (l r : Term) (xs ys : Terms) → Takes b l r (goes_on c xs ys) → count xs ≡ count ys
 takes_lengths b c l r xs ys (equal_sides f e) = refl
