@@ -1,25 +1,17 @@
 -- Entries for overlaps have one tally, and it tells the first reason why they do not settle these.
-use Rattle.std.proofs.Common.{◌≡◌, ◌⊎◌, inl, inr, ℕ, suc, List, [], ◌∷◌, ◌++◌, Some, None, refl, sym, ap, ◌∙◌, subst}
+use Rattle.std.proofs.Common.{◌≡◌, ◌⊎◌, inl, inr, ℕ, suc, List, [], ◌∷◌, ◌++◌, refl, sym, ap, ◌∙◌, subst}
 use Rattle.rewriting.specs.Rules.{System}
 use Rattle.rewriting.proofs.Once.{IsOnce}
 use Rattle.unifier_run.specs.Overlaps.{Overlap, AreOverlaps}
-use Rattle.certificates.specs.Prelude.{PairEntry, EvidenceReason, Rejection, evidence_fails}
+use Rattle.certificates.specs.Prelude.{PairEntry, Rejection, evidence_fails}
 use Rattle.valid_certificates.specs.Kinds.{Kind}
-use Rattle.valid_certificates.specs.PairEvidence.{IsPairJudged}
 use Rattle.valid_certificates.specs.Entries.{AreSettled, AreNotSettled, DoSettle, DoNotSettle, pair_is_large, pairs_are_many, entry_fails}
-use Rattle.valid_certificates.proofs.OneEvidence.{pair_judged_once}
+use Rattle.valid_certificates.proofs.OneEvidence.{never_judged, one_judged}
 use Rattle.valid_certificates.proofs.OneOverlaps.{overlaps_once, overlaps_or_large, overlaps_or_many}
 use Rattle.tallies.specs.Tally.{Tally, passed, failed, AreTallied}
 use Rattle.tallies.proofs.Taking.{failure_stays}
 
 module _ (kind : Kind) (sys : System) where
-  -- valid evidence has no reason
-  never_judged : (o : Overlap) (e : PairEntry) (why : EvidenceReason) → IsPairJudged kind sys o e.evidence None → IsPairJudged kind sys o e.evidence (Some why) → ⊥
-  never_judged o e why a b = (let same = pair_judged_once kind sys o e.evidence None (Some why) a b in cc)
-
-  one_judged : (o : Overlap) (e : PairEntry) (why other : EvidenceReason) → IsPairJudged kind sys o e.evidence (Some why) → IsPairJudged kind sys o e.evidence (Some other) → why ≡ other
-  one_judged o e why other a b = (let same = pair_judged_once kind sys o e.evidence (Some why) (Some other) a b in cc)
-
   pub tallied_once : (n : ℕ) (os : List Overlap) (es : List PairEntry) → IsOnce Tally (AreTallied kind sys n os es)
   tallied_once n os [] t u a b = a ∙ sym b
   tallied_once n [] (e ∷ es) t u a b = a ∙ sym b
@@ -28,10 +20,10 @@ module _ (kind : Kind) (sys : System) where
   tallied_once n (o ∷ os) (e ∷ es) t u (inl a) (inr (inr b)) = absurd (a.0 b.0)
   tallied_once n (o ∷ os) (e ∷ es) t u (inr (inl a)) (inl b) = absurd (b.0 a.0)
   tallied_once n (o ∷ os) (e ∷ es) t u (inr (inl (_, (why, h, p)))) (inr (inl (_, (other, k, q)))) =
-      p ∙ ap (λ w. failed (evidence_fails (suc n) w)) (one_judged o e why other h k) ∙ sym q
-  tallied_once n (o ∷ os) (e ∷ es) t u (inr (inl (_, (why, h, p)))) (inr (inr (_, k, b))) = absurd (never_judged o e why k h)
+      p ∙ ap (λ w. failed (evidence_fails (suc n) w)) (one_judged kind sys o e.evidence why other h k) ∙ sym q
+  tallied_once n (o ∷ os) (e ∷ es) t u (inr (inl (_, (why, h, p)))) (inr (inr (_, k, b))) = absurd (never_judged kind sys o e.evidence why k h)
   tallied_once n (o ∷ os) (e ∷ es) t u (inr (inr a)) (inl b) = absurd (b.0 a.0)
-  tallied_once n (o ∷ os) (e ∷ es) t u (inr (inr (_, k, a))) (inr (inl (_, (why, h, p)))) = absurd (never_judged o e why k h)
+  tallied_once n (o ∷ os) (e ∷ es) t u (inr (inr (_, k, a))) (inr (inl (_, (why, h, p)))) = absurd (never_judged kind sys o e.evidence why k h)
   tallied_once n (o ∷ os) (e ∷ es) t u (inr (inr (_, _, a))) (inr (inr (_, _, b))) = tallied_once (suc n) os es t u a b
 
   -- settled overlaps have entries that pass

@@ -2,21 +2,21 @@
 use Rattle.std.proofs.Common.{◌≡◌, ◌⊎◌, inl, inr, ℕ, List, [], ◌∷◌, None, refl, sym, ap, ◌∙◌, subst}
 use Rattle.rewriting.specs.Prelude.{System, IsDeterministic}
 use Rattle.rewriting.proofs.Once.{IsOnce, test_once, with_once, once_within}
-use Rattle.unifier_run.specs.Overlaps.{Triple, Overlap, AreOverlaps}
+use Rattle.unifier_run.specs.Overlaps.{Overlap, AreOverlaps}
 use Rattle.interpretations.specs.Judgement.{Judgement, good, not_good, unraveling_large}
 use Rattle.certificates.specs.Prelude.{no_steps, PairEvidence, trivial_pair, joined_pair, PairEntry, linear_measure, ortho_certificate, quasi_certificate, left_linear, type3}
 use Rattle.certificates.specs.Prelude.{extended_oriented, right_stable, deterministic, Blame, Rejection, class_fails, not_irreducible, measure_fails, unraveling_large as large_unraveling}
-use Rattle.certificates.specs.Prelude.{pair_large, pair_missing}
+use Rattle.certificates.specs.Prelude.{pair_missing}
 use Rattle.valid_certificates.specs.Kinds.{Kind, ortho, quasi}
 use Rattle.valid_certificates.specs.PairEvidence.{IsPairJudged, IsAllowed}
-use Rattle.valid_certificates.specs.Entries.{AreNotSettled, DoNotSettle, pair_is_large, pairs_are_many, entry_fails}
+use Rattle.valid_certificates.specs.Entries.{AreNotSettled, DoNotSettle}
 use Rattle.valid_certificates.specs.Confluence.{IsInOrthoClasses, IsBlameOf, IsOrthoRejected, not_left_linear, not_type3, not_oriented, not_right_stable, ortho_pairs_fail}
 use Rattle.valid_certificates.specs.Confluence.{AreRightSidesIrreducible, IsFirstReducible, IsQuasiRejected, not_deterministic, side_is_reducible, measure_is_bad}
 use Rattle.valid_certificates.specs.Confluence.{unraveling_is_large, quasi_pairs_fail}
 use Rattle.valid_certificates.specs.Certificates.{IsMeasureJudged}
 use Rattle.valid_certificates.proofs.OneBlame.{blame_excludes}
-use Rattle.valid_certificates.proofs.OneCertificate.{certificate_answer}
-use Rattle.valid_certificates.proofs.OneOverlaps.{overlaps_once, large_once, large_or_many}
+use Rattle.valid_certificates.proofs.OneCertificate.{entries_once, certificate_answer}
+use Rattle.valid_certificates.proofs.OneOverlaps.{overlaps_once}
 use Rattle.tallies.specs.Tally.{Tally, failed, AreTallied, IsTally, whatever_they_are, one_by_one, IsOrthoTally, IsQuasiTally}
 use Rattle.tallies.proofs.Judged.{tallied_once, listed_not_settled}
 
@@ -50,24 +50,6 @@ module _ (kind : Kind) (sys : System) where
   never_all (o ∷ os) are r all =
       let es = foreign_entry kind o ∷ [] in
       differ o os r (listed_not_settled kind sys (o ∷ os) are [] r (all [])) (listed_not_settled kind sys (o ∷ os) are es r (all es))
-
-  -- where there is no entry, there is one reason at most
-  none_once : (os : List Overlap) → IsOnce Rejection (AreNotSettled kind sys 1 os [])
-  none_once [] r s a b = absurd a
-  none_once (o ∷ os) r s a b = a ∙ sym b
-
-  -- the reason for the first triple that is too large
-  large_reason : Triple → Rejection
-  large_reason (i, (p, j)) = pair_large i p j
-
-  no_entries_once : IsOnce Rejection (DoNotSettle kind sys [])
-  unfolding large_reason
-  no_entries_once r s (pair_is_large i p j a) (pair_is_large k q l b) = ap large_reason (large_once sys i p j k q l a b)
-  no_entries_once r s (pair_is_large i p j a) (pairs_are_many b) = absurd (large_or_many sys i p j a b)
-  no_entries_once r s (pairs_are_many a) (pair_is_large k q l b) = absurd (large_or_many sys k q l b a)
-  no_entries_once r s (pairs_are_many a) (pairs_are_many b) = refl
-  no_entries_once r s (entry_fails os x are a) b = none_once os x s a (listed_not_settled kind sys os are [] s b)
-  no_entries_once r s a (entry_fails os y are b) = none_once os r y (listed_not_settled kind sys os are [] r a) b
 
 -- where certificates without entries are rejected for one reason, and where what is judged before the entries holds, a
 -- certificate is rejected for these alone
@@ -121,7 +103,7 @@ module _ (sys : System) where
   Told (unraveling_large i) r = r ≡ large_unraveling i
 
   told_once : (j : Judgement) → IsOnce Rejection (Told j)
-  told_once good r s a b = no_entries_once quasi sys r s a b
+  told_once good r s a b = entries_once quasi sys [] r s a b
   told_once (not_good why) r s a b = a ∙ sym b
   told_once (unraveling_large i) r s a b = a ∙ sym b
 

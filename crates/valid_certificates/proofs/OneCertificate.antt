@@ -1,17 +1,16 @@
 -- A certificate is valid, or rejected for one reason.
-use Rattle.std.proofs.Common.{◌≡◌, ◌⊎◌, inl, inr, ℕ, suc, ◌<◌, List, [], ◌∷◌, Some, None, refl, sym, ap, ap₂, ◌∙◌, subst}
+use Rattle.std.proofs.Common.{◌≡◌, ◌⊎◌, inl, inr, ℕ, suc, ◌<◌, List, [], ◌∷◌, refl, sym, ap, ap₂, ◌∙◌, subst}
 use Rattle.rewriting.specs.Prelude.{System, EachRule, IsLeftLinear, IsType3, IsExtendedOriented, IsRightStable, IsDeterministic}
 use Rattle.rewriting.proofs.Conditions.{Order, is_smaller, is_equal, is_greater, order}
 use Rattle.unifier_run.specs.Overlaps.{Triple, Overlap}
 use Rattle.interpretations.specs.Judgement.{Judgement, good, not_good, unraveling_large}
 use Rattle.certificates.specs.Prelude.{PairEntry, MeasureCertificate, linear_measure, precedence_measure, Simplification, Certificate, ortho_certificate, quasi_certificate}
-use Rattle.certificates.specs.Prelude.{peak_certificate, simplified_certificate, EvidenceReason, Class, left_linear, type3, extended_oriented, right_stable, deterministic, Blame}
+use Rattle.certificates.specs.Prelude.{peak_certificate, simplified_certificate, Class, left_linear, type3, extended_oriented, right_stable, deterministic, Blame}
 use Rattle.certificates.specs.Prelude.{MeasureReason, Rejection, class_fails, not_irreducible, measure_fails, unraveling_large as large_unraveling, pair_large, evidence_fails}
 use Rattle.certificates.specs.Prelude.{simplification_fails, IsInClass}
 use Rattle.path_orders.proofs.OneJudgement.{judgement_once as precedence_once}
 use Rattle.valid_certificates.specs.Kinds.{Kind}
 use Rattle.valid_certificates.specs.Kinds.{ortho, quasi}
-use Rattle.valid_certificates.specs.PairEvidence.{IsPairJudged}
 use Rattle.valid_certificates.specs.Entries.{AreSettled, AreNotSettled, DoSettle, DoNotSettle, pair_is_large, pairs_are_many, entry_fails}
 use Rattle.valid_certificates.specs.Confluence.{IsValidOrtho, IsBlameOf, IsOrthoRejected, not_left_linear, not_type3, not_oriented, not_right_stable, ortho_pairs_fail}
 use Rattle.valid_certificates.specs.Confluence.{AreRightSidesIrreducible, IsFirstReducible, IsValidQuasi, IsQuasiRejected, not_deterministic, side_is_reducible, measure_is_bad}
@@ -23,7 +22,7 @@ use Rattle.valid_certificates.specs.Laws.{IsOneAnswer, CertificatesHaveOneAnswer
 use Rattle.rewriting.proofs.Once.{IsOnce, or_once, test_once, with_once, once_within}
 use Rattle.valid_certificates.proofs.OneAnswer.{peak_answer}
 use Rattle.valid_certificates.proofs.OneBlame.{blame_once, blame_excludes}
-use Rattle.valid_certificates.proofs.OneEvidence.{pair_judged_once}
+use Rattle.valid_certificates.proofs.OneEvidence.{never_judged, one_judged}
 use Rattle.interpretations.proofs.OneJudgement.{judgement_once}
 use Rattle.valid_certificates.proofs.OneOverlaps.{overlaps_once, overlaps_or_large, overlaps_or_many, large_once, large_or_many}
 
@@ -41,19 +40,12 @@ answer_within V W R S valid rejected answer =
     record { one_reason = once_within Rejection R S rejected answer.one_reason; never_both = λ r h v. answer.never_both r (rejected r h) (valid v) }
 
 module _ (kind : Kind) (sys : System) where
-  -- valid evidence has no reason
-  never_judged : (o : Overlap) (e : PairEntry) (why : EvidenceReason) → IsPairJudged kind sys o e.evidence None → IsPairJudged kind sys o e.evidence (Some why) → ⊥
-  never_judged o e why a b = (let same = pair_judged_once kind sys o e.evidence None (Some why) a b in cc)
-
-  one_judged : (o : Overlap) (e : PairEntry) (why other : EvidenceReason) → IsPairJudged kind sys o e.evidence (Some why) → IsPairJudged kind sys o e.evidence (Some other) → why ≡ other
-  one_judged o e why other a b = (let same = pair_judged_once kind sys o e.evidence (Some why) (Some other) a b in cc)
-
   settled_or_not : (n : ℕ) (os : List Overlap) (es : List PairEntry) (r : Rejection) → AreSettled kind sys os es → AreNotSettled kind sys n os es r → ⊥
   settled_or_not n [] [] r a b = b
   settled_or_not n [] (e ∷ es) r a b = a
   settled_or_not n (o ∷ os) [] r a b = a
   settled_or_not n (o ∷ os) (e ∷ es) r a (inl b) = b.0 a.0
-  settled_or_not n (o ∷ os) (e ∷ es) r a (inr (inl (_, (why, h, _)))) = never_judged o e why a.1 h
+  settled_or_not n (o ∷ os) (e ∷ es) r a (inr (inl (_, (why, h, _)))) = never_judged kind sys o e.evidence why a.1 h
   settled_or_not n (o ∷ os) (e ∷ es) r a (inr (inr (_, _, b))) = settled_or_not (suc n) os es r a.2 b
 
   not_settled_once : (n : ℕ) (os : List Overlap) (es : List PairEntry) → IsOnce Rejection (AreNotSettled kind sys n os es)
@@ -64,10 +56,10 @@ module _ (kind : Kind) (sys : System) where
   not_settled_once n (o ∷ os) (e ∷ es) r s (inl a) (inr (inl b)) = absurd (a.0 b.0)
   not_settled_once n (o ∷ os) (e ∷ es) r s (inl a) (inr (inr b)) = absurd (a.0 b.0)
   not_settled_once n (o ∷ os) (e ∷ es) r s (inr (inl a)) (inl b) = absurd (b.0 a.0)
-  not_settled_once n (o ∷ os) (e ∷ es) r s (inr (inl (_, (why, h, p)))) (inr (inl (_, (other, k, q)))) = p ∙ ap (evidence_fails n) (one_judged o e why other h k) ∙ sym q
-  not_settled_once n (o ∷ os) (e ∷ es) r s (inr (inl (_, (why, h, p)))) (inr (inr (_, k, b))) = absurd (never_judged o e why k h)
+  not_settled_once n (o ∷ os) (e ∷ es) r s (inr (inl (_, (why, h, p)))) (inr (inl (_, (other, k, q)))) = p ∙ ap (evidence_fails n) (one_judged kind sys o e.evidence why other h k) ∙ sym q
+  not_settled_once n (o ∷ os) (e ∷ es) r s (inr (inl (_, (why, h, p)))) (inr (inr (_, k, b))) = absurd (never_judged kind sys o e.evidence why k h)
   not_settled_once n (o ∷ os) (e ∷ es) r s (inr (inr a)) (inl b) = absurd (b.0 a.0)
-  not_settled_once n (o ∷ os) (e ∷ es) r s (inr (inr (_, k, a))) (inr (inl (_, (why, h, p)))) = absurd (never_judged o e why k h)
+  not_settled_once n (o ∷ os) (e ∷ es) r s (inr (inr (_, k, a))) (inr (inl (_, (why, h, p)))) = absurd (never_judged kind sys o e.evidence why k h)
   not_settled_once n (o ∷ os) (e ∷ es) r s (inr (inr (_, _, a))) (inr (inr (_, _, b))) = not_settled_once (suc n) os es r s a b
 
   module _ (es : List PairEntry) where
@@ -75,7 +67,7 @@ module _ (kind : Kind) (sys : System) where
     large_reason : Triple → Rejection
     large_reason (i, (p, j)) = pair_large i p j
 
-    entries_once : IsOnce Rejection (DoNotSettle kind sys es)
+    pub entries_once : IsOnce Rejection (DoNotSettle kind sys es)
     unfolding large_reason
     entries_once r s (pair_is_large i p j a) (pair_is_large k q l b) = ap large_reason (large_once sys i p j k q l a b)
     entries_once r s (pair_is_large i p j a) (pairs_are_many b) = absurd (large_or_many sys i p j a b)

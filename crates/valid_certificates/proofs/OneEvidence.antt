@@ -244,3 +244,11 @@ pub pair_judged_once : (kind : Kind) (sys : System) (o : Overlap) (e : PairEvide
 pair_judged_once kind sys o e =
     or_once Verdict (λ r. IsAllowed kind e × IsEvidenceJudged sys o e r) (λ r. (IsAllowed kind e → ⊥) × (r ≡ Some not_allowed)) (λ r s h k. k.0 h.0)
     (λ r s h k. judged_once sys o e r s h.1 k.1) (fact_once Verdict (IsAllowed kind e → ⊥) (Some not_allowed))
+
+-- valid evidence has no reason, and other evidence has one
+pub never_judged : (kind : Kind) (sys : System) (o : Overlap) (e : PairEvidence) (why : EvidenceReason) → IsPairJudged kind sys o e None → IsPairJudged kind sys o e (Some why) → ⊥
+never_judged kind sys o e why a b = (let same = pair_judged_once kind sys o e None (Some why) a b in cc)
+
+pub one_judged : (kind : Kind) (sys : System) (o : Overlap) (e : PairEvidence) (why other : EvidenceReason) → IsPairJudged kind sys o e (Some why) → IsPairJudged kind sys o e (Some other)
+    → why ≡ other
+one_judged kind sys o e why other a b = (let same = pair_judged_once kind sys o e (Some why) (Some other) a b in cc)

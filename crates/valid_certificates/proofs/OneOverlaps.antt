@@ -1,10 +1,11 @@
 -- The list of overlaps is one, and it excludes a triple that is too large and too many overlaps.
-use Rattle.std.proofs.Common.{◌≡◌, ◌⊎◌, inl, inr, ℕ, suc, ◌≤◌, List, [], ◌∷◌, ◌++◌, length, Option, Some, refl, sym, ap, ap₂, ◌∙◌, subst, subst₂, arith}
+use Rattle.std.proofs.Common.{◌≡◌, ◌⊎◌, inl, inr, ℕ, suc, ◌≤◌, List, [], ◌∷◌, ◌++◌, length, Option, refl, sym, ap, ap₂, ◌∙◌, subst, subst₂, arith}
 use Rattle.std.proofs.lemmas.List.{length-append}
 use Rattle.caps.proofs.Unique.{unifier_no_clash, large_no_clash, unifier_or_large}
 use Rattle.rewriting.specs.Prelude.{Term, Position, IsBefore, subterm, replace, apply, even, odd, Condition, Rule, System, rule_at, IsPlace, IsEarlierOverlap, CriticalPair, IsCriticalPair}
 use Rattle.rewriting.specs.Prelude.{IsAmong, IsBeforeAll, IsSorted}
 use Rattle.rewriting.proofs.Lists.{among_either, before_one, sorted_append, sorted_once}
+use Rattle.rewriting.proofs.Once.{same_some}
 use Rattle.rewriting.proofs.Conditions.{Order, is_smaller, is_equal, is_greater, order}
 use Rattle.rewriting.proofs.Before.{Ordered, comes_first, is_same, comes_last, order_positions, before_before}
 use Rattle.unifier_run.specs.Run.{Binding, value, Outcome, unifier, clash, too_large}
@@ -43,9 +44,6 @@ earlier_earlier (i, (p, j)) (k, (q, l)) (m, (r, n)) (inr (e, inl h)) (inr (f, in
 earlier_earlier (i, (p, j)) (k, (q, l)) (m, (r, n)) (inr (e, inr (s, h))) (inr (f, inl g)) = inr (e ∙ f, inl (subst (λ z. IsBefore z r) (sym s) g))
 earlier_earlier (i, (p, j)) (k, (q, l)) (m, (r, n)) (inr (e, inr (s, h))) (inr (f, inr (x, g))) = inr (e ∙ f, inr (s ∙ x, omega (arith, h, g)))
 
-same_some : {A : Type 0} (o q : Option A) (x y : A) → o ≡ q → o ≡ Some x → q ≡ Some y → x ≡ y
-same_some o q x y s e f = cc
-
 same_unifier : (b c : List Binding) → unifier b ≡ unifier c → b ≡ c
 same_unifier b c e = cc
 
@@ -55,7 +53,7 @@ pair_once : (m : List Binding) (p : Position) (inner outer : Rule) (part : Term)
 pair_once m p inner outer part a b x y =
     let first : Term → Term → CriticalPair = λ s l. record { source = s; left = l; right = a.right; conditions = a.conditions } in
     let second : Term → List Condition → CriticalPair = λ r cs. record { source = b.source; left = b.left; right = r; conditions = cs } in
-    ap₂ first (x.source ∙ sym y.source) (same_some (replaced) (replaced) a.left b.left refl x.left y.left) ∙ ap₂ second (x.right ∙ sym y.right) (x.conditions ∙ sym y.conditions)
+    ap₂ first (x.source ∙ sym y.source) (same_some (replaced) a.left b.left x.left y.left) ∙ ap₂ second (x.right ∙ sym y.right) (x.conditions ∙ sym y.conditions)
   where
     replaced : Option Term
     replaced = replace (apply (value m) (apply odd outer.left)) p (apply (value m) (apply even inner.right))
@@ -72,9 +70,9 @@ module _ (sys : System) where
 
   spot_once : (t : Triple) (a b : Spot) → IsSpot t a → IsSpot t b → a ≡ b
   spot_once (i, (p, j)) a b x y =
-      let inner = same_some (rule_at sys i) (rule_at sys i) a.inner b.inner refl x.is_inner y.is_inner in
-      let outer = same_some (rule_at sys j) (rule_at sys j) a.outer b.outer refl x.is_outer y.is_outer in
-      let part = same_some (subterm a.outer.left p) (subterm b.outer.left p) a.part b.part (ap (λ r. subterm r.left p) outer) x.is_part y.is_part in
+      let inner = same_some (rule_at sys i) a.inner b.inner x.is_inner y.is_inner in
+      let outer = same_some (rule_at sys j) a.outer b.outer x.is_outer y.is_outer in
+      let part = same_some (subterm b.outer.left p) a.part b.part (sym (ap (λ r. subterm r.left p) outer) ∙ x.is_part) y.is_part in
       let rules : Rule → Rule → Spot = λ q r. record { inner = q; outer = r; part = a.part } in
       let whole : Term → Spot = λ u. record { inner = b.inner; outer = b.outer; part = u } in
       ap₂ rules inner outer ∙ ap whole part
