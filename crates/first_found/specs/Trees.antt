@@ -29,6 +29,15 @@ IsFirstBelow next Dead Gives b zero p n = Gives p b × (n ≡ 1)
 IsFirstBelow next Dead Gives b (suc d) p n =
     (Dead p → ⊥) × IsOneBehind (IsBarrenBelow next Dead Gives d) (IsFirstBelow next Dead Gives b d) (next p) n
 
+-- the units up to and with the first, or all units where there is none
+abbrev pub IsWhole : {B : Type 0} → (B → ℕ → Type 0) → (ℕ → Type 0) → ℕ → Type 0
+IsWhole {B} First Barren n = ((b : B) × First b n) ⊎ Barren n
+
+-- the units of the whole are one number: there are not two, and not none
+pub record EndsOnce (Whole : ℕ → Type 0) : Type 0 where
+  pub one_at_most : (n m : ℕ) → Whole n → Whole m → n ≡ m
+  pub not_none : ((n : ℕ) → Whole n → ⊥) → ⊥
+
 -- a walk below the node stopped at a unit that could not be paid, before anything was given; n was paid
 abbrev pub StopsBelow : {P B : Type 0} → (P → List P) → (P → Type 0) → (P → B → Type 0) → ℕ → P → ℕ → Type 0
 StopsBelow next Dead Gives zero p n = n ≡ 0

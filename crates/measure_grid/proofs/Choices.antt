@@ -5,8 +5,8 @@ use Rattle.std.proofs.Common.{append_assoc, append-nil, arith, ◌<◌}
 use Rattle.std.proofs.lemmas.List.{map-append}
 use Rattle.std.proofs.lemmas.List.Concat.{flat_map-append}
 use Rattle.rewriting.specs.Lists.{IsAmong, AreDistinct}
-use Rattle.rewriting.proofs.Lists.{among_either, among_middle, among_of_map}
-use Rattle.rewriting.proofs.Members.{distinct_append}
+use Rattle.rewriting.proofs.Lists.{among_middle, among_of_map}
+use Rattle.rewriting.proofs.Members.{of_flat, distinct_append}
 use Rattle.measure_grid.specs.Grid.{choices}
 
 -- one member of each list
@@ -16,21 +16,11 @@ AreFrom [] (l ∷ ls) = ⊥
 AreFrom (x ∷ xs) [] = ⊥
 AreFrom (x ∷ xs) (l ∷ ls) = IsAmong x l × AreFrom xs ls
 
-module _ {X Y : Type 0} (f : X → List Y) where
-  among_one : (z : X) (xs : List X) (y : Y) → (IsAmong y (flat_map f xs) → (x : X) × IsAmong x xs × IsAmong y (f x)) → IsAmong y (f z) ⊎ IsAmong y (flat_map f xs)
-      → (x : X) × IsAmong x (z ∷ xs) × IsAmong y (f x)
-  among_one z xs y later (inl h) = (z, inl refl, h)
-  among_one z xs y later (inr h) = let at = later h in (at.0, inr at.1, at.2)
-
-  among_of_flat_map : (xs : List X) (y : Y) → IsAmong y (flat_map f xs) → (x : X) × IsAmong x xs × IsAmong y (f x)
-  among_of_flat_map [] y h = absurd h
-  among_of_flat_map (z ∷ xs) y h = among_one z xs y (λ k. among_of_flat_map xs y k) (among_either y (f z) (flat_map f xs) h)
-
 pub choices_from : {X : Type 0} (ls : List (List X)) (c : List X) → IsAmong c (choices ls) → AreFrom c ls
 choices_from [] c (inl e) = subst (λ z. AreFrom z []) (sym e) tt
 choices_from [] c (inr h) = absurd h
 choices_from {X} (xs ∷ rest) c h =
-    let at = among_of_flat_map (λ (x : X). map (λ c. x ∷ c) (choices rest)) xs c h in
+    let at = of_flat (λ (x : X). map (λ c. x ∷ c) (choices rest)) c xs h in
     let tail = among_of_map (λ c. at.0 ∷ c) c (choices rest) at.2 in
     subst (λ z. AreFrom z (xs ∷ rest)) (sym tail.2) (at.1, choices_from rest tail.0 tail.1)
 
@@ -182,7 +172,7 @@ module _ {X : Type 0} (cs : List (List X)) (d : AreDistinct cs) where
   begun_apart : (x : X) (xs : List X) → (IsAmong x xs → ⊥) → (c : List X) → IsAmong c (map (λ c. x ∷ c) cs) → IsAmong c (flat_map (λ z. map (λ c. z ∷ c) cs) xs) → ⊥
   begun_apart x xs fresh c a b =
       let left = among_of_map (λ c. x ∷ c) c cs a in
-      let at = among_of_flat_map (λ (z : X). map (λ c. z ∷ c) cs) xs c b in
+      let at = of_flat (λ (z : X). map (λ c. z ∷ c) cs) c xs b in
       let right = among_of_map (λ c. at.0 ∷ c) c cs at.2 in
       let here : c ≡ x ∷ left.0 = left.2 in
       let there : c ≡ at.0 ∷ right.0 = right.2 in

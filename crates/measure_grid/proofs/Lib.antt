@@ -3,5 +3,4 @@ pub mod Chosen
 pub mod Dead
 pub mod Grid
 pub mod Pruned
-pub mod PrunedTrees
 pub mod Shape

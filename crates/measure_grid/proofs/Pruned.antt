@@ -4,15 +4,14 @@ use Rattle.rewriting.specs.Rules.{System}
 use Rattle.certificates.specs.Certificates.{LinearEntry, MeasureCertificate}
 use Rattle.interpretations.specs.Linear.{Interpretation}
 use Rattle.first_found.specs.Items.{GivesNothing, NoneGives, IsFirst, one}
-use Rattle.first_found.specs.Trees.{leaves}
+use Rattle.first_found.specs.Trees.{leaves, EndsOnce}
 use Rattle.first_found.proofs.Items.{none_append}
 use Rattle.measure_grid.specs.Grid.{columns, grid, GivesMeasure}
 use Rattle.measure_grid.specs.Dead.{IsDead}
 use Rattle.measure_grid.specs.Pruned.{Prefix, extended, extensions, IsDeadPrefix, PrefixGives, start, IsPrunedFirst, IsPrunedBarren, PrunedStops, IsPrunedWhole}
-use Rattle.measure_grid.specs.Laws.{EndsOnce}
 use Rattle.measure_grid.proofs.Dead.{dead_more, dead_or_good}
 use Rattle.measure_grid.proofs.Grid.{node, leaf, leaves_are, columns_full}
-use Rattle.measure_grid.proofs.PrunedTrees.{ComesToOne, whole_once, tree_comes_to_one, stopped_before_whole, first_of_list, none_of_list}
+use Rattle.first_found.proofs.PrunedTrees.{ComesToOne, comes_to_end, tree_comes_to_one, stopped_before_whole, first_of_list, none_of_list}
 
 module _ (sys : System) where
   abbrev Gives : Prefix → MeasureCertificate → Type 0
@@ -55,8 +54,8 @@ module _ (sys : System) where
   pub comes_to_one : ComesToOne (IsPrunedFirst sys) (IsPrunedBarren sys)
   comes_to_one = tree_comes_to_one extensions (IsDeadPrefix sys) Gives (length (columns sys)) (start sys) (λ p m k x y. x.0 ∙ sym y.0)
 
-  pub ends_once : EndsOnce sys
-  ends_once = record { one_at_most = whole_once (IsPrunedFirst sys) (IsPrunedBarren sys) comes_to_one; not_none = comes_to_one.not_none }
+  pub ends_once : EndsOnce (IsPrunedWhole sys)
+  ends_once = comes_to_end (IsPrunedFirst sys) (IsPrunedBarren sys) comes_to_one
 
   pub stops_before_whole : (n m : ℕ) → PrunedStops sys n → IsPrunedWhole sys m → n < m
   stops_before_whole = stopped_before_whole extensions (IsDeadPrefix sys) Gives (length (columns sys)) (start sys)

@@ -1,9 +1,10 @@
 -- Laws of the grid, and of the pruned one.
-use Rattle.std.specs.Prelude.{ℕ, ◌≡◌, ◌≤◌, ◌++◌, length}
+use Rattle.std.specs.Prelude.{ℕ, ◌≤◌, ◌++◌, length}
 use Rattle.rewriting.specs.Prelude.{IsAmong, System}
 use Rattle.certificates.specs.Certificates.{MeasureCertificate}
 use Rattle.interpretations.specs.Linear.{Interpretation, HasShape, AreAllNumbersGood, IsGood}
 use Rattle.first_found.specs.Items.{NoneGives, IsFirst, one}
+use Rattle.first_found.specs.Trees.{EndsOnce}
 use Rattle.measure_grid.specs.Grid.{grid, GivesMeasure}
 use Rattle.measure_grid.specs.Dead.{IsDead}
 use Rattle.measure_grid.specs.Pruned.{IsPrunedFirst, IsPrunedBarren, IsPrunedWhole}
@@ -26,10 +27,6 @@ PrunedFirstsAreFirsts =
 abbrev pub PrunedGridsAreBarren : Type 0
 PrunedGridsAreBarren = (sys : System) (n : ℕ) → IsPrunedBarren sys n → NoneGives (GivesMeasure sys) (grid sys) × (n ≤ length (grid sys))
 
--- the units of the whole are one number: there are not two, and not none
-pub record EndsOnce (sys : System) : Type 0 where
-  pub one_at_most : (n m : ℕ) → IsPrunedWhole sys n → IsPrunedWhole sys m → n ≡ m
-  pub not_none : ((n : ℕ) → IsPrunedWhole sys n → ⊥) → ⊥
-
+-- the units of the whole are one number
 abbrev pub PrunedGridsEndOnce : Type 0
-PrunedGridsEndOnce = (sys : System) → EndsOnce sys
+PrunedGridsEndOnce = (sys : System) → EndsOnce (IsPrunedWhole sys)

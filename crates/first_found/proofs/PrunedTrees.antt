@@ -1,15 +1,11 @@
 -- What a walk through a pruned tree comes to: there is one such thing, and it is the first of the list that the leaves are made of.
-use Rattle.std.proofs.Common.{ℕ, suc, ◌≡◌, ◌<◌, ◌≤◌, ◌⊎◌, inl, inr, List, map, length, ap, ◌∙◌, subst, arith}
+use Rattle.std.proofs.Common.{ℕ, suc, ◌≡◌, ◌<◌, ◌≤◌, inl, inr, List, map, length, ap, ◌∙◌, subst, arith}
 use Rattle.std.proofs.lemmas.List.{length-map}
 use Rattle.first_found.specs.Items.{NoneGives, cost_of, IsFirst, one}
-use Rattle.first_found.specs.Trees.{leaves, IsBarrenBelow, IsFirstBelow, StopsBelow}
+use Rattle.first_found.specs.Trees.{leaves, IsBarrenBelow, IsFirstBelow, IsWhole, EndsOnce, StopsBelow}
 use Rattle.first_found.proofs.Items.{cost_of_ones}
 use Rattle.first_found.proofs.Lists.{none_mapped, first_mapped}
 use Rattle.first_found.proofs.Trees.{IsFull, barren_or_first, barren_once, below_once, stops_in_barren, stops_before_first, there_below, barren_within, nothing_below, place_below}
-
--- the units up to and with what is found, or those that show that there is nothing
-abbrev pub IsWhole : {B : Type 0} → (B → ℕ → Type 0) → (ℕ → Type 0) → ℕ → Type 0
-IsWhole {B} First Barren n = ((b : B) × First b n) ⊎ Barren n
 
 -- one thing at most is found, at one number of units, or one number shows that there is nothing; it cannot be that there is neither
 pub record ComesToOne {B : Type 0} (First : B → ℕ → Type 0) (Barren : ℕ → Type 0) : Type 0 where
@@ -19,11 +15,14 @@ pub record ComesToOne {B : Type 0} (First : B → ℕ → Type 0) (Barren : ℕ 
   pub not_none : ((n : ℕ) → IsWhole First Barren n → ⊥) → ⊥
 
 module _ {B : Type 0} (First : B → ℕ → Type 0) (Barren : ℕ → Type 0) (to_one : ComesToOne First Barren) where
-  pub whole_once : (n m : ℕ) → IsWhole First Barren n → IsWhole First Barren m → n ≡ m
+  whole_once : (n m : ℕ) → IsWhole First Barren n → IsWhole First Barren m → n ≡ m
   whole_once n m (inl (a, f)) (inl (b, g)) = (to_one.first_once a b n m f g).0
   whole_once n m (inl (a, f)) (inr k) = absurd (to_one.first_or_barren a m n k f)
   whole_once n m (inr h) (inl (b, g)) = absurd (to_one.first_or_barren b n m h g)
   whole_once n m (inr h) (inr k) = to_one.barren_once n m h k
+
+  pub comes_to_end : EndsOnce (IsWhole First Barren)
+  comes_to_end = record { one_at_most = whole_once; not_none = to_one.not_none }
 
 module _ {P B : Type 0} (next : P → List P) (Dead : P → Type 0) (Gives : P → B → Type 0) (top : ℕ) (root : P) where
   abbrev First : B → ℕ → Type 0
