@@ -1,5 +1,6 @@
 -- Where the reader of files refuses a word, this word calls for the refusal, and the other way round.
-use Rattle.std.proofs.Common.{◌≡◌, ℕ, Bool, true, false, ◌&&◌, ◌||◌, if◌then◌else◌, List, [], ◌∷◌, ◌++◌, Option, Some, None, Result, Ok, Err, refl, sym, ap, subst, ◌∙◌, codes, bytes_eq}
+use Rattle.std.proofs.Common.{◌≡◌, ℕ, Bool, true, false, ◌||◌, if◌then◌else◌, List, [], ◌∷◌, ◌++◌, Option, Some, None, Result, Ok, Err, refl, sym, ap, subst, ◌∙◌, codes, bytes_eq}
+use Rattle.std.proofs.Math.Bool.{and-false}
 use Rattle.std.proofs.lemmas.Option.{same_Some}
 use Rattle.file_text.specs.declared.ConditionType.{ConditionType}
 use Rattle.file_text.specs.declared.ConditionType.TheVariants.{Oriented, Join}
@@ -67,11 +68,7 @@ bracket_go bs = goes_then false (spelled_blocks bs) (left_paren ∷ []) (outside
 type_go : (bs : List Block) (p : ℕ) → goes false (outside []) (spelled_blocks bs ++ left_paren ∷ id_at p (codes "CONDITIONTYPE") ∷ []) ≡ Some (behind_type bs p)
 type_go bs p =
     goes_then false (spelled_blocks bs) (left_paren ∷ id_at p (codes "CONDITIONTYPE") ∷ []) (outside []) (outside bs) (any_go bs)
-    ∙ title_goes false bs p (codes "CONDITIONTYPE") (behind_type bs p) [] (and_false (has_block bs (codes "CONDITIONTYPE"))) refl
-  where
-    and_false : (b : Bool) → (b && false) ≡ false
-    and_false true = refl
-    and_false false = refl
+    ∙ title_goes false bs p (codes "CONDITIONTYPE") (behind_type bs p) [] (and-false (has_block bs (codes "CONDITIONTYPE"))) refl
 
 pub refuses_unknown : (front : List Word) (w : Word) (s : State) → goes true (outside []) front ≡ Some s → IsUnknownBlock front w → step s w ≡ Err unknown_block
 refuses_unknown front w s e (bs, name, split, is, new) =

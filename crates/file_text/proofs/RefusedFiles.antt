@@ -2,6 +2,7 @@
 use Rattle.std.proofs.Common.{◌≡◌, inl, inr, true, false, ℕ, zero, suc, ◌+◌, List, [], ◌∷◌, ◌++◌, length, take, slice_get, Option, Some, None, Result, Ok, Err, refl, sym, ap, subst, ◌∙◌, arith}
 use Rattle.std.proofs.Math.Seq.{take-length, take-append_seam}
 use Rattle.std.proofs.lemmas.Option.{same_Some}
+use Rattle.general_lemmas.proofs.Places.{slice_get_seam}
 use Rattle.file_text.specs.Syntax.{RuleTree, FileTree}
 use Rattle.file_text.specs.Grammar.{Word, Block, spelled_blocks, rules_in, SpellTree}
 use Rattle.file_text.specs.Refusals.{SyntaxCause, unknown_block, repeated_block, other_condition_type, wrong_syntax, missing_rules, Calls, EndCalls, AreClear, AreRefused}
@@ -86,14 +87,10 @@ stops_refused ws c k h =
     let number = h.number in
     let k_is : k ≡ length h.front = omega arith in
     let front : take k ws ≡ h.front = ap (λ (n : ℕ). take n ws) k_is ∙ ap (take (length h.front)) h.split ∙ take-append_seam h.front (h.refused ∷ h.rest) in
-    let got : slice_get ws k ≡ Some h.refused = ap (λ (n : ℕ). slice_get ws n) k_is ∙ ap (λ (v : List Word). slice_get v (length h.front)) h.split ∙ get_seam h.front h.refused h.rest in (
+    let got : slice_get ws k ≡ Some h.refused = ap (λ (n : ℕ). slice_get ws n) k_is ∙ ap (λ (v : List Word). slice_get v (length h.front)) h.split ∙ slice_get_seam h.front h.refused h.rest in (
       subst AreClear (sym front) (goes_clear h.front h.last h.before),
       inl (h.refused, got, subst (λ (v : List Word). Calls c v h.refused) (sym front) (refused_calls h.front h.refused h.last c h.before h.step)),
     )
-  where
-    get_seam : {A : Type 0} (xs : List A) (y : A) (ys : List A) → slice_get (xs ++ y ∷ ys) (length xs) ≡ Some y
-    get_seam [] y ys = refl
-    get_seam (x ∷ xs) y ys = get_seam xs y ys
 
 end_is_refused : (ws : List Word) (s : State) (c : SyntaxCause) (k : ℕ) → goes true (outside []) ws ≡ Some s → finish s ≡ Err c → length ws ≡ k → AreRefused ws c k
 end_is_refused ws s c k e is n =

@@ -1,5 +1,5 @@
 -- Numbers compared, and what a test counts.
-use Rattle.std.proofs.Common.{◌≡◌, ◌⊎◌, inl, inr, ℕ, suc, ◌+◌, ◌<◌, ◌≤◌, Bool, true, false, if◌then◌else◌, not, ◌&&◌, ◌||◌, nat_eq, refl, arith, eqb-true}
+use Rattle.std.proofs.Common.{◌≡◌, ◌⊎◌, inl, inr, ℕ, suc, ◌+◌, ◌<◌, ◌≤◌, Bool, true, false, if◌then◌else◌, not, ◌||◌, nat_eq, refl, arith, eqb-true}
 use Rattle.std.proofs.lemmas.Bool.{cases_lt, cases_eq}
 
 pub le_or_lt : (m n : ℕ) → (m ≤ n) ⊎ (n < m)
@@ -35,10 +35,6 @@ not_counted m n k = by (nat_eq m n) refl
     by : (b : Bool) → nat_eq m n ≡ b → ◌≡◌ {A = ℕ} (if b then 1 else 0) 0
     by true e = absurd (k (eqb-true m n e))
     by false e = refl
-
-pub and_false : (b : Bool) → (b && false) ≡ false
-and_false true = refl
-and_false false = refl
 
 pub not_true : (b : Bool) → not b ≡ true → b ≡ true → ⊥
 not_true true e h = cc
