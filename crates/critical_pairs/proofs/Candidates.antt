@@ -4,7 +4,7 @@ use Rattle.std.proofs.Common.{ap, ◌∙◌, subst, subst₂, arith}
 use Rattle.std.proofs.lemmas.Bool.{cases_lt, eqb-false}
 use Rattle.std.proofs.lemmas.Option.{slice_get_within, slice_get-get_or}
 use Rattle.std.proofs.lemmas.List.{get_or_past, get_or_default}
-use Rattle.general_lemmas.proofs.Options.{one_value}
+use Rattle.rewriting.proofs.Once.{same_some}
 use Rattle.rewriting.specs.Prelude.{IsAmong, Term, Terms, var, app, IsVariable, Fits, Position, subterm, apply_all, even, odd, Rule, System, rule_at, IsSystem}
 use Rattle.rewriting.proofs.Systems.{numbered_rule}
 use Rattle.rule_index.specs.Roots.{has_root, rules_with_root}
@@ -118,8 +118,8 @@ roots_clash : (sys : System) (j : ℕ) (p : Position) (f i : ℕ) → IsSystem s
 roots_clash sys j p f i h at other inner outer part place =
     let k = numbered_rule sys i inner h place.is_inner in
     let l = numbered_rule sys j outer h place.is_outer in
-    let same_outer = one_value (rule_at sys j) at.rule outer at.is_rule place.is_outer in
-    let same_part = one_value (subterm outer.left p) (app f at.arguments) part (subst (λ z. subterm z.left p ≡ Some (app f at.arguments)) same_outer at.here) place.is_part in
+    let same_outer = same_some (rule_at sys j) at.rule outer at.is_rule place.is_outer in
+    let same_part = same_some (subterm outer.left p) (app f at.arguments) part (subst (λ z. subterm z.left p ≡ Some (app f at.arguments)) same_outer at.here) place.is_part in
     differ (other_root f inner.left (other inner place.is_inner place.counts) k.is_over.left) same_part k.fits.0 (fits_part outer.left p part place.is_part l.fits.0)
   where
     run : (g : ℕ) (ts : Terms) → f ≢ g → Fits (app g ts) → Fits (app f at.arguments) → IsOutcomeOf (app g ts) (app f at.arguments) clash
@@ -165,7 +165,7 @@ module _ (sys : System) (h : IsSystem sys) (j : ℕ) (p : Position) (f : ℕ) (a
       gap i l k low high =
           let less : i < b = omega (arith, l, k, low) in
           roots_clash sys j p f i h at (λ r q u. none_between sys f most c i r q l (omega (arith, less, high))
-          (λ d s. (let same : b ≡ d = one_value (slice_get (rules_with_root sys f) c) b d e s in omega (arith, less, same))))
+          (λ d s. (let same : b ≡ d = same_some (slice_get (rules_with_root sys f) c) b d e s in omega (arith, less, same))))
 
   -- past the last one that counts
   pub past_candidates : (c : ℕ) → CandidateAnswers (rules_with_root sys f) p j c None → (t : Triple) → IsAmong t (triples_behind j p (done (rules_with_root sys f) most c) most) → DoesClash sys t

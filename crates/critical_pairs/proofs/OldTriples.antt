@@ -2,7 +2,7 @@
 use Rattle.std.proofs.Common.{ℕ, ◌≡◌, ◌≢◌, ◌<◌, ◌⊎◌, inl, inr, List, [], ◌∷◌, flat_map, Option, Some, None, IsSome, refl, sym, ap, ◌∙◌, subst, subst₂}
 use Rattle.rewriting.specs.Prelude.{IsAmong, IsSorted, Term, Position, IsBefore, subterm, Rule, System, IsPlace, IsCriticalPair, IsEarlierOverlap}
 use Rattle.rewriting.proofs.Lists.{among_either, among_right, before_one}
-use Rattle.rule_index.proofs.Flat.{among_flat, among_of_flat, sorted_flat}
+use Rattle.rewriting.proofs.Members.{flat_among, of_flat, sorted_flat}
 use Rattle.unifier_run.specs.Run.{value, unifier, clash}
 use Rattle.unifier_run.specs.Overlaps.{Triple, Overlap, triple, ComesBefore, IsOutcomeOf, DoesPairFit, IsOverlapOf, AreOverlapsAt, AreOverlaps}
 use Rattle.unifier_run.specs.Triples.{all_triples, DoesClash}
@@ -117,7 +117,7 @@ module _ (e sys : System) (os now : List (Option ℕ)) (are : AreOrigins e sys o
           let left : number_at now o.inner ≡ Some i = ap (λ z. number_at now z.0) t ∙ (inverse i a).0 ga in
           let right : number_at now o.outer ≡ Some j = ap (λ z. number_at now z.1.1) t ∙ (inverse j b).0 gb in (
             q,
-            among_flat (renumbered now) o q known m (subst₂ (λ x y. IsAmong q (with_numbers o x y)) (sym left) (sym right) (inl refl)),
+            flat_among (renumbered now) o q known m (subst₂ (λ x y. IsAmong q (with_numbers o x y)) (sym left) (sym right) (inl refl)),
             ap (λ z. (i, (z.1.0, j))) t,
           )
 
@@ -132,7 +132,7 @@ module _ (e sys : System) (os now : List (Option ℕ)) (are : AreOrigins e sys o
     pub kept_overlaps : AreOverlapsAt sys (λ t. IsOld os t × IsAmong t (all_triples sys)) Kept
     kept_overlaps =
         record {
-          each = λ q m. one q (among_of_flat (renumbered now) known q m);
+          each = λ q m. one q (of_flat (renumbered now) q known m);
           sorted = sorted_flat (renumbered now) ComesBefore ComesBefore still_before known (λ o m. one_sorted o (number_at now o.inner) (number_at now o.outer)) have.are.sorted;
           whole = λ i p j inner outer part place old. (let a = some_is (number_at os i) old.0.0 in let b = some_is (number_at os j) old.0.1 in
               found_there i p j inner outer part place a.0 b.0 a.1 b.1);

@@ -4,7 +4,7 @@ use Rattle.std.proofs.lemmas.List.Concat.{flat_map-append}
 use Rattle.rewriting.specs.Prelude.{IsAmong, Term, Terms, var, app, nil, cons, Position, subterm, Rule, System, rule_at}
 use Rattle.rule_index.specs.Parts.{parts}
 use Rattle.rule_index.specs.Levels.{parts_in, parts_among}
-use Rattle.rule_index.proofs.Flat.{among_of_flat}
+use Rattle.rewriting.proofs.Members.{of_flat}
 use Rattle.rule_index.proofs.Levels.{all_parts}
 use Rattle.rule_index.proofs.Standing.{part_stands}
 use Rattle.unifier_run.specs.Triples.{triples_at, counted, triples_below, triples_beside}
@@ -39,5 +39,5 @@ root_here sys j r p (app f ts) q e h (inr m) = absurd m
 
 pub is_root : (sys : System) (j : ℕ) (r : Rule) (q : RootAt) → rule_at sys j ≡ Some r → IsAmong q (places_of r.left) → IsRootAt sys j q
 is_root sys j r q e m =
-    let s = among_of_flat part_places (parts r.left) q m in
+    let s = of_flat part_places q (parts r.left) m in
     root_here sys j r s.0.position s.0.term q e (part_stands r.left s.0 s.1) s.2

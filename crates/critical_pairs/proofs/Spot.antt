@@ -1,7 +1,7 @@
 -- What a run at a triple says of the system's overlaps.
 use Rattle.std.proofs.Common.{ℕ, suc, ◌≡◌, ◌+◌, ◌<◌, inl, inr, List, [], ◌∷◌, ◌++◌, length, Some, refl, sym, ap, ap₂, ◌∙◌, subst, subst₂, arith, ◌^◌, max}
 use Rattle.std.proofs.lemmas.List.{length-map}
-use Rattle.general_lemmas.proofs.Options.{one_value}
+use Rattle.rewriting.proofs.Once.{same_some}
 use Rattle.rewriting.specs.Prelude.{Term, Terms, var, app, nil, cons, size, size_all, depth, depth_all, Fits, Position, subterm, replace, Substitution, apply, apply_all, compose, Bindings}
 use Rattle.rewriting.specs.Prelude.{values_of, even, odd, Condition, Rule, System, rule_at, sides, Each, terms_of_rule, IsSystem, CriticalPair, IsCriticalPair, conditions_under}
 use Rattle.rewriting.proofs.Instances.{apply-apply, apply-agree}
@@ -54,9 +54,9 @@ module _ (sys : System) (i : ℕ) (p : Position) (j : ℕ) (spot : IsSpotOf sys 
 
   pub clash_there : IsOutcome (cons left nil) (cons part nil) clash → DoesClash sys (i, (p, j))
   clash_there h r q t k =
-      let same_inner = one_value (rule_at sys i) spot.inner r spot.place.is_inner k.is_inner in
-      let same_outer = one_value (rule_at sys j) spot.outer q spot.place.is_outer k.is_outer in
-      let same_part = one_value (subterm q.left p) spot.part t (subst (λ z. subterm z.left p ≡ Some spot.part) same_outer spot.place.is_part) k.is_part in
+      let same_inner = same_some (rule_at sys i) spot.inner r spot.place.is_inner k.is_inner in
+      let same_outer = same_some (rule_at sys j) spot.outer q spot.place.is_outer k.is_outer in
+      let same_part = same_some (subterm q.left p) spot.part t (subst (λ z. subterm z.left p ≡ Some spot.part) same_outer spot.place.is_part) k.is_part in
       subst₂ (λ x y. IsOutcomeOf x.left y clash) same_inner same_part (outcome_there clash h)
 
   pub too_large_there : IsOutcome (cons left nil) (cons part nil) too_large → IsTooLargeAt sys i p j

@@ -4,7 +4,7 @@ use Rattle.rewriting.specs.Prelude.{Term, Terms, var, app, nil, cons, IsAmong, I
 use Rattle.rewriting.proofs.Lists.{among_either, among_of_map, before_each, sorted_append, sorted_map}
 use Rattle.rewriting.proofs.Listed.{listed}
 use Rattle.rule_index.specs.Parts.{Part, part, part_at, parts}
-use Rattle.rule_index.proofs.Flat.{among_flat, among_of_flat, sorted_flat}
+use Rattle.rewriting.proofs.Members.{flat_among, of_flat, sorted_flat}
 
 -- a part is where its position says
 at_position : (t : Term) (p : Position) (q : Part) (o : Option Term) → subterm t p ≡ o → IsAmong q (map (part p) (option_to_list o)) → (q.position ≡ p) × (subterm t q.position ≡ Some q.term)
@@ -13,10 +13,10 @@ at_position t p q (Some u) e (inl s) = (ap (λ x. x.position) s, ap (λ x. subte
 at_position t p q (Some u) e (inr h) = absurd h
 
 pub part_stands : (t : Term) (q : Part) → IsAmong q (parts t) → subterm t q.position ≡ Some q.term
-part_stands t q h = let p = among_of_flat (part_at t) (positions t) q h in (at_position t p.0 q (subterm t p.0) refl p.2).1
+part_stands t q h = let p = of_flat (part_at t) q (positions t) h in (at_position t p.0 q (subterm t p.0) refl p.2).1
 
 pub is_part : (t : Term) (p : Position) (u : Term) → subterm t p ≡ Some u → IsAmong (part p u) (parts t)
-is_part t p u e = among_flat (part_at t) p (part p u) (positions t) (listed t p u e) (subst (λ o. IsAmong (part p u) (map (part p) (option_to_list o))) (sym e) (inl refl))
+is_part t p u e = flat_among (part_at t) p (part p u) (positions t) (listed t p u e) (subst (λ o. IsAmong (part p u) (map (part p) (option_to_list o))) (sym e) (inl refl))
 
 -- parts are in order of their positions
 abbrev IsFrom : ℕ → Position → Type 0
