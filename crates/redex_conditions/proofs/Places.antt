@@ -4,7 +4,7 @@ use Rattle.rewriting.specs.Prelude.{IsWellFormed, Position, subterm, IsAmong}
 use Rattle.rewriting.proofs.Common.{Term, System}
 use Rattle.rule_index.specs.Roots.{rules_at}
 use Rattle.rule_index.specs.Parts.{Part, part, parts}
-use Rattle.rule_index.proofs.Flat.{among_flat, among_of_flat, sorted_flat}
+use Rattle.rewriting.proofs.Members.{flat_among, of_flat, sorted_flat}
 use Rattle.rule_index.proofs.Standing.{ComesBefore, part_stands, is_part, parts_sorted}
 use Rattle.valid_certificates.specs.Peaks.{RedexPlace, MatchesAt, IsEarlierRedex}
 use Rattle.redex_conditions.specs.Redexes.{place, part_redexes, redexes, AreRedexesOf}
@@ -23,13 +23,13 @@ module _ (sys : System) (w : ℕ) (t : Term) where
 
   each : (r : RedexPlace) → IsAmong r (redexes sys w t) → IsAt r
   each r l =
-      let q = among_of_flat (part_redexes sys w) (parts t) r l in
+      let q = of_flat (part_redexes sys w) r (parts t) l in
       let h = of_part q.0 r q.2 in
       subst IsAt (sym h.1) (refl, lifted q.0.position q.0.term h.0 (part_stands t q.0 q.1) h.2)
 
   whole : IsWellFormed sys → (p : Position) (i : ℕ) → MatchesAt sys t p i → IsAmong (place w p i) (redexes sys w t)
   whole good p i m =
-      among_flat (part_redexes sys w) (part p m.part) (place w p i) (parts t) (is_part t p m.part m.stands)
+      flat_among (part_redexes sys w) (part p m.part) (place w p i) (parts t) (is_part t p m.part m.stands)
       (part_whole sys good w p m.part i (record { rule = m.rule; part = m.part; is_rule = m.is_rule; stands = refl; matches = m.matches }))
 
   earlier : (a b : Part) → ComesBefore a b → (r s : RedexPlace) → IsAmong r (part_redexes sys w a) → IsAmong s (part_redexes sys w b) → IsEarlierRedex r s
