@@ -1,6 +1,6 @@
 -- A certificate that passes along its marks, with symbols that are found, is within the limits, and the marks spell its text.
 use Rattle.std.proofs.Common.{◌≡◌, ◌⊎◌, inl, inr, ◌≤◌, ◌+◌, ◌-◌, ℕ, suc, Bool, true, false, List, [], ◌∷◌, ◌++◌, length, slice_get, Option, Some, None, codes, sym, ap, ◌∙◌, subst, arith}
-use Rattle.general_lemmas.proofs.Options.{one_value}
+use Rattle.rewriting.proofs.Once.{same_some}
 use Rattle.rewriting.specs.Unraveling.{Head, file, auxiliary}
 use Rattle.certificates.specs.Prelude.{Automaton, InfeasibilityEvidence, by_caps, by_automaton, PairEvidence, trivial_pair, infeasible_pair, conflicting_pair, joined_pair, unfeasible_pair}
 use Rattle.certificates.specs.Prelude.{PairEntry, LinearEntry, MeasureCertificate, linear_measure, precedence_measure, Redex, Apartness, by_normal_forms, by_rigid_caps, Simplification}
@@ -96,7 +96,7 @@ automata_within (a ∷ bs) names p h =
 
 -- the automaton that stands at a place
 pub at_place : (all : List Automaton) (a : Automaton) (n : ℕ) → 1 ≤ n → n ≤ length all → slice_get all (n - 1) ≡ Some a → pick all n ≡ a
-at_place all a n low high e = one_value (slice_get all (n - 1)) (pick all n) a (pick_stands all n low high) e
+at_place all a n low high e = same_some (slice_get all (n - 1)) (pick all n) a (pick_stands all n low high) e
 
 used_within : (v : Version) (all : List Automaton) (names : NameTable) → AreAutomata names all → (a : Automaton) → IsUsed v all a
     → Along names (λ u. use_marks u (uses_with v names all) a) → IsAutomaton names a

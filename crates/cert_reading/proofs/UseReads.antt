@@ -1,6 +1,6 @@
 -- What is known of shared automata behind a part that is read.
 use Rattle.std.proofs.Common.{◌≡◌, ◌≤◌, ◌-◌, ℕ, List, [], ◌∷◌, ◌++◌, length, codes, slice_get, Some, None, sym, ap, ◌∙◌, arith}
-use Rattle.general_lemmas.proofs.Options.{one_value}
+use Rattle.rewriting.proofs.Once.{same_some}
 use Rattle.certificates.specs.Evidence.{Automaton}
 use Rattle.cops_names.specs.NameTable.{NameTable}
 use Rattle.cert_grammar.specs.Prelude.{name_of, Version, first_version, second_version, Naming, Mark, fixed, demands_of, use_mark, texts_of, number_in, AllNew, Shared, Item}
@@ -73,5 +73,5 @@ use_facts {names} {end} {from} {to} {s} {t} all n h none x =
 -- the automaton at its number's place has that number
 pub number_there : (names : NameTable) (all : List Automaton) (a : Automaton) (n : ℕ) → UseFacts names all n → slice_get all (n - 1) ≡ Some a → number_in names all a ≡ n
 number_there names all a n h stands =
-    let same : pick all n ≡ a = one_value (slice_get all (n - 1)) (pick all n) a (pick_stands all n h.low h.high) stands in
+    let same : pick all n ≡ a = same_some (slice_get all (n - 1)) (pick all n) a (pick_stands all n h.low h.high) stands in
     ap (number_in names all) (sym same) ∙ pick_number names all n h.new h.low h.high

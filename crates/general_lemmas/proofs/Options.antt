@@ -5,6 +5,3 @@ use Rattle.std.specs.Option.{option_and_then}
 pub bound : {X Y : Type 0} (f : X → Option Y) (o : Option X) (y : Y) → option_and_then f o ≡ Some y → (x : X) × (o ≡ Some x) × (f x ≡ Some y)
 bound f None y e = absurd cc
 bound f (Some x) y e = (x, refl, e)
-
-pub one_value : {X : Type 0} (o : Option X) (x y : X) → o ≡ Some x → o ≡ Some y → x ≡ y
-one_value o x y e h = cc

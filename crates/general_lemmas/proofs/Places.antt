@@ -1,6 +1,7 @@
 -- What stands at a place of a list, and the list up to a place and from it on. `x ≡ get_or xs i x` is what an index says of the element that it gives.
-use Rattle.std.proofs.Common.{◌≡◌, ℕ, zero, suc, ◌+◌, ◌<◌, List, [], ◌∷◌, ◌++◌, length, take, drop, map, get_or, slice_get, option_map, unwrap_or, Some, refl, sym, ap, ap₂, ◌∙◌, arith}
-use Rattle.std.proofs.lemmas.List.{take_more, drop_more, map-append}
+use Rattle.std.proofs.Common.{◌≡◌, ℕ, zero, suc, ◌+◌, ◌-◌, ◌<◌, List, [], ◌∷◌, ◌++◌, length, take, drop, length-drop, map, get_or, slice_get, option_map, unwrap_or, Some}
+use Rattle.std.proofs.Common.{refl, sym, ap, ap₂, ◌∙◌, arith}
+use Rattle.std.proofs.lemmas.List.{take_more, take_all, drop_more, map-append}
 use Rattle.std.proofs.lemmas.Option.{slice_get-map, slice_get_read}
 
 -- ---- a place of two lists
@@ -44,10 +45,9 @@ drop_read {X} xs i x h e = drop_more xs i x h ∙ ap (λ (y : X). y ∷ drop (i 
 pub map-drop_read : {X Y : Type 0} (f : X → Y) (xs : List X) (i : ℕ) (x : X) → i < length xs → x ≡ get_or xs i x → map f (drop i xs) ≡ f x ∷ map f (drop (i + 1) xs)
 map-drop_read f xs i x h e = ap (map f) (drop_read xs i x h e)
 
-pub slice_get_inside : {X : Type 0} (xs : List X) (i : ℕ) (x : X) → slice_get xs i ≡ Some x → i < length xs
-slice_get_inside [] i x e = absurd (cc)
-slice_get_inside (y ∷ xs) zero x e = omega arith
-slice_get_inside (y ∷ xs) (suc i) x e = let h = slice_get_inside xs i x e in omega (arith, h)
+-- the slice of a list from a place to its end
+pub slice_rest : {X : Type 0} (xs : List X) (k : ℕ) → take (length xs - k) (drop k xs) ≡ drop k xs
+slice_rest xs k = take_all (length xs - k) (drop k xs) (let long = length-drop k xs in omega (arith, long))
 
 -- ---- lists with the same items at each place
 

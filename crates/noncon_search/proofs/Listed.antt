@@ -1,7 +1,6 @@
 -- The ends that are left of a list, and starts that fit.
-use Rattle.std.proofs.Common.{ℕ, ◌≡◌, ◌+◌, ◌<◌, inl, inr, List, [], ◌∷◌, ◌++◌, map, length, get_or, take, drop, ◌-◌, length-drop, refl, sym, ap, ◌∙◌, subst, arith}
+use Rattle.std.proofs.Common.{ℕ, ◌≡◌, ◌+◌, ◌<◌, inl, inr, List, [], ◌∷◌, ◌++◌, map, length, get_or, drop, refl, sym, ap, ◌∙◌, subst}
 use Rattle.std.specs.Prelude.{false, ◌||◌}
-use Rattle.std.proofs.lemmas.List.{take_all}
 use Rattle.std.proofs.lemmas.Bool.{false≢true, or_parts}
 use Rattle.rewriting.specs.Prelude.{IsAmong, Term, Fits, System, Signature, AreRules, is_same}
 use Rattle.rewriting.specs.Rules as math_rules
@@ -20,15 +19,12 @@ use Rattle.reach_lists.proofs.Laws.{listed_derived, none_twice}
 use Rattle.reach.specs.Parts.{DoAllFit}
 use Rattle.reach.proofs.Fitting.{listed_fit}
 use Rattle.general_lemmas.proofs.Places.{drop_read, map-drop_read}
+pub use Rattle.general_lemmas.proofs.Places.{slice_rest}
 use Rattle.search_spaces.specs.Listings.{listing, pairs_of}
 use Rattle.search_spaces.specs.PeakItems.{try_ends, peak_items_of, peak_items}
 use Rattle.noncon_search.specs.declared.ends.End.{End}
 use Rattle.noncon_search.specs.Ends.{end_view, ends_view, IsEnd, AreMet, AreEnds}
 use Rattle.noncon_search.specs.Answers.{pairs_with, pair_items}
-
--- the slice of a list from a place to its end
-pub slice_rest : {A : Type 0} (xs : List A) (k : ℕ) → take (length xs - k) (drop k xs) ≡ drop k xs
-slice_rest xs k = take_all (length xs - k) (drop k xs) (let long = length-drop k xs in omega (arith, long))
 
 -- the pairs that are left
 module _ (t : Term) where

@@ -2,7 +2,8 @@
 use Rattle.std.proofs.Common.{ℕ, zero, suc, ◌≡◌, ◌+◌, ◌-◌, ◌<◌, ◌≤◌, List, [], ◌∷◌, ◌++◌, map, take, drop, set, length, get_or, slice_get, Option, Some, None, refl, sym, ap, ◌∙◌, subst, arith}
 use Rattle.std.specs.List.{remove}
 use Rattle.std.proofs.lemmas.List.{drop_all}
-use Rattle.general_lemmas.proofs.Places.{map-drop_read, slice_get_inside}
+use Rattle.std.proofs.lemmas.Option.{slice_get_within}
+use Rattle.general_lemmas.proofs.Places.{map-drop_read}
 use Rattle.rewriting.specs.Rules.{Rule, System, rule_at}
 use Rattle.certificates.specs.Certificates.{Simplification, dropped, inlined}
 use Rattle.simplifications.specs.Simplifying.{Simplifies, AllSimplify}
@@ -72,10 +73,10 @@ exchanged n e (Some l ∷ os) (r ∷ rs) (suc k) q inside (a, s, h) = (a, s, exc
 
 is_there : (here next : System) (s : Simplification) → Simplifies here s next → (0 < rule_of s) × (rule_of s ≤ length here.rules)
 is_there here next (dropped zero e) h = absurd h
-is_there here next (dropped (suc n) e) h = (let l = slice_get_inside here.rules n h.rule h.is_rule in (omega arith, omega (arith, l)))
+is_there here next (dropped (suc n) e) h = (let l = slice_get_within here.rules n h.rule h.is_rule in (omega arith, omega (arith, l)))
 is_there here next (inlined zero k) h = absurd h
 is_there here next (inlined (suc n) zero) h = absurd h
-is_there here next (inlined (suc n) (suc k)) h = (let l = slice_get_inside here.rules n h.rule h.is_rule in (omega arith, omega (arith, l)))
+is_there here next (inlined (suc n) (suc k)) h = (let l = slice_get_within here.rules n h.rule h.is_rule in (omega arith, omega (arith, l)))
 
 -- one step
 module _ (sys here next : System) (os : List (Option ℕ)) (are : AreOrigins sys here os) where
@@ -88,7 +89,7 @@ module _ (sys here next : System) (os : List (Option ℕ)) (are : AreOrigins sys
   follows (inlined (suc n) zero) h = absurd h
   follows (inlined (suc n) (suc k)) h =
       let one : suc n - 1 ≡ n = omega arith in
-      let l = slice_get_inside here.rules n h.rule h.is_rule in
+      let l = slice_get_within here.rules n h.rule h.is_rule in
       let many = length_same sys here os are in
       subst (λ z. AreOrigins sys next (set os z None)) (sym one) (subst (λ z. AreOrigins sys z (set os n None)) (sym h.result) (exchanged 0 sys os here.rules n _ (omega (arith, l, many)) are))
 

@@ -1,9 +1,10 @@
 -- Pairs of listed terms of the left side of a condition.
-use Rattle.std.proofs.Common.{ℕ, zero, suc, ◌≡◌, ◌+◌, ◌-◌, ◌<◌, ◌≤◌, ◌↔◌, inl, inr, List, [], ◌∷◌, ◌++◌, map, length, get_or, take, drop, length-drop, slice_get, None, Some, Ok}
+use Rattle.std.proofs.Common.{ℕ, zero, suc, ◌≡◌, ◌+◌, ◌<◌, ◌≤◌, ◌↔◌, inl, inr, List, [], ◌∷◌, ◌++◌, map, length, get_or, drop, slice_get, None, Some, Ok}
 use Rattle.std.proofs.Common.{refl, sym, ap, ◌∙◌, subst, add-one, arith}
 use Rattle.std.specs.Prelude.{Bool, IsTrue}
 use Rattle.std.proofs.Math.ListN.{drop_of_length-le}
-use Rattle.std.proofs.lemmas.List.{map-append, take_all}
+use Rattle.std.proofs.lemmas.List.{map-append}
+pub use Rattle.general_lemmas.proofs.Places.{slice_rest}
 use Rattle.rewriting.specs.Prelude.{IsAmong, Terms, Fits, cons, nil, Condition, System}
 use Rattle.unifier_run.specs.Run.{clash, IsOutcome}
 use Rattle.unifier_run.specs.Overlaps.{Overlap}
@@ -69,10 +70,6 @@ module _ {A : Type 0} (P : A → Type 0) where
   each_behind [] (suc i) each = tt
   each_behind (y ∷ xs) zero each = each
   each_behind (y ∷ xs) (suc i) each = each_behind xs i each.1
-
--- a slice from a place on
-pub slice_rest : {A : Type 0} (xs : List A) (k : ℕ) → take (length xs - k) (drop k xs) ≡ drop k xs
-slice_rest xs k = take_all (length xs - k) (drop k xs) (let long = length-drop k xs in omega (arith, long))
 
 -- the pairs that are left
 module _ (k : ℕ) where

@@ -3,7 +3,6 @@ pub mod Systems
 pub mod Walks
 pub mod Numbers
 pub mod Linear
-pub mod Flat
 pub mod Standing
 pub mod Levels
 pub mod Deepest
