@@ -1,5 +1,5 @@
 -- The inner rules between two candidates at a place have other roots, so their runs clash.
-use Rattle.std.proofs.Common.{ℕ, zero, suc, ◌≡◌, ◌≢◌, ◌+◌, ◌-◌, ◌<◌, ◌≤◌, ◌⊎◌, inl, inr, Bool, true, false, List, [], ◌∷◌, ◌++◌, length, get_or, slice_get, None, Some, refl, sym}
+use Rattle.std.proofs.Common.{ℕ, zero, suc, ◌≡◌, ◌≢◌, ◌+◌, ◌-◌, ◌<◌, ◌≤◌, ◌⊎◌, inl, inr, Bool, true, false, List, [], ◌∷◌, ◌++◌, length, get_or, slice_get, None, Some, refl, sym, ◌*◌}
 use Rattle.std.proofs.Common.{ap, ◌∙◌, subst, subst₂, arith}
 use Rattle.std.proofs.lemmas.Bool.{cases_lt, eqb-false}
 use Rattle.std.proofs.lemmas.Option.{slice_get_within, slice_get-get_or}
@@ -18,7 +18,7 @@ use Rattle.critical_pairs.specs.Offers.{DoesPass}
 use Rattle.critical_pairs.specs.Places.{IsRootAt}
 use Rattle.critical_pairs.specs.Cursors.{done, triples_behind, CandidateAnswers}
 use Rattle.critical_pairs.proofs.Passing.{pass_all}
-use Rattle.critical_pairs.proofs.Spot.{renamed_fits}
+use Rattle.rewriting.proofs.Leaves.{fits_under, variables_are_leaves}
 use Rattle.critical_pairs.proofs.Sizes.{fits_part}
 
 -- a listed number counts from 1 and not beyond the rules
@@ -124,8 +124,8 @@ roots_clash sys j p f i h at other inner outer part place =
   where
     run : (g : ℕ) (ts : Terms) → f ≢ g → Fits (app g ts) → Fits (app f at.arguments) → IsOutcomeOf (app g ts) (app f at.arguments) clash
     run g ts d a b =
-        heads_clash g f (apply_all even ts) (apply_all odd at.arguments) (λ e. d (sym e)) (renamed_fits even (λ x. (refl, refl)) (app g ts) a)
-        (renamed_fits odd (λ x. (refl, refl)) (app f at.arguments) b)
+        heads_clash g f (apply_all even ts) (apply_all odd at.arguments) (λ e. d (sym e)) (fits_under even (variables_are_leaves (λ x. 2 * x)) (app g ts) a)
+        (fits_under odd (variables_are_leaves (λ x. 2 * x + 1)) (app f at.arguments) b)
 
     differ : (g : ℕ) × (ts : Terms) × (inner.left ≡ app g ts) × (f ≢ g) → app f at.arguments ≡ part → Fits inner.left → Fits part → IsOutcomeOf inner.left part clash
     differ (g, ts, e, d) s a b = subst₂ (λ x y. IsOutcomeOf x y clash) (sym e) s (run g ts d (subst Fits e a) (subst Fits (sym s) b))

@@ -1,4 +1,3 @@
-pub mod Exits
 pub mod Conditions
 pub mod Sizes
 pub mod Measures

@@ -1,9 +1,10 @@
 -- What a run at a triple says of the system's overlaps.
-use Rattle.std.proofs.Common.{ℕ, suc, ◌≡◌, ◌+◌, ◌<◌, inl, inr, List, [], ◌∷◌, ◌++◌, length, Some, refl, sym, ap, ap₂, ◌∙◌, subst, subst₂, arith, ◌^◌, max}
+use Rattle.std.proofs.Common.{ℕ, ◌≡◌, ◌+◌, ◌<◌, inl, inr, List, [], ◌∷◌, ◌++◌, length, Some, refl, sym, ap, ap₂, ◌∙◌, subst, subst₂, arith, ◌^◌, ◌*◌}
 use Rattle.std.proofs.lemmas.List.{length-map}
 use Rattle.rewriting.proofs.Once.{same_some}
-use Rattle.rewriting.specs.Prelude.{Term, Terms, var, app, nil, cons, size, size_all, depth, depth_all, Fits, Position, subterm, replace, Substitution, apply, apply_all, compose, Bindings}
+use Rattle.rewriting.specs.Prelude.{Term, nil, cons, Fits, Position, subterm, replace, Substitution, apply, compose, Bindings}
 use Rattle.rewriting.specs.Prelude.{values_of, even, odd, Condition, Rule, System, rule_at, sides, Each, terms_of_rule, IsSystem, CriticalPair, IsCriticalPair, conditions_under}
+use Rattle.rewriting.proofs.Leaves.{GivesLeaves, fits_under, variables_are_leaves}
 use Rattle.rewriting.proofs.Instances.{apply-apply, apply-agree}
 use Rattle.rewriting.proofs.Positions.{replaceable}
 use Rattle.rewriting.proofs.Places.{subterm-apply}
@@ -137,36 +138,21 @@ module _ (sys : System) (i : ℕ) (p : Position) (j : ℕ) (m : Bindings) (u : I
   pub measured_there : ((pair : CriticalPair) → IsMade (values_of m) p inner outer pair → DoesPairFit pair) → (o : Overlap) × IsOverlapAt sys i p j o
   measured_there f = let q = made_pair in (_, made_there q.0 q.1 (f q.0 q.1))
 
--- renaming keeps sizes
-abbrev pub IsRenaming : Substitution → Type 0
-IsRenaming s = (x : ℕ) → (size (s x) ≡ 1) × (depth (s x) ≡ 1)
-
-mutual
-  renamed_size : (s : Substitution) → IsRenaming s → (t : Term) → (size (apply s t) ≡ size t) × (depth (apply s t) ≡ depth t)
-  renamed_size s h (var x) = h x
-  renamed_size s h (app f ts) = let r = renamed_sizes s h ts in (ap suc r.0, ap suc r.1)
-
-  renamed_sizes : (s : Substitution) → IsRenaming s → (ts : Terms) → (size_all (apply_all s ts) ≡ size_all ts) × (depth_all (apply_all s ts) ≡ depth_all ts)
-  renamed_sizes s h nil = (refl, refl)
-  renamed_sizes s h (cons t ts) = let p = renamed_size s h t in let q = renamed_sizes s h ts in (ap₂ (λ x y. x + y) p.0 q.0, ap₂ max p.1 q.1)
-
-pub renamed_fits : (s : Substitution) → IsRenaming s → (t : Term) → Fits t → Fits (apply s t)
-renamed_fits s h t f = let r = renamed_size s h t in record { nodes = omega (arith, r.0, f.nodes); levels = omega (arith, r.1, f.levels) }
-
-sides_fit : (s : Substitution) → IsRenaming s → (cs : List Condition) → Each Fits (sides cs) → Each Fits (sides (conditions_under s cs))
+-- what is renamed fits
+sides_fit : (s : Substitution) → GivesLeaves s → (cs : List Condition) → Each Fits (sides cs) → Each Fits (sides (conditions_under s cs))
 sides_fit s h [] f = tt
-sides_fit s h (c ∷ cs) f = (renamed_fits s h c.left f.0, (renamed_fits s h c.right f.1.0, sides_fit s h cs f.1.1))
+sides_fit s h (c ∷ cs) f = (fits_under s h c.left f.0, (fits_under s h c.right f.1.0, sides_fit s h cs f.1.1))
 
-rule_fits : (s : Substitution) → IsRenaming s → (r : Rule) → Each Fits (terms_of_rule r) → Each Fits (terms_of_rule (rule_under s r))
-rule_fits s h r f = (renamed_fits s h r.left f.0, (renamed_fits s h r.right f.1.0, sides_fit s h r.conditions f.1.1))
+rule_fits : (s : Substitution) → GivesLeaves s → (r : Rule) → Each Fits (terms_of_rule r) → Each Fits (terms_of_rule (rule_under s r))
+rule_fits s h r f = (fits_under s h r.left f.0, (fits_under s h r.right f.1.0, sides_fit s h r.conditions f.1.1))
 
 module _ (sys : System) (h : IsSystem sys) (i : ℕ) (p : Position) (j : ℕ) (spot : IsSpotOf sys i p j) (inner outer : Program.Rule)
     (low : rule_view inner ≡ rule_under even spot.inner) (high : rule_view outer ≡ rule_under odd spot.outer) where
   pub inner_fits : Each Fits (terms_of_rule (rule_view inner))
-  inner_fits = subst (λ z. Each Fits (terms_of_rule z)) (sym low) (rule_fits even (λ x. (refl, refl)) spot.inner (numbered_rule sys i spot.inner h spot.place.is_inner).fits)
+  inner_fits = subst (λ z. Each Fits (terms_of_rule z)) (sym low) (rule_fits even (variables_are_leaves (λ x. 2 * x)) spot.inner (numbered_rule sys i spot.inner h spot.place.is_inner).fits)
 
   pub outer_fits : Each Fits (terms_of_rule (rule_view outer))
-  outer_fits = subst (λ z. Each Fits (terms_of_rule z)) (sym high) (rule_fits odd (λ x. (refl, refl)) spot.outer (numbered_rule sys j spot.outer h spot.place.is_outer).fits)
+  outer_fits = subst (λ z. Each Fits (terms_of_rule z)) (sym high) (rule_fits odd (variables_are_leaves (λ x. 2 * x + 1)) spot.outer (numbered_rule sys j spot.outer h spot.place.is_outer).fits)
 
   pub few_conditions : length inner.conds.items < 2 ^ 32
   few_conditions =

@@ -1,11 +1,12 @@
 -- What a run of two rules at a triple answers, and what its unifier makes there.
 use Rattle.std.specs.Prelude.{ℕ, ◌≡◌, List, Option, None, Some, Result, Ok, Err}
-use Rattle.rewriting.specs.Prelude.{Term, Position, Bindings, Rule, System, IsPlace}
+use Rattle.rewriting.specs.Prelude.{Term, Position, Bindings, even, odd, Rule, System, IsPlace}
 use Rattle.unifier_run.specs.Run.{Binding, unifier}
 use Rattle.unifier_run.specs.Laws.{as_map}
 use Rattle.unifier_run.specs.Overlaps as math
 use Rattle.unifier_run.specs.Overlaps.{triple, IsOutcomeOf, IsOverlapOf, IsTooLargeAt}
 use Rattle.unifier_run.specs.Triples.{DoesClash}
+use Rattle.prepared_system.specs.Renamed.{rule_under}
 use Rattle.critical_pairs.specs.View.{overlap_view}
 use Rattle.critical_pairs.specs.declared.Overlap.{Overlap}
 use Rattle.critical_pairs.specs.declared.OverlapError.{OverlapError}
@@ -17,6 +18,10 @@ pub record IsSpotOf (sys : System) (i : ℕ) (p : Position) (j : ℕ) : Type 0 w
   pub outer : Rule
   pub part : Term
   pub place : IsPlace sys i p j inner outer part
+
+-- its rules, renamed apart
+abbrev pub AreRulesAt : System → ℕ → Position → ℕ → Rule → Rule → Type 0
+AreRulesAt sys i p j low high = (spot : IsSpotOf sys i p j) → (low ≡ rule_under even spot.inner) × (high ≡ rule_under odd spot.outer)
 
 -- the run at the triple has this unifier
 pub record IsUnifierAt (sys : System) (i : ℕ) (p : Position) (j : ℕ) (m : Bindings) : Type 0 where

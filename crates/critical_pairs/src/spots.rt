@@ -1,12 +1,14 @@
 //! The unifiers and overlaps of two rules of a prepared system.
-ghost use Rattle.critical_pairs.specs.Spots.{IsSpotOf, IsUnifierAt, UnifierAnswers, OverlapAnswers, MeasureAnswers, IsRefusal};
+ghost use Rattle.rewriting.specs.Systems.{IsSystem};
+ghost use Rattle.term_core.specs.RuleView.{rule_view};
+ghost use Rattle.critical_pairs.specs.Spots.{IsSpotOf, AreRulesAt, IsUnifierAt, UnifierAnswers, OverlapAnswers, MeasureAnswers, IsRefusal};
 
 use crate::fitting::does_pair_fit;
 use crate::pairs::{Triple, copy, pair};
 use crate::{Overlap, OverlapError};
 use prepared_system::PreparedSystem;
 use std::alloc::Global;
-use term_core::{Subst, TermError, subterm};
+use term_core::{Rule, Subst, TermError, subterm};
 use unification::{Unified, unify_terms};
 
 fn too_large(alloc: Global, triple: &Triple) -> OverlapError
@@ -22,6 +24,17 @@ fn too_large(alloc: Global, triple: &Triple) -> OverlapError
     }
 }
 
+// The inner and the outer rule of a triple, renamed apart.
+fn rules_at<'a>(sys: &'a PreparedSystem<'_>, triple: &Triple) -> (&'a Rule, &'a Rule)
+    requires { IsSpotOf sys.now triple.now.inner triple.now.pos.now triple.now.outer }
+    ensures renamed { AreRulesAt sys.now triple.now.inner triple.now.pos.now triple.now.outer (rule_view result.0.now) (rule_view result.1.now) }
+    ensures sound { IsSystem sys.now }
+{
+    let inner = &sys.inner_rules()[triple.inner as usize - 1];
+    let outer = &sys.outer_rules()[triple.outer as usize - 1];
+    (inner, outer)
+}
+
 /// The unifier of the run at a triple, none where it clashes, or the refusal of one that passes the size.
 pub fn unifier_at(
     alloc: Global,
@@ -31,8 +44,7 @@ pub fn unifier_at(
     requires { IsSpotOf sys.now triple.now.inner triple.now.pos.now triple.now.outer }
     ensures { UnifierAnswers sys.now triple.now.inner triple.now.pos.now triple.now.outer result }
 {
-    let inner = &sys.inner_rules()[triple.inner as usize - 1];
-    let outer = &sys.outer_rules()[triple.outer as usize - 1];
+    let (inner, outer) = rules_at(sys, triple);
     // The renamed left side has the positions of the rule's.
     let Some(part) = subterm(&outer.left, triple.pos) else {
         unreachable!();
@@ -54,8 +66,7 @@ pub fn overlap_by(
     requires { IsUnifierAt sys.now triple.now.inner triple.now.pos.now triple.now.outer m.now }
     ensures { OverlapAnswers sys.now triple.now.inner triple.now.pos.now triple.now.outer result }
 {
-    let inner = &sys.inner_rules()[triple.inner as usize - 1];
-    let outer = &sys.outer_rules()[triple.outer as usize - 1];
+    let (inner, outer) = rules_at(sys, triple);
     match pair(alloc, m, inner, outer, triple) {
         Ok(overlap) => Ok(overlap),
         Err(TermError::TooLarge) => Err(too_large(alloc, triple)),
@@ -74,8 +85,7 @@ pub fn measure_by(
     requires { IsUnifierAt sys.now triple.now.inner triple.now.pos.now triple.now.outer m.now }
     ensures { MeasureAnswers sys.now triple.now.inner triple.now.pos.now triple.now.outer result }
 {
-    let inner = &sys.inner_rules()[triple.inner as usize - 1];
-    let outer = &sys.outer_rules()[triple.outer as usize - 1];
+    let (inner, outer) = rules_at(sys, triple);
     if does_pair_fit(m, inner, outer, triple.pos) {
         Ok(())
     } else {

@@ -4,5 +4,5 @@ pub mod Judging
 pub mod Contracting
 pub mod Shown
 pub mod OneStep
-pub mod Loops
+pub mod OneCondition
 pub mod Progress

@@ -1,23 +1,34 @@
 -- Loops over the steps of a derivation and over conditions, item by item.
-use Rattle.std.proofs.Common.{◌≡◌, ℕ, suc, ◌+◌, ◌<◌, List, ◌∷◌, map, drop, length, get_or, Err, sym, ap, subst, subst₂, arith}
+use Rattle.std.proofs.Common.{◌≡◌, ℕ, suc, ◌+◌, ◌<◌, List, ◌∷◌, map, drop, length, get_or, refl, sym, ap, subst, subst₂, inl, inr, arith}
 use Rattle.general_lemmas.proofs.Places.{map-drop_read}
 use Rattle.rewriting.specs.Terms as math
 use Rattle.rewriting.specs.Prelude.{Bindings, Condition, System}
 use Rattle.certificates.specs.Derivations as plain
-use Rattle.certificates.specs.Prelude.{derivation_of, derivations_of, first_step, first_derivation, StepsTo, StepFails, AreMet, FailsFrom, FailFrom, StepReason, AreStepsShort, AreShort}
+use Rattle.certificates.specs.Prelude.{derivation_of, derivations_of, first_step, first_derivation, Derives, StepsTo, StepFails, AreMet, FailsFrom, FailFrom, StepReason, AreStepsShort, AreShort}
 use Rattle.certificates.specs.Prelude.{DoConditionsFit}
 use Rattle.term_core.specs.RuleView.{condition_view}
 use Rattle.term_core.specs.declared.systems.Cond.{Cond}
 use Rattle.cert_model.specs.DerivationView.{derivation_view, step_view}
 use Rattle.cert_model.specs.declared.derivations.Step.{Step}
 use Rattle.cert_model.specs.declared.derivations.Derivation.{Derivation}
-use Rattle.derivation.specs.Errors.{Judged, IsBelow}
-use Rattle.derivation.specs.declared.errors.ReplayError.{ReplayError}
-use Rattle.derivation.proofs.Judging.{judged_below}
-use Rattle.derivation.proofs.Loops.{Running, run_goes_on, run_fails, Meeting, meeting_goes_on, meeting_fails, Fulfils, Misses}
+use Rattle.derivation.specs.Judged.{Fulfils, Misses}
+
+module _ (sys : System) (hyps : List Condition) where
+  -- what the rest of the steps, numbered from n, say from t, the whole derivation says from the start
+  pub record Running (n : ℕ) (t : math.Term) (rest : plain.Derivation) (start : math.Term) (whole : plain.Derivation) : Type 0 where
+    pub ends : (u : math.Term) → Derives sys hyps t rest u → Derives sys hyps start whole u
+    pub fails : (path : List ℕ) (reason : StepReason) → FailsFrom sys hyps n t rest path reason → FailsFrom sys hyps 1 start whole path reason
+
+  pub run_begins : (t : math.Term) (d : plain.Derivation) → Running 1 t d t d
+  run_begins t d = record { ends = λ u h. h; fails = λ path reason h. h }
+
+  -- what the rest of the conditions, numbered from n, say from b, all conditions say from the start
+  pub record Meeting (n : ℕ) (b : Bindings) (cs : List Condition) (ds : plain.Derivations) (start : Bindings) (all : List Condition) (whole : plain.Derivations) : Type 0 where
+    pub met : (e : Bindings) → AreMet sys hyps b cs ds e → AreMet sys hyps start all whole e
+    pub fails : (path : List ℕ) (reason : StepReason) → FailFrom sys hyps n b cs ds path reason → FailFrom sys hyps 1 start all whole path reason
 
 module _ (xs : List Step) (i : ℕ) (x : Step) (low : i < length xs) (is : x ≡ get_or xs i x) where
-  pub steps_open : derivation_of (map step_view (drop i xs)) ≡ first_step (step_view x) (derivation_of (map step_view (drop (i + 1) xs)))
+  steps_open : derivation_of (map step_view (drop i xs)) ≡ first_step (step_view x) (derivation_of (map step_view (drop (i + 1) xs)))
   steps_open = ap derivation_of (map-drop_read step_view xs i x low is)
 
   pub short_rest : AreStepsShort (derivation_of (map step_view (drop i xs))) → AreStepsShort (derivation_of (map step_view (drop (i + 1) xs)))
@@ -31,12 +42,11 @@ module _ (xs : List Step) (i : ℕ) (x : Step) (low : i < length xs) (is : x ≡
     next_running u h =
         let next : suc (i + 1) ≡ i + 1 + 1 = omega arith in
         subst (λ n. Running sys hyps n u (derivation_of (map step_view (drop (i + 1) xs))) start whole) next
-        (run_goes_on sys hyps (i + 1) t (step_view x) (derivation_of (map step_view (drop (i + 1) xs))) start whole u opened h)
+        (record { ends = λ w k. opened.ends w (u, h, k); fails = λ path reason k. opened.fails path reason (inr (u, h, k)) })
 
     pub failing_step : (n : ℕ) → n ≡ i → (path : List ℕ) (reason : StepReason) → StepFails sys hyps t (step_view x) path reason → FailsFrom sys hyps 1 start whole ((n + 1) ∷ path) reason
     failing_step n same path reason h =
-        subst (λ m. FailsFrom sys hyps 1 start whole ((m + 1) ∷ path) reason) (sym same)
-        (run_fails sys hyps (i + 1) t (step_view x) (derivation_of (map step_view (drop (i + 1) xs))) start whole path reason opened h)
+        subst (λ m. FailsFrom sys hyps 1 start whole ((m + 1) ∷ path) reason) (sym same) (opened.fails ((i + 1) ∷ path) reason (inl (path, refl, h)))
 
 module _ (cs : List Cond) (ds : List Derivation) (k : ℕ) (c : Cond) (d : Derivation) (low : k < length ds) (paired : length ds ≡ length cs) (c_is : c ≡ get_or cs k c) (d_is : d ≡ get_or ds k d) where
   conditions_open : map condition_view (drop k cs) ≡ condition_view c ∷ map condition_view (drop (k + 1) cs)
@@ -63,18 +73,8 @@ module _ (cs : List Cond) (ds : List Derivation) (k : ℕ) (c : Cond) (d : Deriv
     next_meeting after h =
         let next : suc (k + 1) ≡ k + 1 + 1 = omega arith in
         subst (λ n. Meeting sys hyps n after (map condition_view (drop (k + 1) cs)) (derivations_of (map derivation_view (drop (k + 1) ds))) start all whole) next
-        (meeting_goes_on sys hyps (k + 1) b (condition_view c) (map condition_view (drop (k + 1) cs)) (derivation_view d) (derivations_of (map derivation_view (drop (k + 1) ds)))
-        start all whole after opened_meeting h)
+        (record { met = λ e q. opened_meeting.met e (after, h, q); fails = λ path reason q. opened_meeting.fails path reason (inr (after, h, q)) })
 
-    failing_condition : (path : List ℕ) (reason : StepReason) → Misses sys hyps (derivation_view d) b (condition_view c) path reason → FailFrom sys hyps 1 start all whole ((k + 1) ∷ path) reason
-    failing_condition path reason h =
-        meeting_fails sys hyps (k + 1) b (condition_view c) (map condition_view (drop (k + 1) cs)) (derivation_view d) (derivations_of (map derivation_view (drop (k + 1) ds)))
-        start all whole path reason opened_meeting h
-
-    -- an error of the condition's, with its number before the path
-    pub failing_below : {T : Type 0} (Good : T → Type 0) (Fails : List ℕ → StepReason → Type 0) (e r : ReplayError) → IsBelow (k + 1) e r
-        → ((path : List ℕ) (reason : StepReason) → Fails path reason → Misses sys hyps (derivation_view d) b (condition_view c) path reason) → Judged Good Fails (Err e)
-        → Judged (λ after. AreMet sys hyps start all whole after) (FailFrom sys hyps 1 start all whole) (Err r)
-    failing_below Good Fails e r is f h =
-        judged_below Good Fails (λ after. AreMet sys hyps start all whole after) (FailFrom sys hyps 1 start all whole) (k + 1) e r is
-        (λ path reason g. failing_condition path reason (f path reason g)) h
+    pub failing_condition : (path : List ℕ) (reason : StepReason) → Misses sys hyps (derivation_view d) b (condition_view c) path reason
+        → FailFrom sys hyps 1 start all whole ((k + 1) ∷ path) reason
+    failing_condition path reason h = opened_meeting.fails ((k + 1) ∷ path) reason (inl (path, refl, h))

@@ -1,9 +1,9 @@
 -- What the parts of judging answer.
-use Rattle.std.specs.Prelude.{◌≡◌, ◌⊎◌, ◌≤◌, ℕ, length, Some, None}
+use Rattle.std.specs.Prelude.{◌≡◌, ◌⊎◌, ◌≤◌, ℕ, List, length, Some, None}
 use Rattle.rewriting.specs.Terms as math
-use Rattle.rewriting.specs.Prelude.{Position, subterm, replace, Bindings, apply, values_of, HasNoMatch, IsLeastMatch, Covers, Rule}
+use Rattle.rewriting.specs.Prelude.{Position, subterm, replace, Bindings, apply, values_of, HasNoMatch, IsLeastMatch, Covers, Rule, Condition, System}
 use Rattle.std.specs.FinMap.{empty}
-use Rattle.certificates.specs.Prelude.{StepReason, unbound, too_large, DoConditionsFit}
+use Rattle.certificates.specs.Prelude.{StepReason, unbound, too_large, DoConditionsFit, Derivation, Derives, FailsFrom, ConditionMet, ConditionFails}
 use Rattle.term_core.specs.View.{view}
 use Rattle.derivation.specs.declared.places.Counted.{Counted}
 use Rattle.derivation.specs.declared.places.Opened.{Opened}
@@ -63,3 +63,11 @@ pub record IsJudgable (r : Rule) : Type 0 where
   pub right : math.Fits r.right
   pub conditions : DoConditionsFit r.conditions
   pub few : length r.conditions ≤ 100
+
+-- a condition is met by its derivation, and how the values grow
+abbrev pub Fulfils : System → List Condition → Derivation → Bindings → Condition → Bindings → Type 0
+Fulfils sys hyps d b c after = ConditionMet (λ t u. Derives sys hyps t d u) b c after
+
+-- it is not met: where below its derivation, if there, and why
+abbrev pub Misses : System → List Condition → Derivation → Bindings → Condition → List ℕ → StepReason → Type 0
+Misses sys hyps d b c path reason = ConditionFails (λ t u. Derives sys hyps t d u) (λ t inner why. FailsFrom sys hyps 1 t d inner why) b c path reason

@@ -1,13 +1,13 @@
 //! Replaying a derivation step by step, where each condition of a rule is met by a nested derivation.
 ghost use Rattle.std.specs.Prelude.{◌≡◌, ◌≤◌, [], length, IfOk, map};
 ghost use Rattle.rewriting.specs.Matching.{IsLeastMatch, HasNoMatch};
-ghost use Rattle.certificates.specs.Prelude.{condition_fails, derivations_of, Derives, StepsTo, AreMet, FailsFrom, StepFails, FailFrom, DoConditionsFit, IsShort, IsStepShort, AreShort};
+ghost use Rattle.certificates.specs.Prelude.{condition_fails, derivation_of, derivations_of, Derives, StepsTo, AreMet, FailsFrom, StepFails, FailFrom, DoConditionsFit, IsShort, IsStepShort, AreShort};
 ghost use Rattle.rewriting.specs.Terms as math;
 ghost use Rattle.term_core.specs.Prelude.{view, condition_view};
 ghost use Rattle.cert_model.specs.DerivationView.{derivation_view, step_view};
 ghost use Rattle.derivation.specs.Answers.{ReplayAnswers, IsSound};
 ghost use Rattle.derivation.specs.Errors.{Judged};
-ghost use Rattle.derivation.specs.Judged.{IsCounted, IsInstance, HasNoInstance};
+ghost use Rattle.derivation.specs.Judged.{IsCounted, IsInstance, HasNoInstance, Fulfils, Misses};
 
 use crate::errors::{ReplayError, below, here};
 use crate::instances::{found_at, instance, rule_at};
@@ -38,6 +38,27 @@ fn values_after(alloc: Global, values: Subst, right: &Term, end: Term) -> Result
     }
 }
 
+// The values once a condition is met by its derivation.
+#[cycle(judge)]
+fn condition_met(
+    alloc: Global,
+    d: &Derivation,
+    sys: &System,
+    hyps: &[Cond],
+    cond: &Cond,
+    values: Subst,
+) -> Result<Subst, ReplayError>
+    requires hypotheses { DoConditionsFit (map condition_view hyps.now) }
+    requires left { math.Fits (view cond.now.left) }
+    requires short { IsShort (derivation_view d.now) }
+    ensures { Judged (Fulfils sys.now (map condition_view hyps.now) (derivation_view d.now) values (condition_view cond.now))
+        (Misses sys.now (map condition_view hyps.now) (derivation_view d.now) values (condition_view cond.now)) result }
+{
+    let from = condition_start(alloc, &values, &cond.left)?;
+    let end = run(alloc, &d.steps, sys, hyps, from)?;
+    values_after(alloc, values, &cond.right, end.term)
+}
+
 // The values once each condition in order is met by its derivation.
 #[cycle(judge)]
 fn values_met(
@@ -57,19 +78,9 @@ fn values_met(
 {
     let mut values = start;
     for k in 0..ds.len() {
-        let number = k as u32 + 1;
-        let cond = &conds[k];
-        let from = match condition_start(alloc, &values, &cond.left) {
-            Ok(from) => from,
-            Err(e) => return Err(below(number, e)),
-        };
-        let end = match run(alloc, &ds[k], sys, hyps, from) {
-            Ok(end) => end,
-            Err(e) => return Err(below(number, e)),
-        };
-        values = match values_after(alloc, values, &cond.right, end.term) {
+        values = match condition_met(alloc, &ds[k], sys, hyps, &conds[k], values) {
             Ok(after) => after,
-            Err(e) => return Err(below(number, e)),
+            Err(e) => return Err(below(k as u32 + 1, e)),
         };
     }
     Ok(values)
@@ -109,19 +120,19 @@ fn after_step(
 #[cycle(judge)]
 fn run(
     alloc: Global,
-    d: &Derivation,
+    steps: &[Step],
     sys: &System,
     hyps: &[Cond],
     start: Counted,
 ) -> Result<Counted, ReplayError>
     requires hypotheses { DoConditionsFit (map condition_view hyps.now) }
     requires counted { IsCounted start }
-    requires short { IsShort (derivation_view d.now) }
-    ensures { Judged (λ u. Derives sys.now (map condition_view hyps.now) (view start.term) (derivation_view d.now) (view u.term) × IsCounted u) (λ path reason. FailsFrom sys.now (map condition_view hyps.now) 1 (view start.term) (derivation_view d.now) path reason) result }
+    requires short { IsShort (derivation_of (map step_view steps.now)) }
+    ensures { Judged (λ u. Derives sys.now (map condition_view hyps.now) (view start.term) (derivation_of (map step_view steps.now)) (view u.term) × IsCounted u) (λ path reason. FailsFrom sys.now (map condition_view hyps.now) 1 (view start.term) (derivation_of (map step_view steps.now)) path reason) result }
 {
     let mut t = start;
     let mut number = 0;
-    for step in &d.steps {
+    for step in steps {
         number += 1;
         t = match after_step(alloc, step, sys, hyps, t) {
             Ok(next) => next,
@@ -151,6 +162,6 @@ pub fn replay(
     let _rules = sys.rules();
     let term = try_clone(alloc, start)?;
     let nodes = size(&term);
-    let end = run(alloc, d, sys, hyps, Counted { term, nodes })?;
+    let end = run(alloc, &d.steps, sys, hyps, Counted { term, nodes })?;
     Ok(end.term)
 }

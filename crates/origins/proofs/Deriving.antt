@@ -8,7 +8,7 @@ use Rattle.cert_model.specs.DerivationView.{derivation_view, step_view}
 use Rattle.cert_model.specs.declared.derivations.Step.{Step}
 use Rattle.cert_model.specs.declared.derivations.Step as program
 use Rattle.cert_model.specs.declared.derivations.Derivation.{Derivation, roll-Derivation}
-use Rattle.cert_model.specs.declared.derivations.Derivation as whole
+use Rattle.cert_model.proofs.DerivationViews.{step_of_rule, step_of_hypothesis, derivation_of_steps}
 use Rattle.origins.specs.OriginView.{origin_view, way_view}
 use Rattle.origins.specs.declared.Way.{Way}
 use Rattle.origins.specs.declared.Way as way
@@ -28,20 +28,11 @@ then_last : (ss : List math.Step) (s : math.Step) → derivation_of (ss ++ s ∷
 then_last [] s = refl
 then_last (x ∷ ss) s = ap (first_step x) (then_last ss s)
 
-view_made : (v : Vec Step Global) → derivation_view (roll-Derivation record { steps = v }) ≡ derivation_of (map step_view v.items)
-view_made v = search (rules, whole.the_lemmas)
-
-rule_step_view : (i : ℕ) (p : Vec ℕ Global) (ds : Vec Derivation Global) → step_view (program.Rule i p ds) ≡ by_rule i p.items (derivations_of (map derivation_view ds.items))
-rule_step_view i p ds = search (rules, program.the_lemmas)
-
-hypothesis_step_view : (k : ℕ) (p : Vec ℕ Global) → step_view (program.Hyp k p) ≡ by_hypothesis k p.items
-hypothesis_step_view k p = search (rules, program.the_lemmas)
-
 made_longer : (before after : Vec Step Global) (s : Step) (by : math.Derivation) → derivation_view (roll-Derivation record { steps = before }) ≡ by
     → after.items ≡ before.items ++ s ∷ [] → derivation_view (roll-Derivation record { steps = after }) ≡ then_step by (step_view s)
 made_longer before after s by e pushed =
-    view_made after ∙ ap (λ xs. derivation_of (map step_view xs)) pushed ∙ ap derivation_of (map_push step_view before.items s)
-    ∙ then_last (map step_view before.items) (step_view s) ∙ ap (λ d. then_step d (step_view s)) (sym (view_made before) ∙ e)
+    derivation_of_steps (roll-Derivation record { steps = after }) ∙ ap (λ xs. derivation_of (map step_view xs)) pushed ∙ ap derivation_of (map_push step_view before.items s)
+    ∙ then_last (map step_view before.items) (step_view s) ∙ ap (λ d. then_step d (step_view s)) (sym (derivation_of_steps (roll-Derivation record { steps = before })) ∙ e)
 
 pub rule_made : (w : Way) (from : Origin) (i : ℕ) (p q : Vec ℕ Global) (conds : Vec Origin Global) (ds : Vec Derivation Global) (before after : Vec Step Global)
     → w ≡ way.Rule from i p conds → derivation_view (roll-Derivation record { steps = before }) ≡ origin_view from → q.items ≡ p.items
@@ -49,7 +40,7 @@ pub rule_made : (w : Way) (from : Origin) (i : ℕ) (p q : Vec ℕ Global) (cond
     → derivation_view (roll-Derivation record { steps = after }) ≡ way_view w
 rule_made w from i p q conds ds before after is by same met pushed =
     made_longer before after (program.Rule i q ds) (origin_view from) by pushed
-    ∙ ap (then_step (origin_view from)) (rule_step_view i q ds ∙ ap₂ (λ r xs. by_rule i r (derivations_of xs)) same met)
+    ∙ ap (then_step (origin_view from)) (step_of_rule i q ds ∙ ap₂ (λ r xs. by_rule i r (derivations_of xs)) same met)
     ∙ sym (ap way_view is ∙ rule_way from i p conds)
 
 pub hypothesis_made : (w : Way) (from : Origin) (k : ℕ) (p q : Vec ℕ Global) (before after : Vec Step Global)
@@ -57,5 +48,5 @@ pub hypothesis_made : (w : Way) (from : Origin) (k : ℕ) (p q : Vec ℕ Global)
     → derivation_view (roll-Derivation record { steps = after }) ≡ way_view w
 hypothesis_made w from k p q before after is by same pushed =
     made_longer before after (program.Hyp k q) (origin_view from) by pushed
-    ∙ ap (then_step (origin_view from)) (hypothesis_step_view k q ∙ ap (λ r. by_hypothesis k r) same)
+    ∙ ap (then_step (origin_view from)) (step_of_hypothesis k q ∙ ap (λ r. by_hypothesis k r) same)
     ∙ sym (ap way_view is ∙ hypothesis_way from k p)

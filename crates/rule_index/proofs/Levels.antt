@@ -111,5 +111,10 @@ stands before None p later args (e, h) none = (e, ap₂ (λ (us : List program.T
 stands before (Some t) p later args (small, e) are =
     e ∙ ap (λ z. z ++ later) (first_part p (view t.now)) ∙ ap (λ ts. part p (view t.now) ∷ (parts_among p 1 ts ++ later)) (sym are)
 
+-- a part that is next stands at the position that is told of it
+pub told_part : (before after : List Part) (o : Option (Bor program.Term)) (t : Bor program.Term) (p told : Position) → IsNext before o p after → o ≡ Some t → told ≡ p
+    → before ≡ part told (view t.now) ∷ after
+told_part before after o t p told next is e = subst (λ x. IsNext before x p after) is next ∙ ap (λ x. part x (view t.now) ∷ after) (sym e)
+
 pub leads_on : (before mid : List Part) (o : Option (Bor program.Term)) (p : Position) (later : List Part) → before ≡ mid → Leads mid o p later → Leads before o p later
 leads_on before mid o p later e h = subst (λ z. Leads z o p later) (sym e) h

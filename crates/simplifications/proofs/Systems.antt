@@ -2,6 +2,7 @@
 use Rattle.std.proofs.Common.{◌≡◌, ℕ, zero, suc, ◌+◌, ◌*◌, ◌^◌, ◌≤◌, ◌<◌, Bool, true, false, sym, subst, List, [], ◌∷◌, ◌++◌, length, map, take, drop, slice_get, Some, nat_eq, if◌then◌else◌, arith}
 use Rattle.rewriting.specs.Prelude.{Each, terms_of_rule, rule_variables, CountsFrom, IsRuleOver, IsRule, AreRules, condition_count, IsSystem, Fits, size_all, count}
 use Rattle.rewriting.proofs.Common.{Term, var, app, apply, Signature, IsOver, Condition, Rule, System, sides, variables_of}
+use Rattle.rewriting.proofs.Leaves.{fits_under, variables_are_leaves}
 use Rattle.rewriting.proofs.Lengths.{variables_length}
 use Rattle.rewriting.proofs.Over.{IsOver-apply}
 use Rattle.rewriting.proofs.Systems.{is_rule_at}
@@ -11,7 +12,7 @@ use Rattle.certificates.specs.Certificates.{Simplification, dropped, inlined}
 use Rattle.simplifications.specs.Inlining.{replacing, left_under, inlined_rule, numbering_of, numbered}
 use Rattle.simplifications.specs.Simplifying.{with_in_place, Simplifies}
 use Rattle.simplifications.specs.Laws.{parts, SimplificationsMakeSystems, SimplificationsShrink}
-use Rattle.simplifications.proofs.Anew.{numbered_counts, fits_renamed}
+use Rattle.simplifications.proofs.Anew.{numbered_counts}
 use Rattle.simplifications.proofs.Parts.{each_append, each_front, each_behind, each_left_under, each_rule_under, terms_under, all_small, count_sides, length_replaced}
 use Rattle.simplifications.proofs.Parts.{length_without, count_replaced, rules_replaced}
 use Rattle.simplifications.proofs.Rules.{split_at}
@@ -65,7 +66,7 @@ numbered_over ar p over =
 
 pub numbered_rule : (ar : Signature) (p : Rule) → IsRuleOver ar p → length p.conditions ≤ 100 → Each Fits (terms_of_rule p) → IsRule ar (numbered p)
 numbered_rule ar p over few fits =
-    let fits_now : Each Fits (terms_of_rule (numbered p)) = each_rule_under Fits (numbering_of p) (λ t f. fits_renamed _ t f) p fits in
+    let fits_now : Each Fits (terms_of_rule (numbered p)) = each_rule_under Fits (numbering_of p) (λ t f. fits_under _ (variables_are_leaves _) t f) p fits in
     let few_now : length (numbered p).conditions ≤ 100 = (let e = length-conditions_under (numbering_of p) p.conditions in omega (arith, e, few)) in
     record {
       is_over = numbered_over ar p over;

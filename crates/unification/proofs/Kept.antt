@@ -1,9 +1,10 @@
 -- What bound variables stand for keeps fitting where a new binding leaves the sizes.
-use Rattle.std.proofs.Common.{ℕ, suc, ◌≡◌, ◌+◌, ◌⊎◌, inl, inr, Bool, true, false, nat_eq, if◌then◌else◌, refl, sym, ap, ap₂, ◌∙◌, subst, subst₂, List, [], ◌∷◌, map, length, take}
-use Rattle.std.proofs.Common.{max, arith, eqb-true, eq-eqb}
+use Rattle.std.proofs.Common.{ℕ, ◌≡◌, ◌⊎◌, inl, inr, Bool, true, false, nat_eq, if◌then◌else◌, refl, sym, ap, ap₂, ◌∙◌, subst, subst₂, List, [], ◌∷◌, map, length, take}
+use Rattle.std.proofs.Common.{arith, eqb-true, eq-eqb}
 use Rattle.std.proofs.lemmas.Bool.{false≢true, or_right, or_left}
-use Rattle.rewriting.specs.Prelude.{Term, Terms, var, app, nil, cons, size, size_all, depth, depth_all, Fits, Substitution, apply, apply_all, occurs, occurs_in}
+use Rattle.rewriting.specs.Prelude.{Term, Terms, var, app, nil, cons, size, Fits, Substitution, apply, apply_all, occurs, occurs_in}
 use Rattle.rewriting.proofs.Instances.{or_cases}
+use Rattle.rewriting.proofs.Leaves.{IsLeaf, GivesLeaves, fits_under}
 use Rattle.rewriting.proofs.Lengths.{size_positive}
 use Rattle.unifier_run.specs.Run.{Binding, value, only, under, extended, DoAllFit}
 use Rattle.unifier_run.proofs.Values.{value-extended}
@@ -71,27 +72,12 @@ new_stay x v es may new =
     let whole = all_closed es may in
     ap (map (under x v)) whole ∙ (stay x v (value (bound_in_turn [] es)) es (in_turn_back x [] es new (variable_back x)) new ∙ sym whole)
 
--- a leaf is a variable or a constant
-pub record IsLeaf (t : Term) : Type 0 where
-  pub nodes : size t ≡ 1
-  pub levels : depth t ≡ 1
-
--- a substitution of leaves leaves sizes and depths
-mutual
-  size_kept : (s : Substitution) → ((y : ℕ) → IsLeaf (s y)) → (t : Term) → (size (apply s t) ≡ size t) × (depth (apply s t) ≡ depth t)
-  size_kept s leaf (var y) = ((leaf y).nodes, (leaf y).levels)
-  size_kept s leaf (app f ts) = let r = sizes_kept s leaf ts in (ap suc r.0, ap suc r.1)
-
-  sizes_kept : (s : Substitution) → ((y : ℕ) → IsLeaf (s y)) → (ts : Terms) → (size_all (apply_all s ts) ≡ size_all ts) × (depth_all (apply_all s ts) ≡ depth_all ts)
-  sizes_kept s leaf nil = (refl, refl)
-  sizes_kept s leaf (cons t ts) = let p = size_kept s leaf t in let q = sizes_kept s leaf ts in (ap₂ ◌+◌ p.0 q.0, ap₂ max p.1 q.1)
-
 leaf_under : (b : List Binding) (t : Term) → IsHead b t → size t ≡ 1 → IsLeaf (apply (value b) t)
 leaf_under b (var y) head one = subst IsLeaf (sym (head y refl)) (record { nodes = refl; levels = refl })
 leaf_under b (app f nil) head one = record { nodes = refl; levels = refl }
 leaf_under b (app f (cons t ts)) head one = absurd (let h = size_positive t in omega (arith, h, one))
 
-only_leaf : (x : ℕ) (v : Term) → IsLeaf v → (y : ℕ) → IsLeaf (only x v y)
+only_leaf : (x : ℕ) (v : Term) → IsLeaf v → GivesLeaves (only x v)
 only_leaf x v leaf y = go (nat_eq y x)
   where
     go : (is : Bool) → IsLeaf (if is then v else var y)
@@ -100,9 +86,7 @@ only_leaf x v leaf y = go (nat_eq y x)
 
 leaf_fits : (x : ℕ) (v : Term) → IsLeaf v → (b : List Binding) → DoAllFit b → DoAllFit (map (under x v) b)
 leaf_fits x v leaf [] h = tt
-leaf_fits x v leaf (e ∷ b) (h, k) =
-    let same = size_kept (only x v) (only_leaf x v leaf) e.term in
-    (record { nodes = omega (arith, same.0, h.nodes); levels = omega (arith, same.1, h.levels) }, leaf_fits x v leaf b k)
+leaf_fits x v leaf (e ∷ b) (h, k) = (fits_under (only x v) (only_leaf x v leaf) e.term h, leaf_fits x v leaf b k)
 
 earlier_ones : (b : List Binding) (x : ℕ) (v : Term) → DoAllFit (map (under x v) b) → DoAllFit (take (length b) (extended b x v))
 earlier_ones b x v h = go b h

@@ -1,10 +1,10 @@
 -- Rules put behind others, one by one.
-use Rattle.std.proofs.Common.{◌≡◌, ℕ, suc, ◌+◌, ◌≤◌, max, refl, sym, ap, ap₂, ◌∙◌, subst, List, [], ◌∷◌, ◌++◌, map, length, get_or, drop, take, ◌<◌, ◌-◌, arith, append_assoc}
+use Rattle.std.proofs.Common.{◌≡◌, ℕ, suc, ◌+◌, ◌≤◌, sym, ap, ◌∙◌, subst, List, [], ◌∷◌, ◌++◌, map, length, get_or, drop, take, ◌<◌, ◌-◌, arith, append_assoc}
 use Rattle.std.proofs.Common.{length-drop, Result, Ok, Err}
 use Rattle.std.proofs.lemmas.List.{take_rest}
-use Rattle.simplifications.proofs.Anew.{fits_renamed}
+use Rattle.rewriting.proofs.Leaves.{fits_under, fits_before, variables_are_leaves}
 use Rattle.rewriting.specs.Terms as math
-use Rattle.rewriting.specs.Prelude.{Term, var, app, Terms, nil, cons, Fits, apply, apply_all, with_variables, sides, Each, DoSidesFit, numbered_anew, keeper, unraveled_from}
+use Rattle.rewriting.specs.Prelude.{Term, Fits, with_variables, sides, Each, DoSidesFit, numbered_anew, keeper, unraveled_from}
 use Rattle.rewriting.specs.Rules as rules
 use Rattle.term_core.specs.Prelude.{rule_view, condition_view, view}
 use Rattle.term_core.specs.declared.systems.Cond.{Cond}
@@ -13,45 +13,18 @@ use Rattle.unravel.specs.declared.rules.RuleError.{RuleError}
 use Rattle.unravel.specs.declared.rules.RuleError.TheVariants as cause
 use Rattle.unravel.specs.RuleAnswers.{PushAnswers, AppendAnswers}
 
--- renaming variables keeps size and depth
-mutual
-  size-renamed : (f : ℕ → ℕ) (t : Term) → math.size (apply (λ x. var (f x)) t) ≡ math.size t
-  size-renamed f (var x) = refl
-  size-renamed f (app g ts) = ap suc (size-all_renamed f ts)
-
-  size-all_renamed : (f : ℕ → ℕ) (ts : Terms) → math.size_all (apply_all (λ x. var (f x)) ts) ≡ math.size_all ts
-  size-all_renamed f nil = refl
-  size-all_renamed f (cons t ts) = ap₂ (λ m n. m + n) (size-renamed f t) (size-all_renamed f ts)
-
-mutual
-  depth-renamed : (f : ℕ → ℕ) (t : Term) → math.depth (apply (λ x. var (f x)) t) ≡ math.depth t
-  depth-renamed f (var x) = refl
-  depth-renamed f (app g ts) = ap suc (depth-all_renamed f ts)
-
-  depth-all_renamed : (f : ℕ → ℕ) (ts : Terms) → math.depth_all (apply_all (λ x. var (f x)) ts) ≡ math.depth_all ts
-  depth-all_renamed f nil = refl
-  depth-all_renamed f (cons t ts) = ap₂ max (depth-renamed f t) (depth-all_renamed f ts)
-
-renamed-fits : (f : ℕ → ℕ) (t : Term) → Fits (apply (λ x. var (f x)) t) → Fits t
-renamed-fits f t h =
-    let n = h.nodes in
-    let l = h.levels in
-    let a = size-renamed f t in
-    let b = depth-renamed f t in
-    record { nodes = omega (arith, n, a); levels = omega (arith, l, b) }
-
 pub no_fit : (l r : Term) (rs : List rules.Rule) → (Fits l → Fits r → ⊥) → DoSidesFit (numbered_anew l r ∷ rs) → ⊥
-no_fit l r rs k h = k (renamed-fits _ l h.0) (renamed-fits _ r h.1)
+no_fit l r rs k h = k (fits_before _ (variables_are_leaves _) l h.0) (fits_before _ (variables_are_leaves _) r h.1)
 
 pub pushed_last : (l r : Term) (before after : List Rule) (result : Result (Unit {0}) RuleError) → PushAnswers l r before after result → AppendAnswers (numbered_anew l r ∷ []) before after result
-pushed_last l r before after (Ok _) h = (h.0, (fits_renamed _ l h.1, fits_renamed _ r h.2, tt))
+pushed_last l r before after (Ok _) h = (h.0, (fits_under _ (variables_are_leaves _) l h.1, fits_under _ (variables_are_leaves _) r h.2, tt))
 pushed_last l r before after (Err cause.TooLarge) h = no_fit l r [] h
 pushed_last l r before after (Err cause.NoMemory) h = tt
 
 pub pushed_first : (l r : Term) (rs : List rules.Rule) (before mid after : List Rule) (done : Unit {0}) (result : Result (Unit {0}) RuleError)
     → PushAnswers l r before mid (Ok done) → AppendAnswers rs mid after result → AppendAnswers (numbered_anew l r ∷ rs) before after result
 pushed_first l r rs before mid after done (Ok _) p h =
-    (h.0 ∙ ap (λ q. q ++ rs) p.0 ∙ append_assoc (map rule_view before) (numbered_anew l r ∷ []) rs, (fits_renamed _ l p.1, fits_renamed _ r p.2, h.1))
+    (h.0 ∙ ap (λ q. q ++ rs) p.0 ∙ append_assoc (map rule_view before) (numbered_anew l r ∷ []) rs, (fits_under _ (variables_are_leaves _) l p.1, fits_under _ (variables_are_leaves _) r p.2, h.1))
 pushed_first l r rs before mid after done (Err cause.TooLarge) p h = λ all. h all.2
 pushed_first l r rs before mid after done (Err cause.NoMemory) p h = tt
 

@@ -3,7 +3,7 @@ use Rattle.std.proofs.lemmas.List.{map-append}
 use Rattle.critical_pairs.specs.View.{overlap_view}
 use Rattle.critical_pairs.specs.Answers.{OverlapsAnswers}
 use Rattle.critical_pairs.specs.Offers.{OfferAnswers}
-use Rattle.critical_pairs.proofs.Exits.{handed_on}
+use Rattle.term_core.proofs.Rules.{handed_on}
 use Rattle.critical_pairs.proofs.Whole.{Gathered, one_more, all_found, list_refused}
 use Rattle.critical_pairs.proofs.overlaps_in.Goals as goal
 

@@ -2,7 +2,7 @@ use Rattle.std.proofs.Common.{subst, sym, refl, ap, map, Ok, arith}
 use Rattle.critical_pairs.specs.View.{overlap_view}
 use Rattle.critical_pairs.specs.Answers.{OverlapsAnswers}
 use Rattle.critical_pairs.specs.Cursors.{rest_of, StandsBefore, SettleAnswers}
-use Rattle.critical_pairs.proofs.Exits.{handed_on}
+use Rattle.term_core.proofs.Rules.{handed_on}
 use Rattle.critical_pairs.proofs.Passing.{fewer_left}
 use Rattle.critical_pairs.proofs.Rests.{place_within, few_candidates}
 use Rattle.critical_pairs.proofs.Finds.{spot_here}

@@ -3,7 +3,7 @@ use Rattle.rewriting.specs.Substitutions.{values_of}
 use Rattle.term_core.specs.RuleView.{condition_view}
 use Rattle.critical_pairs.specs.Building.{InstancesAnswers, ConditionsAnswers}
 use Rattle.critical_pairs.proofs.Conditions.{both_added}
-use Rattle.critical_pairs.proofs.Exits.{handed_on}
+use Rattle.term_core.proofs.Rules.{handed_on}
 use Rattle.critical_pairs.proofs.Sizes.{first_error, second_error, same_conditions}
 use Rattle.critical_pairs.proofs.pairs.conditions.Goals as goal
 

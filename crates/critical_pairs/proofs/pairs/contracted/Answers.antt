@@ -2,7 +2,7 @@ use Rattle.std.proofs.Common.{sym, subst}
 use Rattle.rewriting.specs.Substitutions.{apply, values_of}
 use Rattle.term_core.specs.Prelude.{view, ReplaceAnswers}
 use Rattle.critical_pairs.specs.Building.{ContractedAnswers}
-use Rattle.critical_pairs.proofs.Exits.{handed_on}
+use Rattle.term_core.proofs.Rules.{handed_on}
 use Rattle.critical_pairs.proofs.Sizes.{contracted_whole, contracted_error}
 use Rattle.critical_pairs.proofs.pairs.contracted.Goals as goal
 

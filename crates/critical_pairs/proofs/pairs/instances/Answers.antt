@@ -6,7 +6,7 @@ use Rattle.term_core.specs.RuleView.{condition_view}
 use Rattle.prepared_system.proofs.Conditions.{under-append}
 use Rattle.critical_pairs.proofs.Conditions.{both_fit, fit_append}
 use Rattle.critical_pairs.specs.Building.{InstancesAnswers}
-use Rattle.critical_pairs.proofs.Exits.{handed_on}
+use Rattle.term_core.proofs.Rules.{handed_on}
 use Rattle.critical_pairs.proofs.Sizes.{instances_error}
 use Rattle.critical_pairs.proofs.pairs.instances.Goals as goal
 

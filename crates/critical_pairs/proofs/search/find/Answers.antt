@@ -3,7 +3,7 @@ use Rattle.critical_pairs.specs.Offers.{DoesPass}
 use Rattle.critical_pairs.specs.Cursors.{rest_of, StandsBefore, SettleAnswers}
 use Rattle.critical_pairs.specs.Finding.{FindAnswers}
 use Rattle.critical_pairs.specs.Spots.{UnifierAnswers}
-use Rattle.critical_pairs.proofs.Exits.{handed_on}
+use Rattle.term_core.proofs.Rules.{handed_on}
 use Rattle.critical_pairs.proofs.Passing.{pass_more, pass_one, fewer_left}
 use Rattle.critical_pairs.proofs.Rests.{cursor_kept, next_there, place_within, few_candidates}
 use Rattle.critical_pairs.proofs.Finds.{spot_here, clash_here, found_here, refused_here}

@@ -1,6 +1,6 @@
 use Rattle.std.proofs.Common.{subst, sym, ◌++◌, ◌∷◌, [], Ok}
 use Rattle.critical_pairs.specs.Offers.{PassAnswers}
-use Rattle.critical_pairs.proofs.Exits.{handed_on}
+use Rattle.term_core.proofs.Rules.{handed_on}
 use Rattle.critical_pairs.proofs.Whole.{one_more, list_refused}
 use Rattle.pair_check.specs.Steps.{WalkAnswers}
 use Rattle.pair_check.proofs.Running.{walked}

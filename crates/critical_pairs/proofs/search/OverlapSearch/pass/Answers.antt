@@ -1,7 +1,7 @@
 use Rattle.std.proofs.Common.{subst, sym, Ok}
 use Rattle.critical_pairs.specs.Offers.{PassAnswers}
 use Rattle.critical_pairs.specs.Finding.{IsFound, FindAnswers}
-use Rattle.critical_pairs.proofs.Exits.{handed_on}
+use Rattle.term_core.proofs.Rules.{handed_on}
 use Rattle.critical_pairs.proofs.Rests.{place_within, few_candidates}
 use Rattle.critical_pairs.proofs.Finds.{overlap_here, refused_here, offer, beyond, no_offer}
 use Rattle.critical_pairs.proofs.search.OverlapSearch.pass.Goals as goal
