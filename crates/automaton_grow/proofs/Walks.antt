@@ -7,7 +7,7 @@ use Rattle.automata.specs.Closed.{state_of}
 use Rattle.automata.specs.Growth.{inner, inner_in, top, tops, inside, inside_all, grown}
 use Rattle.term_core.specs.View.{view, views}
 use Rattle.term_core.specs.declared.terms.Term.{Term}
-use Rattle.term_core.proofs.Over.{views-drop}
+use Rattle.term_core.proofs.Views.{views-drop}
 use Rattle.automaton_runs.proofs.BatchParts.{other_name}
 
 module _ (e : ℕ → ℕ) (ts : List Term) (i : ℕ) where

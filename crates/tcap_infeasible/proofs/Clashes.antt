@@ -6,8 +6,8 @@ use Rattle.rewriting.specs.Terms as math
 use Rattle.rewriting.specs.Terms.{var, app, count}
 use Rattle.term_core.specs.View.{view, views}
 use Rattle.term_core.specs.declared.terms.Term.{Term, Fun}
-use Rattle.term_core.proofs.Views.{view-Fun}
-use Rattle.term_core.proofs.Over.{count-views, views-drop}
+use Rattle.term_core.proofs.Over.{count-views}
+use Rattle.term_core.proofs.Views.{view-Fun, views-drop}
 use Rattle.unification.proofs.Terms.{views-drop_all}
 use Rattle.tcap_infeasible.specs.Clashes.{do_clash, do_any_clash}
 

@@ -12,7 +12,7 @@ use Rattle.caps.proofs.Rigid.{rigid_reducts}
 use Rattle.term_core.specs.Prelude.{view, views}
 use Rattle.term_core.specs.declared.terms.Term.{Term, Fun}
 use Rattle.term_core.specs.declared.terms.NoMemory.{NoMemory}
-use Rattle.term_core.proofs.Views.{view-Fun}
+use Rattle.term_core.proofs.Views.{view-Fun, views-drop}
 use Rattle.unification.proofs.Terms.{views-drop_all}
 use Rattle.tcap_infeasible.specs.declared.Cap.{Cap}
 use Rattle.tcap_infeasible.specs.declared.Cap.TheVariants.{Capped, TooLarge}
@@ -20,7 +20,6 @@ use Rattle.tcap_infeasible.specs.declared.capping.Leaf.TheVariants.{Hole, Kept}
 use Rattle.tcap_infeasible.specs.Answers.{CapAnswers}
 use Rattle.tcap_infeasible.specs.Frozen.{FrozenAnswers}
 use Rattle.term_core.specs.SystemView.{HasSymbolsBelow}
-use Rattle.term_core.proofs.Over.{views-drop}
 use Rattle.tcap_infeasible.specs.Keys.{HavePlacesFor}
 use Rattle.tcap_infeasible.specs.Reducts.{KeepsReducts, KeepsOwnReducts}
 use Rattle.tcap_infeasible.specs.Thawing.{LiesOn, LieOn, thawed, all_thawed}

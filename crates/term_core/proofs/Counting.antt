@@ -72,6 +72,10 @@ marked x (suc i) k (b ∷ bs) e h m =
 pub counts_marked : (x k : ℕ) (bs : List Bool) → k ≤ x → x - k < length bs → get_or bs (x - k) false ≡ false → map bit (set bs (x - k) true) ≡ with_counts (λ y. occurrences y (var x)) k (map bit bs)
 counts_marked x k bs h l m = marked x (x - k) k bs (omega (arith, h)) l m
 
+pub bit_small : (b : Bool) → bit b ≤ 1
+bit_small true = omega arith
+bit_small false = omega arith
+
 once_at : (f : ℕ → ℕ) (k x : ℕ) (b : Bool) → k ≤ x → bit b ≡ 0 + f k → (suc k ≤ x) ⊎ (x < suc k) → (suc k ≤ x → f x ≤ 1) → f x ≤ 1
 once_at f k x b h e (inl above) later = later above
 once_at f k x b h e (inr here) later =
@@ -79,10 +83,6 @@ once_at f k x b h e (inr here) later =
     let small : bit b ≤ 1 = bit_small b in
     let value : f x ≡ f k = ap f same in
     omega (arith, e, small, value)
-  where
-    bit_small : (c : Bool) → bit c ≤ 1
-    bit_small true = omega arith
-    bit_small false = omega arith
 
 -- what is counted from nothing, by marks
 pub counted_once : (f : ℕ → ℕ) (n k : ℕ) (bs : List Bool) → map bit bs ≡ with_counts f k (map bit (replicate n false)) → (x : ℕ) → k ≤ x → x < k + n → f x ≤ 1

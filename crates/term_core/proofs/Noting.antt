@@ -7,10 +7,7 @@ use Rattle.term_core.specs.View.{view, views}
 use Rattle.term_core.specs.declared.terms.Term.{Term}
 use Rattle.term_core.specs.Counting.{bit}
 use Rattle.term_core.specs.Noting.{among, AreNoted}
-
-bit_small : (b : Bool) → bit b ≤ 1
-bit_small true = omega arith
-bit_small false = omega arith
+use Rattle.term_core.proofs.Counting.{bit_small}
 
 pub nothing_noted : (s r : BTreeSet ℕ) → AreNoted (λ x. 0) s s r r
 nothing_noted s r = record {

@@ -1,6 +1,5 @@
 -- When a `Term` is over some symbols.
-use Rattle.std.proofs.Common.{◌≡◌, ◌<◌, ℕ, suc, List, [], ◌∷◌, length, Some, Vec, Global, refl, sym, ap, ◌∙◌, subst, slice_get, vec_len, ◌+◌, get_or, drop}
-use Rattle.general_lemmas.proofs.Places.{drop_read}
+use Rattle.std.proofs.Common.{◌≡◌, ◌<◌, ℕ, suc, List, [], ◌∷◌, length, Some, Vec, Global, refl, sym, ap, ◌∙◌, subst, slice_get, vec_len}
 use Rattle.rewriting.specs.Prelude.{app, count, cons, IsOver, AreOver}
 use Rattle.term_core.specs.View.{view, views}
 use Rattle.term_core.specs.SystemView.{HasSymbolsBelow, HaveSymbolsBelow}
@@ -33,7 +32,3 @@ module _ (n : ℕ) (t : Term) (f : ℕ) (v : Vec Term Global) (is : t ≡ Fun f 
 
   pub below_args : HasSymbolsBelow n (view t) → HaveSymbolsBelow n (views v.items)
   below_args h = (subst (HasSymbolsBelow n) (ap view is ∙ view-Fun f v) h).1
-
--- the rest of a list of terms
-pub views-drop : (ts : List Term) (i : ℕ) (t : Term) → i < length ts → t ≡ get_or ts i t → views (drop i ts) ≡ cons (view t) (views (drop (i + 1) ts))
-views-drop ts i t h e = ap views (drop_read ts i t h e)

@@ -4,6 +4,7 @@ use Rattle.std.proofs.lemmas.List.{length-map, take-map, drop-map}
 use Rattle.std.proofs.Common.{append_assoc, add-one, length-drop}
 use Rattle.std.proofs.Math.Seq.{take-length}
 use Rattle.std.proofs.lemmas.Bool.{false≢true}
+use Rattle.general_lemmas.proofs.Places.{drop_read}
 use Rattle.rewriting.specs.Terms as math
 use Rattle.rewriting.specs.Prelude.{var, app, terms_of, argument, argument_of, with_argument, with_argument_of}
 use Rattle.term_core.proofs.Arguments.{terms_of-injective, argument_past, argument_zero, with_argument-split}
@@ -86,9 +87,4 @@ module _ (t : Term) (f : ℕ) (v : Vec Term Global) (k : ℕ) (is : t ≡ Fun f 
 
 -- what is left of some terms begins with the one at the place
 pub views-drop : (ts : List Term) (i : ℕ) (t : Term) → i < length ts → t ≡ get_or ts i t → views (drop i ts) ≡ math.cons (view t) (views (drop (i + 1) ts))
-views-drop ts i t h e = rw add-one (go ts i h e)
-  where
-    go : (us : List Term) (k : ℕ) → k < length us → t ≡ get_or us k t → views (drop k us) ≡ math.cons (view t) (views (drop (suc k) us))
-    go [] k h e = absurd (omega arith)
-    go (u ∷ us) zero h e = ap (λ q. math.cons (view q) (views us)) (sym e)
-    go (u ∷ us) (suc k) h e = go us k (omega arith) e
+views-drop ts i t h e = ap views (drop_read ts i t h e)

@@ -6,8 +6,7 @@ use Rattle.rewriting.specs.Prelude.{nil, cons, Fits, size, size_all, Each, apply
 use Rattle.unifier_run.specs.Run.{Binding, value}
 use Rattle.term_core.specs.View.{view, views}
 use Rattle.term_core.specs.declared.terms.Term.{Term, Fun}
-use Rattle.term_core.proofs.Views.{view-Fun}
-use Rattle.term_core.proofs.Over.{views-drop}
+use Rattle.term_core.proofs.Views.{view-Fun, views-drop}
 use Rattle.unification.proofs.Measure.{weight, grown_less, same_less}
 use Rattle.unification.proofs.Under.{size_at}
 use Rattle.unification.proofs.Solve.{Remain}
