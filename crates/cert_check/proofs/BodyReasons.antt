@@ -5,14 +5,14 @@ use Rattle.unifier_run.specs.Overlaps.{Overlap}
 use Rattle.interpretations.specs.Judgement.{Judgement}
 use Rattle.certificates.specs.Prelude.{PairEntry, Redex, Apartness, by_normal_forms, by_rigid_caps, Peak, Certificate, ortho_certificate, quasi_certificate, peak_certificate}
 use Rattle.certificates.specs.Prelude.{simplified_certificate, Rejection}
-use Rattle.cert_grammar.specs.Versions.{Version, first_version, second_version, CanSimplify}
+use Rattle.cert_grammar.specs.Versions.{Version, first_version, second_version, IsUnsimplified, CanSimplify}
 use Rattle.valid_certificates.specs.Kinds.{Kind}
 use Rattle.valid_certificates.specs.Entries.{AreNotSettled, DoNotSettle, pair_is_large, pairs_are_many, entry_fails}
 use Rattle.valid_certificates.specs.Confluence.{IsOrthoRejected, not_left_linear, not_type3, not_oriented, not_right_stable, ortho_pairs_fail, IsQuasiRejected, not_deterministic}
 use Rattle.valid_certificates.specs.Confluence.{side_is_reducible, measure_is_bad, unraveling_is_large, quasi_pairs_fail}
 use Rattle.valid_certificates.specs.Peaks.{RedexPlace, AreNotRefuted, AreNotShownApart, AreNoValidEnds, IsPeakRejected, foreign_start, first_fails, second_fails, not_apart}
 use Rattle.valid_certificates.specs.Certificates.{IsMeasureJudged, IsRejected}
-use Rattle.cert_check.specs.Kinds.{HasNoSteps, IsOfStep}
+use Rattle.cert_check.specs.Kinds.{IsOfStep}
 
 -- a reason that is not one of a step
 abbrev OfBody : Rejection → Type 0
@@ -73,16 +73,13 @@ of_peak sys peak r (first_fails a bad h) = λ k. k
 of_peak sys peak r (second_fails a u bad b h) = λ k. k
 of_peak sys peak r (not_apart a u v reason leads h) = of_ends sys u v peak.apart reason h
 
-pub of_body : (sys : System) (c : Certificate) (r : Rejection) → HasNoSteps c → IsRejected sys c r → OfBody r
+pub of_body : (sys : System) (c : Certificate) (r : Rejection) → IsUnsimplified c → IsRejected sys c r → OfBody r
 of_body sys (ortho_certificate es) r bare h = of_ortho sys es r h
 of_body sys (quasi_certificate m es) r bare h = of_quasi (IsMeasureJudged sys m) sys es r h
 of_body sys (peak_certificate p) r bare h = of_peak sys p r h
 of_body sys (simplified_certificate steps c) r bare h = absurd bare
 
 -- the body of a certificate with steps has none
-pub body_is_bare : (v : Version) (body : Certificate) → CanSimplify v body → HasNoSteps body
+pub body_is_bare : (v : Version) (body : Certificate) → CanSimplify v body → IsUnsimplified body
 body_is_bare first_version body h = absurd h
-body_is_bare second_version (ortho_certificate es) h = tt
-body_is_bare second_version (quasi_certificate m es) h = tt
-body_is_bare second_version (peak_certificate p) h = tt
-body_is_bare second_version (simplified_certificate steps c) h = absurd h
+body_is_bare second_version body h = h

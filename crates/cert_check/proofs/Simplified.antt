@@ -10,13 +10,13 @@ use Rattle.cert_model.specs.CertificateView.{simp_view}
 use Rattle.cert_model.specs.ReasonView.{rejected_view}
 use Rattle.cert_model.specs.declared.model.Simp.{Simp}
 use Rattle.cert_model.specs.declared.reasons.Rejected as reasons
-use Rattle.cert_grammar.specs.Prelude.{IsCertificateText, Version, CanSimplify}
+use Rattle.cert_grammar.specs.Prelude.{IsCertificateText, Version, IsUnsimplified, CanSimplify}
 use Rattle.cert_openings.specs.Openings.{Opening, ortho_opening, quasi_opening, simplified_opening, certificate_for}
 use Rattle.cert_words.specs.CertRefusals.{IsRefusedAs}
 use Rattle.cert_words.specs.declared.error.CertError.{CertError}
 use Rattle.cert_words.specs.declared.error.CertError.TheVariants as refused
 use Rattle.cert_text.specs.OpenedText.{OpenedText, at_entries, whole, behind_steps, IsOpenedAs}
-use Rattle.cert_check.specs.Kinds.{HasNoSteps, IsOfStep}
+use Rattle.cert_check.specs.Kinds.{IsOfStep}
 use Rattle.cert_check.specs.Answers.{OnYes, OnNo}
 use Rattle.cert_check.specs.BytesErrors.{error_of_text}
 use Rattle.cert_check.specs.Bytes.{BytesAnswers, behind, IsBare, IsOpenedFor, BodyAnswers, of_body}
@@ -29,7 +29,7 @@ use Rattle.cert_check.proofs.Bounds.{same_symbols}
 use Rattle.cert_check.proofs.Levels.{apart_before, confluent_before}
 
 -- a body is not simplified again
-bare_opening : (v : Version) (o : Opening) → CanSimplify v (certificate_for o []) → (es : List PairEntry) → HasNoSteps (certificate_for o es)
+bare_opening : (v : Version) (o : Opening) → CanSimplify v (certificate_for o []) → (es : List PairEntry) → IsUnsimplified (certificate_for o es)
 bare_opening v ortho_opening h es = tt
 bare_opening v (quasi_opening m) h es = tt
 bare_opening v (simplified_opening steps o) h es = absurd (body_is_bare v (simplified_certificate steps (certificate_for o [])) h)

@@ -8,7 +8,7 @@ use Rattle.tallies.specs.Tally.{Tally, IsQuasiTally}
 use Rattle.cops_names.specs.NameTable.{NameTable}
 use Rattle.cert_model.specs.ReasonView.{rejected_view}
 use Rattle.cert_model.specs.declared.reasons.Rejected as reasons
-use Rattle.cert_grammar.specs.Prelude.{IsCertificateText, syntax, unknown_name, wrong_arity, bad_number, bad_share, too_many, too_deep}
+use Rattle.cert_grammar.specs.Prelude.{IsUnsimplified, IsCertificateText, syntax, unknown_name, wrong_arity, bad_number, bad_share, too_many, too_deep}
 use Rattle.cert_sharing.specs.SharedLaws.{NeverBoth}
 use Rattle.cert_words.specs.CertRefusals.{IsRefusedAs}
 use Rattle.cert_words.specs.Words.{counted_view}
@@ -17,7 +17,7 @@ use Rattle.cert_words.specs.declared.error.CertError.TheVariants as refused
 use Rattle.cert_openings.specs.Openings.{Opening, simplified_opening, certificate_for}
 use Rattle.cert_text.specs.Reading.{Reading, HasRead}
 use Rattle.cert_text.specs.OpenedText.{OpenedText, at_entries, whole, IsOpenedAs}
-use Rattle.cert_check.specs.Kinds.{HasNoSteps, CanPeakBeJudged}
+use Rattle.cert_check.specs.Kinds.{CanPeakBeJudged}
 use Rattle.cert_check.specs.Answers.{OnYes, OnNo}
 use Rattle.cert_check.specs.BytesErrors.{error_of_text}
 use Rattle.cert_check.specs.Bytes.{IsTold, BytesAnswers, behind, text_behind, IsOpenedFor, BodyAnswers, EntriesAnswer, PeakAnswers, RestAnswers, WholeAnswers, IsNoRefusal}
@@ -121,7 +121,7 @@ module _ (names : NameTable) (bytes : List ℕ) (before : Option (List Simplific
   told_so e h = subst (λ n. IsRefusedAs n bytes e) here.0 (subst (λ b. IsRefusedAs r.names b e) here.1 h)
 
   -- and what is answered to its entries is the answer to the body
-  module _ (sys : System) (plain : (es : List PairEntry) → HasNoSteps (certificate_for own es)) where
+  module _ (sys : System) (plain : (es : List PairEntry) → IsUnsimplified (certificate_for own es)) where
     of_entries : (e : Result Verdict BytesError) → EntriesAnswer sys r.names r.bytes (opening_behind before own) own e → BodyAnswers sys names bytes before e
     of_entries (Ok v) h = (certificate_for own h.0, text_so h.0 h.1, h.2, h.3)
     of_entries (Err (Cert e)) h = (h.0, told_so e h.1)

@@ -7,13 +7,13 @@ use Rattle.valid_certificates.specs.Certificates.{IsValid, IsRejected}
 use Rattle.valid_certificates.specs.Peaks.{IsValidPeak, IsPeakRejected}
 use Rattle.cops_names.specs.NameTable.{NameTable}
 use Rattle.cert_model.specs.ReasonView.{rejected_view}
-use Rattle.cert_grammar.specs.CertificateText.{IsCertificateText}
+use Rattle.cert_grammar.specs.Prelude.{IsCertificateText, IsUnsimplified}
 use Rattle.cert_openings.specs.Openings.{Opening, certificate_for}
 use Rattle.cert_words.specs.CertRefusals.{IsRefusedAs}
 use Rattle.cert_words.specs.declared.error.CertError.{CertError}
 use Rattle.cert_words.specs.declared.error.CertError.TheVariants as refused
 use Rattle.cert_text.specs.OpenedText.{OpenedText, at_entries, whole, behind_steps, IsOpenedAs}
-use Rattle.cert_check.specs.Kinds.{verdict_of, HasNoSteps, IsOfStep}
+use Rattle.cert_check.specs.Kinds.{verdict_of, IsOfStep}
 use Rattle.cert_check.specs.declared.Verdict.{Verdict}
 use Rattle.cert_check.specs.declared.Verdict.TheVariants.{No}
 use Rattle.cert_check.specs.declared.bytes.BytesError.{BytesError}
@@ -25,7 +25,7 @@ IsTold names bytes e = (e ≢ refused.NoMemory) × IsRefusedAs names bytes e
 
 -- the reason speaks of the rules of the system itself: no steps stand before the body, or one of them fails
 abbrev pub IsOfOwnRules : Certificate → Rejection → Type 0
-IsOfOwnRules c reason = HasNoSteps c ⊎ IsOfStep reason
+IsOfOwnRules c reason = IsUnsimplified c ⊎ IsOfStep reason
 
 -- the bytes are the text of a certificate that is valid, and what it shows; or they are refused; or they are the text of one that is
 -- rejected, for a reason of the system itself, or for one of the body, for the system that its good steps leave; for want of memory nothing is known
@@ -51,8 +51,8 @@ text_behind (Some steps) t = behind_steps steps t
 
 -- no steps stand before it
 abbrev pub IsBare : OpenedText → Type 0
-IsBare (at_entries o r) = (es : List PairEntry) → HasNoSteps (certificate_for o es)
-IsBare (whole c) = HasNoSteps c
+IsBare (at_entries o r) = (es : List PairEntry) → IsUnsimplified (certificate_for o es)
+IsBare (whole c) = IsUnsimplified c
 
 -- the bytes are opened as this text behind steps or none, and the symbols of the system are those of the names
 pub record IsOpenedFor (sys : System) (names : NameTable) (bytes : List ℕ) (before : Option (List Simplification)) (t : OpenedText) : Type 0 where
@@ -64,7 +64,7 @@ abbrev pub BodyAnswers : System → NameTable → List ℕ → Option (List Simp
 BodyAnswers sys names bytes before (Ok v) = (c : Certificate) × IsCertificateText names bytes (behind before c) × IsValid sys c × (v ≡ verdict_of c)
 BodyAnswers sys names bytes before (Err (Cert e)) = IsTold names bytes e
 BodyAnswers sys names bytes before (Err (Rejected reason)) =
-    (c : Certificate) × IsCertificateText names bytes (behind before c) × IsRejected sys c (rejected_view reason) × HasNoSteps c
+    (c : Certificate) × IsCertificateText names bytes (behind before c) × IsRejected sys c (rejected_view reason) × IsUnsimplified c
 BodyAnswers sys names bytes before (Err (RejectedBehindSteps reason)) = ⊥
 BodyAnswers sys names bytes before (Err NoMemory) = Unit {0}
 

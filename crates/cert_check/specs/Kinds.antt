@@ -29,13 +29,6 @@ CanBeJudged sys (quasi_certificate measure pairs) = ArePairsShort pairs
 CanBeJudged sys (peak_certificate peak) = CanPeakBeJudged sys peak
 CanBeJudged sys (simplified_certificate steps c) = (last : System) → AllSimplify sys steps last → CanBeJudged last c
 
--- no steps stand before the body
-abbrev pub HasNoSteps : Certificate → Type 0
-HasNoSteps (ortho_certificate pairs) = Unit {0}
-HasNoSteps (quasi_certificate measure pairs) = Unit {0}
-HasNoSteps (peak_certificate peak) = Unit {0}
-HasNoSteps (simplified_certificate steps c) = ⊥
-
 -- a step before the body fails
 abbrev pub IsOfStep : Rejection → Type 0
 IsOfStep (simplification_fails n why) = Unit {0}

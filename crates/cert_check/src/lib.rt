@@ -15,7 +15,8 @@ ghost use Rattle.valid_certificates.specs.Entries.{ArePairsShort};
 ghost use Rattle.valid_certificates.specs.Certificates.{IsMeasureJudged};
 ghost use Rattle.validity.specs.Answers.{PeakAnswers, QuasiAnswers};
 ghost use Rattle.valid_certificates.specs.CarriedBack.{IsPeakApart};
-ghost use Rattle.cert_check.specs.Kinds.{CanPeakBeJudged, CanBeJudged, HasNoSteps};
+ghost use Rattle.cert_grammar.specs.Prelude.{IsUnsimplified};
+ghost use Rattle.cert_check.specs.Kinds.{CanPeakBeJudged, CanBeJudged};
 ghost use Rattle.cert_check.specs.Answers.{VerdictAnswers, OnYes, OnNo};
 
 use crate::behind::judge_behind;
@@ -65,7 +66,7 @@ fn check_apart(alloc: Global, sys: &System, peak: &Peak) -> Result<(), CheckErro
 // What a valid certificate shows of the system itself, where no steps stand before its body.
 #[tactic(auto, using(cert_model::proofs::CertificateViews::ortho_shown, cert_model::proofs::CertificateViews::quasi_shown, cert_model::proofs::CertificateViews::peak_shown, cert_model::proofs::CertificateViews::simplified_shown))]
 fn judge_body(alloc: Global, sys: &System, cert: &Certificate) -> Result<Verdict, CheckError>
-    requires plain { HasNoSteps (certificate_view cert.now) }
+    requires plain { IsUnsimplified (certificate_view cert.now) }
     requires judged { CanBeJudged sys.now (certificate_view cert.now) }
     ensures judged { VerdictAnswers sys.now (certificate_view cert.now) result }
     ensures yes { OnYes result (IsConfluent sys.now) }
