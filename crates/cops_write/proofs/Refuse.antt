@@ -2,6 +2,7 @@
 use Rattle.std.proofs.Common.{◌≡◌, ℕ, suc, Bool, true, false, List, [], ◌∷◌, ◌++◌, length, Option, None, Some, refl, sym, ap, ap₂, ◌∙◌, subst}
 use Rattle.std.specs.Prelude.{◌==◌, ◌&&◌, ◌||◌, if◌then◌else◌, not, nat_le}
 use Rattle.std.specs.Option.{option_or}
+use Rattle.std.proofs.lemmas.Bool.{or_left, or_right}
 use Rattle.file_text.specs.Syntax.{Phrase, Phrases, word, call, none, more, count, ConditionTree, Guard, RuleTree}
 use Rattle.cops_names.specs.NameTable.{number_of}
 use Rattle.cops_names.specs.NameLists.{is_among, with_name}
@@ -113,13 +114,6 @@ module _ (block other : Names) (oriented : Bool) where
   guard_alike rule None (Some h) l r k o a = absurd k
   guard_alike rule (Some g) None l r k o a = absurd k
   guard_alike rule (Some g) (Some h) l r k o a = (o refl, conditions_alike rule 1 (g.first ∷ g.others) (h.first ∷ h.others) k a.1.1)
-
-  or_left : (a b : Bool) → a ≡ true → (a || b) ≡ true
-  or_left a b h = rw h refl
-
-  or_right : (a b : Bool) → b ≡ true → (a || b) ≡ true
-  or_right true b h = refl
-  or_right false b h = h
 
   pub events_alike : (number : ℕ) (ts us : List RuleTree) → RulesAlike ts us → RulesAgree block other ts → (some_guard ts ≡ true → oriented ≡ true)
       → EventsAlike (rules_events number ts) (rules_events number us)
