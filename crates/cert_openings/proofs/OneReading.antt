@@ -6,7 +6,7 @@ use Rattle.certificates.specs.Prelude.{Automaton, PairEntry, Simplification, Cer
 use Rattle.cops_names.specs.NameTable.{NameTable}
 use Rattle.cert_grammar.specs.Prelude.{name_of, Version, first_version, second_version, Uses, version_of, IsOfVersion, automata_of, shared_by, marks_text, certificate_marks}
 use Rattle.cert_grammar.specs.Prelude.{heading_text, body_text, answer_line, HaveNames, Skeleton}
-use Rattle.cert_laws.proofs.AlikeWhole.{alike_skeletons}
+use Rattle.cert_laws.proofs.AlikePaths.{alike_skeletons}
 use Rattle.cert_laws.proofs.OneAnswer.{closes_all}
 use Rattle.cert_laws.proofs.SpeltWhole.{answer_of, spelt_alone, spelt_answered}
 use Rattle.cert_sharing.proofs.SpeltShares.{shared_numbered}
