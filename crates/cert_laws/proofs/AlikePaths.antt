@@ -43,4 +43,4 @@ pub alike_automata : (a b : Automaton) (x y : Naming) → HaveNames (automaton_m
 alike_automata a b x y h k = alike_paths _ _ (states_line ∷ between line ∷ []) (path a x h).path (path b y k).path
   where
     path : (a : Automaton) (x : Naming) → HaveNames (automaton_marks x a) → Run (automaton_marks x a ++ fixed (codes "\n") ∷ []) (states_line ∷ between line ∷ [])
-    path a x h = automaton_path a x (between line ∷ []) (fixed (codes "\n") ∷ []) h (between_path line [] [] nothing_left)
+    path a x h = automaton_path a x h (between_path line nothing_left)
