@@ -1,12 +1,12 @@
 -- The grammar is deterministic: what two paths from one stack of items spell is alike.
-use Rattle.std.proofs.Common.{◌≡◌, ℕ, true, List, [], ◌∷◌, ◌++◌, codes, refl, sym, ◌∙◌, subst}
+use Rattle.std.proofs.Common.{◌≡◌, inr, ℕ, true, List, [], ◌∷◌, ◌++◌, codes, refl, sym, ◌∙◌, subst}
 use Rattle.std.proofs.lemmas.List.{append-nil}
 use Rattle.general_lemmas.proofs.Decisions.{same_numbers}
 use Rattle.certificates.specs.Prelude.{Automaton}
 use Rattle.cert_grammar.specs.Prelude.{Naming, Mark, fixed, automaton_marks, HaveNames, Skeleton, marks_of, Item, opening, between, line, states_line, Lead, text}
 use Rattle.cert_grammar.specs.Prelude.{numeral_lead, position_lead, variable_lead, name_lead, ends_lead}
 use Rattle.cert_laws.specs.MarkLaws.{Alike, ended, same, parted}
-use Rattle.cert_laws.proofs.Moves.{There, takes_along}
+use Rattle.cert_laws.proofs.Moves.{There, takes_goes}
 use Rattle.cert_laws.proofs.Paths.{Path}
 use Rattle.cert_laws.proofs.Reached.{same_words, same_taken}
 use Rattle.cert_laws.proofs.SkeletonPaths.{Run, nothing_left, between_path, automaton_path, skeleton_path}
@@ -32,7 +32,7 @@ alike_paths (m ∷ ms) (n ∷ ns) (i ∷ s) p q = by (same_numbers p.1.word_of q
     by (yes e) each =
         let one = same_taken i m n p.0 q.0 q.1.word_of p.1 q.1 (alone p.1.lead p.1.word_of q.1.word_of e) (alone q.1.lead q.1.word_of q.1.word_of refl) in
         subst (λ (x : Mark). Alike (m ∷ ms) (x ∷ ns)) one.marks (same (each one.items))
-    by (no ne) each = parted (λ bytes g h. ne (same_words i m n p.0 q.0 bytes p.1 q.1 (takes_along i m p.0 s ms bytes g.0 g.1 p.1 p.2 g.2) (takes_along i n q.0 s ns bytes h.0 h.1 q.1 q.2 h.2)))
+    by (no ne) each = parted (λ bytes g h. ne (same_words i m n p.0 q.0 bytes p.1 q.1 (takes_goes i m p.0 s ms bytes p.1 p.2 (inr g)) (takes_goes i n q.0 s ns bytes q.1 q.2 (inr h))))
 
 pub alike_skeletons : (s t : Skeleton) → Alike (marks_of s) (marks_of t)
 alike_skeletons s t = alike_paths (marks_of s) (marks_of t) (opening ∷ []) (skeleton_path s) (skeleton_path t)
