@@ -3,8 +3,7 @@ use Rattle.std.proofs.Common.{◌≡◌, inr, ℕ, true, List, [], ◌∷◌, �
 use Rattle.std.proofs.lemmas.List.{append-nil}
 use Rattle.general_lemmas.proofs.Decisions.{same_numbers}
 use Rattle.certificates.specs.Prelude.{Automaton}
-use Rattle.cert_grammar.specs.Prelude.{Naming, Mark, fixed, automaton_marks, HaveNames, Skeleton, marks_of, Item, opening, between, line, states_line, Lead, text}
-use Rattle.cert_grammar.specs.Prelude.{numeral_lead, position_lead, variable_lead, name_lead, ends_lead}
+use Rattle.cert_grammar.specs.Prelude.{Naming, Mark, fixed, automaton_marks, HaveNames, Skeleton, marks_of, Item, opening, between, line, states_line, Lead, text, ends_lead}
 use Rattle.cert_laws.specs.MarkLaws.{Alike, ended, same, parted}
 use Rattle.cert_laws.proofs.Moves.{There, takes_goes}
 use Rattle.cert_laws.proofs.Paths.{Path}
