@@ -9,7 +9,7 @@ use Rattle.cert_grammar.specs.Prelude.{automaton_marks, HaveNames, Pass, Lead, n
 use Rattle.cert_grammar.specs.Prelude.{mark_of, taken, Left}
 use Rattle.cert_grammar.proofs.Names.{found_is_named}
 use Rattle.cert_grammar.proofs.ScanWords.{name_is}
-use Rattle.cert_laws.proofs.Along.{have_append}
+use Rattle.cert_laws.proofs.Spelt.{have_append}
 use Rattle.cert_laws.proofs.Paths.{first_sound, found_there}
 use Rattle.cert_laws.proofs.PassTerms.{range_met, few_met, pass_append, symbol_met, arity_met, node_passed}
 use Rattle.cert_laws.proofs.PassEvidence.{accepting_met, states_met}

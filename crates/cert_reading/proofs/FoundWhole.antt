@@ -14,7 +14,7 @@ use Rattle.cert_grammar.specs.Prelude.{coefficients_marks, measured_marks, entri
 use Rattle.cert_grammar.specs.Prelude.{Pass}
 use Rattle.cert_grammar.specs.Marks as marks
 use Rattle.cert_grammar.proofs.Names.{found_is_named}
-use Rattle.cert_laws.proofs.Along.{have_append}
+use Rattle.cert_laws.proofs.Spelt.{have_append}
 use Rattle.cert_laws.proofs.PassTerms.{first_met, range_met, few_met, number_met, places_met, pass_append}
 use Rattle.cert_laws.proofs.PassSteps.{derivation_met}
 use Rattle.cert_laws.proofs.SpeltWhole.{answer_of, spelt_alone, spelt_answered}

@@ -1,6 +1,6 @@
 -- Bytes are the text of one certificate at most.
-use Rattle.std.proofs.Common.{◌≡◌, ◌⊎◌, inl, inr, ℕ, suc, Bool, true, false, List, [], ◌∷◌, ◌++◌, length, codes, Option, Some, None, refl, sym, ap, ◌∙◌, arith}
-use Rattle.std.proofs.lemmas.List.{append_cancel_left}
+use Rattle.std.proofs.Common.{◌≡◌, ◌⊎◌, inl, inr, ℕ, suc, Bool, true, false, List, [], ◌∷◌, ◌++◌, length, codes, Option, Some, None, refl, sym, ap, ◌∙◌, append_assoc, arith}
+use Rattle.std.proofs.lemmas.List.{append-nil}
 use Rattle.rewriting.specs.Prelude.{Term, Position, Head, file, auxiliary}
 use Rattle.certificates.specs.Prelude.{Derivation, Automaton, InfeasibilityEvidence, by_caps, by_automaton, PairEvidence, trivial_pair, infeasible_pair, conflicting_pair, joined_pair}
 use Rattle.certificates.specs.Prelude.{unfeasible_pair, PairEntry, LinearEntry, MeasureCertificate, linear_measure, precedence_measure, Redex, Apartness, by_normal_forms, by_rigid_caps}
@@ -11,36 +11,16 @@ use Rattle.cert_grammar.specs.Prelude.{used_by_steps, automata_of, automaton_tex
 use Rattle.cert_grammar.specs.Prelude.{automaton_ends, Mark, fixed, closed, mark_text, marks_text, term_marks, derivation_marks, closing, use_marks, automaton_marks, automata_marks}
 use Rattle.cert_grammar.specs.Prelude.{infeasibility_marks, evidence_marks, pairs_marks, coefficients_marks, measured_marks, entries_marks, heads_marks, measure_marks, redexes_marks}
 use Rattle.cert_grammar.specs.Prelude.{apart_marks, simplifications_marks, body_marks, answer_marks, certificate_marks, is_among, texts_of, shared_by, number_in, uses_of, AreAutomata}
-use Rattle.cert_grammar.specs.Prelude.{Skeleton}
-use Rattle.cert_laws.specs.MarkLaws.{Alike, ended, same, parted}
-use Rattle.cert_laws.proofs.Along.{differ}
-use Rattle.cert_laws.proofs.AlikeEvidence.{alike_automata}
-use Rattle.cert_laws.proofs.AlikeWhole.{alike_skeletons, flat, flat_line}
-use Rattle.cert_laws.proofs.OneAnswer.{closes_all}
+use Rattle.cert_grammar.specs.Prelude.{HaveNames, Skeleton, states_line}
+use Rattle.cert_laws.proofs.AlikePaths.{same_marks, same_skeletons}
+use Rattle.cert_laws.proofs.SkeletonPaths.{nothing_left, automaton_path}
 use Rattle.cert_laws.proofs.SpeltWhole.{spelt_automaton}
-use Rattle.cert_laws.proofs.OneRefusal.{Closes, whole_goes}
 use Rattle.cert_laws.proofs.Spelt.{text_both}
 use Rattle.cert_laws.proofs.PassEvidence.{AllOf, all_of}
 use Rattle.cert_laws.proofs.Moves.{tail_same}
 use Rattle.cert_sharing.proofs.FirstUses.{AreAmong, place_text}
 use Rattle.cert_sharing.proofs.SpeltShares.{of_certificate, shared_are, shared_numbered, spelt_marks}
-use Rattle.cert_sharing.proofs.SameParts.{same_symbol, regroup, clash, place_same, same_terms, same_derivation, same_automata}
-
--- ---- whole texts that are alike
-
-shorter : (m : Mark) (ms : List Mark) → (m ∷ ms ≡ []) ⊎ Closes (m ∷ ms) → (ms ≡ []) ⊎ Closes ms
-shorter m ms (inl c) = absurd cc
-shorter m ms (inr ([], t, c)) = inl cc
-shorter m ms (inr (d ∷ front, t, c)) = inr (front, t, cc)
-
-pub whole_same : {ms ns : List Mark} → Alike ms ns → (ms ≡ []) ⊎ Closes ms → (ns ≡ []) ⊎ Closes ns → marks_text ms ≡ marks_text ns → ms ≡ ns
-whole_same ended c d e = refl
-whole_same (same {m = m} {ms = ms} {ns = ns} k) c d e = ap (λ (l : List Mark). m ∷ l)
-    (whole_same k (shorter m ms c) (shorter m ns d) (append_cancel_left (mark_text m) (marks_text ms) (marks_text ns) e))
-whole_same (parted {m = m} {n = n} {ms = ms} {ns = ns} f) (inl c) d e = let q : m ∷ ms ≡ [] = c in absurd cc
-whole_same (parted {m = m} {n = n} {ms = ms} {ns = ns} f) (inr c) (inl d) e = let q : n ∷ ns ≡ [] = d in absurd cc
-whole_same (parted {m = m} {n = n} {ms = ms} {ns = ns} f) (inr c) (inr d) e = absurd
-    (f (marks_text (m ∷ ms)) (whole_goes (m ∷ ms) (marks_text (m ∷ ms)) c refl) (whole_goes (n ∷ ns) (marks_text (m ∷ ms)) d e))
+use Rattle.cert_sharing.proofs.SameParts.{same_symbol, regroup, differ, clash, place_same, same_terms, same_derivation, same_automata}
 
 -- ---- parts that use automata
 
@@ -151,6 +131,13 @@ no_line (auxiliary r c) x w n (q ∷ qs) k e = clash _ _ _ _ refl e
 
 abbrev line_end : List Mark
 line_end = fixed (codes "\n") ∷ []
+
+-- lines in the bracketing of parts
+flat : (a b c k : List Mark) → ((a ++ (b ++ line_end)) ++ c) ++ k ≡ a ++ (b ++ (fixed (codes "\n") ∷ (c ++ k)))
+flat a b c k = rw (append_assoc, append_assoc, append_assoc)
+
+flat_line : (a c k : List Mark) → ((a ++ line_end) ++ c) ++ k ≡ a ++ (fixed (codes "\n") ∷ (c ++ k))
+flat_line a c k = rw (append_assoc, append_assoc)
 
 same_entry : {a b : Head} {js ks : List ℕ} → a ≡ b → js ≡ ks → ◌≡◌ {A = LinearEntry} (record { head = a; coefficients = js }) (record { head = b; coefficients = ks })
 same_entry first numbers = cc
@@ -295,11 +282,9 @@ text_tells a b names h i e =
     let x = name_of names in
     let mine = spelt_automaton a names h in
     let yours = spelt_automaton b names i in
-    let texts : marks_text (automaton_marks x a ++ line_end) ≡ marks_text (automaton_marks x b ++ line_end) =
-    cc (text_both (automaton_marks x a) line_end, text_both (automaton_marks x b) line_end) in
-    let marks = whole_same (alike_automata a b x x line_end line_end mine.named yours.named (same ended)) (inr (automaton_marks x a, codes "\n", refl))
-    (inr (automaton_marks x b, codes "\n", refl)) texts in
-    (same_automata a b names line_end line_end h i marks).0
+    let texts : marks_text (automaton_marks x a ++ []) ≡ marks_text (automaton_marks x b ++ []) = cc (append-nil (automaton_marks x a), append-nil (automaton_marks x b)) in
+    let path = λ (c : Automaton) (h : HaveNames (automaton_marks x c)). (automaton_path {s = []} {ks = []} c x h nothing_left).path in
+    (same_automata a b names [] [] h i (same_marks (automaton_marks x a ++ []) (automaton_marks x b ++ []) (states_line ∷ []) (path a mine.named) (path b yours.named) texts)).0
 
 -- ---- certificates
 
@@ -346,12 +331,10 @@ pub marks_tell : (v w : Version) (names : NameTable) (c d : Certificate) (bs ds 
 marks_tell first_version first_version names c d bs ds f g a b m n e =
     let r = same_answers f g (codes "concon 1\n") (codes "concon 1\n") _ _ refl refl refl refl e in
     let lines : body_marks (name_of names) in_full f c ++ closing ≡ body_marks (name_of names) in_full f d ++ closing = tail_same _ _ _ _ r.1
-    ∙ ap (λ (o : Option Bool). body_marks (name_of names) in_full o d ++ closing) (sym r.0) in (
-      refl,
-      same_bodies c d names in_full in_full (IsAutomaton names) (IsAutomaton names) f (in_full_same names) a b (all_automata (automata_of c) names (of_certificate c names a))
-          (all_automata (automata_of d) names (of_certificate d names b)) lines,
-      tt,
-    )
+    ∙ ap (λ (o : Option Bool). body_marks (name_of names) in_full o d ++ closing) (sym r.0) in
+    let mine = all_automata (automata_of c) names (of_certificate c names a) in
+    let yours = all_automata (automata_of d) names (of_certificate d names b) in
+    (refl, same_bodies c d names in_full in_full (IsAutomaton names) (IsAutomaton names) f (in_full_same names) a b mine yours lines, tt)
 marks_tell first_version second_version names c d bs ds f g a b m n e = let r = same_answers f g (codes "concon 1\n") (codes "concon 2\n") _ _ refl refl refl refl e in absurd (clash _ _ _ _ refl r.1)
 marks_tell second_version first_version names c d bs ds f g a b m n e = let r = same_answers f g (codes "concon 2\n") (codes "concon 1\n") _ _ refl refl refl refl e in absurd (clash _ _ _ _ refl r.1)
 marks_tell second_version second_version names c d bs ds f g a b m n e =
@@ -360,12 +343,10 @@ marks_tell second_version second_version names c d bs ds f g a b m n e =
     let w = by_number (number_in names ds) in
     let r = same_answers f g (codes "concon 2\n") (codes "concon 2\n") _ _ refl refl refl refl e in
     let all = same_shared bs ds names (body_marks x u f c ++ closing) (body_marks x w g d ++ closing) m.0 n.0 (cc) (cc) in
-    let lines : body_marks x u f c ++ closing ≡ body_marks x w f d ++ closing = all.1 ∙ ap (λ (o : Option Bool). body_marks x w o d ++ closing) (sym r.0) in (
-      refl,
-      same_bodies c d names u w (Known names bs) (Known names ds) f (numbers_same names bs ds all.0) a b
-          (all_known (automata_of c) bs names (of_certificate c names a) m.1) (all_known (automata_of d) ds names (of_certificate d names b) n.1) lines,
-      all.0,
-    )
+    let lines : body_marks x u f c ++ closing ≡ body_marks x w f d ++ closing = all.1 ∙ ap (λ (o : Option Bool). body_marks x w o d ++ closing) (sym r.0) in
+    let mine = all_known (automata_of c) bs names (of_certificate c names a) m.1 in
+    let yours = all_known (automata_of d) ds names (of_certificate d names b) n.1 in
+    (refl, same_bodies c d names u w (Known names bs) (Known names ds) f (numbers_same names bs ds all.0) a b mine yours lines, all.0)
 
 own_stand : (v : Version) (names : NameTable) (c : Certificate) → IsWithin names c → StandBefore v names c (shared_by names c)
 own_stand first_version names c a = tt
@@ -382,7 +363,7 @@ one_certificate names bytes c d (v, h) (w, k) =
     let yours = spelt_marks w names bytes d k in
     let s : Skeleton = record { names = x; uses = uses_of v names c; shared = shared_by names c; answer = mine.0; certificate = c; allowed = mine.3; named = mine.2 } in
     let t : Skeleton = record { names = x; uses = uses_of w names d; shared = shared_by names d; answer = yours.0; certificate = d; allowed = yours.3; named = yours.2 } in
-    let marks = whole_same (alike_skeletons s t) (inr (closes_all s)) (inr (closes_all t)) (mine.1 ∙ sym yours.1) in
+    let marks = same_skeletons s t (mine.1 ∙ sym yours.1) in
     (marks_tell v w names c d (shared_by names c) (shared_by names d) mine.0 yours.0 h.spelt.1 k.spelt.1 (own_stand v names c h.spelt.1) (own_stand w names d k.spelt.1)
     (ap (λ (u : Uses). certificate_marks x u (shared_by names c) mine.0 c) (sym (same_uses v names c)) ∙ marks
     ∙ ap (λ (u : Uses). certificate_marks x u (shared_by names d) yours.0 d) (same_uses w names d))).1
