@@ -1,5 +1,5 @@
 -- The marks of certificates within limits: all pass, and their text is the certificate's.
-use Rattle.std.proofs.Common.{◌≡◌, ℕ, suc, ◌+◌, ◌<◌, ◌≤◌, Bool, true, false, List, [], ◌∷◌, ◌++◌, length, Option, Some, None, refl, sym, ap, ◌∙◌, subst, codes, decimal, append-nil, arith}
+use Rattle.std.proofs.Common.{◌≡◌, ℕ, suc, ◌+◌, ◌<◌, ◌≤◌, Bool, true, false, List, [], ◌∷◌, ◌++◌, length, Option, Some, None, refl, ap, codes, decimal, append-nil, arith}
 use Rattle.std.specs.Prelude.{unwrap_or}
 use Rattle.rewriting.specs.Unraveling.{Head, file, auxiliary}
 use Rattle.certificates.specs.Prelude.{Transition, Automaton, InfeasibilityEvidence, by_caps, by_automaton, PairEvidence, trivial_pair, infeasible_pair, conflicting_pair, joined_pair}
@@ -9,12 +9,12 @@ use Rattle.cops_names.specs.NameTable.{NameTable}
 use Rattle.cert_grammar.specs.Prelude.{largest, position_text, term_text, name_of, derivation_text, numbers_text, further_states_text, states_text, head_text, transitions_text}
 use Rattle.cert_grammar.specs.Prelude.{automaton_text, infeasibility_text, evidence_text, pairs_text, AreAtMost, AreStates, IsHead, AreTransitions, IsAutomaton, IsInfeasibility, IsEvidence}
 use Rattle.cert_grammar.specs.Prelude.{ArePairs, IsName, measured_text, entries_text, heads_text, measure_text, redexes_text, apart_text, simplifications_text, body_text, automata_text}
-use Rattle.cert_grammar.specs.Prelude.{heading_text, answer_line, IsMeasured, AreEntries, AreHeads, IsMeasure, AreRedexEntries, IsApart, AreSimplifications, IsWithin, Uses, in_full}
-use Rattle.cert_grammar.specs.Prelude.{by_number, version_of, AreAutomata, Counted, limit, automaton_begins, automaton_ends, is_use, is_light, all_used, in_range, is_few, fits_answer}
-use Rattle.cert_grammar.specs.Prelude.{shares, is_answer, Mark, fixed, word, closed, number, position, term_marks, derivation_marks, closing, automata_marks, heading_marks, heads_marks}
+use Rattle.cert_grammar.specs.Prelude.{heading_text, IsMeasured, AreEntries, AreHeads, IsMeasure, AreRedexEntries, IsApart, AreSimplifications, IsWithin, Uses, in_full}
+use Rattle.cert_grammar.specs.Prelude.{by_number, version_of, AreAutomata, Counted, limit, automaton_begins, automaton_ends, is_use, is_light, in_range, is_few, fits_answer}
+use Rattle.cert_grammar.specs.Prelude.{shares, is_answer, Mark, fixed, word, closed, number, position, term_marks, derivation_marks, automata_marks, heading_marks, heads_marks}
 use Rattle.cert_grammar.specs.Prelude.{simplifications_marks, state, accepting_marks, further_states_marks, states_marks, head_marks, transitions_marks, automaton_marks}
 use Rattle.cert_grammar.specs.Prelude.{infeasibility_marks, evidence_marks, pairs_marks, coefficients_marks, measured_marks, entries_marks, measure_marks, redexes_marks, apart_marks}
-use Rattle.cert_grammar.specs.Prelude.{body_marks, certificate_marks}
+use Rattle.cert_grammar.specs.Prelude.{body_marks}
 use Rattle.cert_grammar.specs.WordMarks.{numeral}
 use Rattle.cert_grammar.proofs.Names.{name_is}
 use Rattle.cert_laws.proofs.Spelt.{Spells, nothing, put_fixed, put_word, put_both, put_number, put_count, put_position, put_symbol, put_arity, numeral_fits, met_first, pass_range, pass_few}
@@ -238,49 +238,3 @@ spelt_heading (by_number f) names bs h =
     let few : length bs ≤ 1000 = h.0 in
     put_fixed names (codes "concon 2\n") _ _ (put_fixed names (codes "shared ") _ _
     (put_count names Counted.shared_automata (length bs) _ _ (omega arith) few (put_fixed names (codes "\n") _ _ (spelt_automata bs names h.1))))
-
-spelt_lines : (c : Certificate) (names : NameTable) (u : Uses) (bs : List Automaton) (given : Option Bool) → AreShort u → HasHeading names u bs
-    → is_answer (answer_of c) given ≡ true → IsWithin names c
-    → Spells names (heading_marks (name_of names) u bs ++ (body_marks (name_of names) u given c ++ closing)) (heading_text (version_of u) names bs ++ (body_text names u c ++ codes "end\n"))
-spelt_lines c names u bs given s k e h =
-    put_both names (heading_marks (name_of names) u bs) _ (heading_text (version_of u) names bs) _ (spelt_heading u names bs k)
-    (put_both names (body_marks (name_of names) u given c) closing (body_text names u c) (codes "end\n") (spelt_body c names u given s e h)
-    (put_word names (codes "end") (codes "end") (shares all_used ∷ []) _ _ refl refl (put_fixed names (codes "\n") [] [] (nothing names))))
-
-fits_none : (told : Bool) → is_answer told None ≡ true
-fits_none true = refl
-fits_none false = refl
-
-pub spelt_alone : (c : Certificate) (names : NameTable) (u : Uses) (bs : List Automaton) → AreShort u → HasHeading names u bs → IsWithin names c
-    → Spells names (certificate_marks (name_of names) u bs None c) (heading_text (version_of u) names bs ++ (body_text names u c ++ codes "end\n"))
-spelt_alone c names u bs s k h = spelt_lines c names u bs None s k (fits_none (answer_of c)) h
-
-pub spelt_answered : (c : Certificate) (names : NameTable) (u : Uses) (bs : List Automaton) → AreShort u → HasHeading names u bs → IsWithin names c
-    → Spells names (certificate_marks (name_of names) u bs (Some (answer_of c)) c)
-    (answer_line c ++ (heading_text (version_of u) names bs ++ (body_text names u c ++ codes "end\n")))
-spelt_answered c names u bs s k h = by (answer_of c) refl (told c)
-  where
-    -- the answer line by the answer
-    line_of : Bool → List ℕ
-    line_of true = codes "YES\n"
-    line_of false = codes "NO\n"
-
-    told : (c : Certificate) → answer_line c ≡ line_of (answer_of c)
-    told (ortho_certificate ps) = refl
-    told (quasi_certificate m ps) = refl
-    told (peak_certificate p) = refl
-    told (simplified_certificate ss d) = told d
-
-    by : (b : Bool) → answer_of c ≡ b → answer_line c ≡ line_of (answer_of c)
-        → Spells names (certificate_marks (name_of names) u bs (Some (answer_of c)) c)
-        (answer_line c ++ (heading_text (version_of u) names bs ++ (body_text names u c ++ codes "end\n")))
-    by true e l = subst (λ (v : Bool). Spells names (certificate_marks (name_of names) u bs (Some v) c)
-        (answer_line c ++ (heading_text (version_of u) names bs ++ (body_text names u c ++ codes "end\n")))) (sym e)
-        (subst (λ (t : List ℕ). Spells names (certificate_marks (name_of names) u bs (Some true) c)
-        (t ++ (heading_text (version_of u) names bs ++ (body_text names u c ++ codes "end\n")))) (sym (l ∙ ap line_of e))
-        (put_fixed names (codes "YES\n") _ _ (spelt_lines c names u bs (Some true) s k (ap (λ (v : Bool). is_answer v (Some true)) e) h)))
-    by false e l = subst (λ (v : Bool). Spells names (certificate_marks (name_of names) u bs (Some v) c)
-        (answer_line c ++ (heading_text (version_of u) names bs ++ (body_text names u c ++ codes "end\n")))) (sym e)
-        (subst (λ (t : List ℕ). Spells names (certificate_marks (name_of names) u bs (Some false) c)
-        (t ++ (heading_text (version_of u) names bs ++ (body_text names u c ++ codes "end\n")))) (sym (l ∙ ap line_of e))
-        (put_fixed names (codes "NO\n") _ _ (spelt_lines c names u bs (Some false) s k (ap (λ (v : Bool). is_answer v (Some false)) e) h)))

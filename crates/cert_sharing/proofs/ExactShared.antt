@@ -1,23 +1,24 @@
 -- The reader that stops at the first refusal, shared automata judged, is exact.
-use Rattle.std.proofs.Common.{◌≡◌, ◌⊎◌, inl, inr, ℕ, zero, suc, ◌+◌, ◌*◌, ◌<◌, true, List, [], ◌∷◌, ◌++◌, length, drop, Option, Some, None, refl, sym, ap, ◌∙◌, subst, arith}
+use Rattle.std.proofs.Common.{◌≡◌, ◌⊎◌, inl, inr, ℕ, zero, suc, ◌+◌, ◌*◌, ◌<◌, true, List, [], ◌∷◌, ◌++◌, length, drop, Option, Some, None, refl, sym, ap, ◌∙◌, subst, arith, append-nil}
 use Rattle.cops_names.specs.NameTable.{NameTable}
 use Rattle.cert_grammar.specs.Prelude.{CertificateCause, syntax, Mark, demands_of, verdict, Shared, nothing_shared, share_verdict, behind_mark, behind_marks}
-use Rattle.cert_grammar.specs.Prelude.{PassShares, GoesTo, IsPlainlyRefused, IsRefusedShared, IsCertificateRefused, Item, opening, Lead, leads, is_there, first_there, longest, taken}
+use Rattle.cert_grammar.specs.Prelude.{PassShares, GoesTo, Pass, marks_of, marks_text, goes_on, IsPlainlyRefused, IsRefusedShared, IsCertificateRefused, Item, opening, Lead, leads, is_there, first_there, longest, taken}
 use Rattle.cert_grammar.specs.Prelude.{mark_of, items_of, Left, refuses, behind_lead, judged, step_lead, step, Reading, accepted, refused, whole_text, SharedStep, ends, further}
 use Rattle.cert_grammar.specs.Prelude.{shared_judged, after_step, shared_step, shared_reading, read_shared, read_text}
 use Rattle.cert_laws.proofs.LeadTables.{In}
 use Rattle.cert_laws.proofs.OneRefusal.{passed_anywhere}
 use Rattle.cert_laws.proofs.Spelt.{pass_both}
 use Rattle.cert_laws.proofs.Paths.{path-append, first_sound}
-use Rattle.cert_laws.proofs.Reached.{moves_path, moves_more}
+use Rattle.cert_laws.proofs.Reached.{moves_path, moves_text, moves_more}
 use Rattle.cert_laws.proofs.Completions.{completes}
+use Rattle.cert_laws.proofs.SkeletonPaths.{skeleton_path}
 use Rattle.cert_laws.proofs.FirstRefusals.{skeleton_of, read_of, Reached, reached_start, next_reached, lead_move, is_judged}
 use Rattle.cert_laws.proofs.StuckReaders.{refused_where_stuck, refused_behind_end}
 use Rattle.cert_laws.proofs.ExactReader.{weight, lighter}
 use Rattle.cert_sharing.specs.SharedLaws.{IsMetText, IsAnswer}
 use Rattle.cert_sharing.proofs.OneShared.{shares_anywhere}
-use Rattle.cert_sharing.proofs.Reaches.{moves_goes}
-use Rattle.cert_sharing.proofs.Exact.{met, none_shared, met_never, one_certificate_refusal}
+use Rattle.cert_sharing.proofs.Reaches.{moves_goes, no_shared, stops}
+use Rattle.cert_sharing.proofs.Exact.{met_never, one_certificate_refusal}
 
 -- where the reader is, with what it knows of shared automata
 pub record At (names : NameTable) (bytes : List ℕ) (l : Left) (s : Shared) : Type 0 where
@@ -37,10 +38,26 @@ abbrev pub IsSharedStepOf : NameTable → List ℕ → Left → SharedStep → T
 IsSharedStepOf names bytes l (ends r) = IsAnswer names bytes r
 IsSharedStepOf names bytes l (further m s) = At names bytes m s × (weight m < weight l)
 
--- a plain refusal
+-- where the reader stops, with all demands before it met, no demand on shared automata is judged: its refusal is the text's
 plain : (names : NameTable) (bytes : List ℕ) (l : Left) (s : Shared) (e : CertificateCause) (at : ℕ) → At names bytes l s → step names l ≡ refuses e at
     → IsPlainlyRefused names bytes e at → IsCertificateRefused names bytes e at
-plain names bytes l s e at p q h = inr (h, none_shared names bytes (refused e at) (record { left = l; reached = p.reached; ends = q }) p.passed)
+plain names bytes l s e at p q h = inr (
+  h,
+  λ f place (t, k).
+      no_shared p.reached.front names nothing_shared (opening ∷ []) l.items bytes l.bytes (marks_of t) k.front k.mark (f, place) (length (marks_text k.front)) p.reached.moves
+      p.passed (stops names l.at l.items l.bytes (λ m g. let both : goes_on m ≡ refuses e at = sym g ∙ q in absurd cc)) (skeleton_path t) k.goes k.passed k.refused,
+)
+
+-- where it accepts, the text is one in which all is met
+met : (names : NameTable) (bytes : List ℕ) (at : ℕ) (s : Shared) → At names bytes (record { at = at; items = []; bytes = [] }) s → IsMetText names bytes
+met names bytes at s p =
+    let front = p.reached.front in
+    let t = skeleton_of front (moves_path front (opening ∷ []) [] bytes [] p.reached.moves) in (
+      t.0,
+      ap marks_text t.1 ∙ sym (append-nil (marks_text front)) ∙ sym (moves_text front (opening ∷ []) [] bytes [] p.reached.moves),
+      subst (Pass names) (sym t.1) p.reached.passed,
+      subst (PassShares nothing_shared) (sym t.1) p.passed,
+    )
 
 module _ (names : NameTable) (bytes : List ℕ) (at : ℕ) (i : Item) (items : List Item) (left : List ℕ) where
   abbrev l : Left
@@ -109,7 +126,7 @@ module _ (names : NameTable) (bytes : List ℕ) (at : ℕ) (i : Item) (items : L
 pub shared_step_is : (names : NameTable) (bytes : List ℕ) (at : ℕ) (items : List Item) (left : List ℕ) (s : Shared)
     → At names bytes (record { at = at; items = items; bytes = left }) s
     → IsSharedStepOf names bytes (record { at = at; items = items; bytes = left }) (shared_step names (record { at = at; items = items; bytes = left }) s)
-shared_step_is names bytes at [] [] s p = met names bytes (record { left = record { at = at; items = []; bytes = [] }; reached = p.reached; ends = refl }) p.passed
+shared_step_is names bytes at [] [] s p = met names bytes at s p
 shared_step_is names bytes at [] (b ∷ left) s p = plain names bytes (record { at = at; items = []; bytes = b ∷ left }) s syntax at p refl (refused_behind_end names bytes at b left p.reached)
 shared_step_is names bytes at (i ∷ items) left s p = further_step names bytes at i items left s p
 

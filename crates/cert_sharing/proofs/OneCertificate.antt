@@ -1,5 +1,5 @@
 -- Bytes are the text of one certificate at most.
-use Rattle.std.proofs.Common.{◌≡◌, ◌⊎◌, inl, inr, ℕ, suc, Bool, true, false, List, [], ◌∷◌, ◌++◌, length, codes, Option, Some, None, refl, sym, ap, ◌∙◌, arith}
+use Rattle.std.proofs.Common.{◌≡◌, ◌⊎◌, inl, inr, ℕ, suc, Bool, true, false, List, [], ◌∷◌, ◌++◌, length, codes, Option, Some, None, refl, sym, ap, ◌∙◌, append_assoc, arith}
 use Rattle.std.proofs.lemmas.List.{append_cancel_left}
 use Rattle.rewriting.specs.Prelude.{Term, Position, Head, file, auxiliary}
 use Rattle.certificates.specs.Prelude.{Derivation, Automaton, InfeasibilityEvidence, by_caps, by_automaton, PairEvidence, trivial_pair, infeasible_pair, conflicting_pair, joined_pair}
@@ -13,9 +13,7 @@ use Rattle.cert_grammar.specs.Prelude.{infeasibility_marks, evidence_marks, pair
 use Rattle.cert_grammar.specs.Prelude.{apart_marks, simplifications_marks, body_marks, answer_marks, certificate_marks, is_among, texts_of, shared_by, number_in, uses_of, AreAutomata}
 use Rattle.cert_grammar.specs.Prelude.{Skeleton}
 use Rattle.cert_laws.specs.MarkLaws.{Alike, ended, same, parted}
-use Rattle.cert_laws.proofs.Along.{differ}
-use Rattle.cert_laws.proofs.AlikeEvidence.{alike_automata}
-use Rattle.cert_laws.proofs.AlikeWhole.{alike_skeletons, flat, flat_line}
+use Rattle.cert_laws.proofs.AlikePaths.{alike_automata, alike_skeletons}
 use Rattle.cert_laws.proofs.OneAnswer.{closes_all}
 use Rattle.cert_laws.proofs.SpeltWhole.{spelt_automaton}
 use Rattle.cert_laws.proofs.OneRefusal.{Closes, whole_goes}
@@ -24,7 +22,7 @@ use Rattle.cert_laws.proofs.PassEvidence.{AllOf, all_of}
 use Rattle.cert_laws.proofs.Moves.{tail_same}
 use Rattle.cert_sharing.proofs.FirstUses.{AreAmong, place_text}
 use Rattle.cert_sharing.proofs.SpeltShares.{of_certificate, shared_are, shared_numbered, spelt_marks}
-use Rattle.cert_sharing.proofs.SameParts.{same_symbol, regroup, clash, place_same, same_terms, same_derivation, same_automata}
+use Rattle.cert_sharing.proofs.SameParts.{same_symbol, regroup, differ, clash, place_same, same_terms, same_derivation, same_automata}
 
 -- ---- whole texts that are alike
 
@@ -151,6 +149,13 @@ no_line (auxiliary r c) x w n (q ∷ qs) k e = clash _ _ _ _ refl e
 
 abbrev line_end : List Mark
 line_end = fixed (codes "\n") ∷ []
+
+-- lines in the bracketing of parts
+flat : (a b c k : List Mark) → ((a ++ (b ++ line_end)) ++ c) ++ k ≡ a ++ (b ++ (fixed (codes "\n") ∷ (c ++ k)))
+flat a b c k = rw (append_assoc, append_assoc, append_assoc)
+
+flat_line : (a c k : List Mark) → ((a ++ line_end) ++ c) ++ k ≡ a ++ (fixed (codes "\n") ∷ (c ++ k))
+flat_line a c k = rw (append_assoc, append_assoc)
 
 same_entry : {a b : Head} {js ks : List ℕ} → a ≡ b → js ≡ ks → ◌≡◌ {A = LinearEntry} (record { head = a; coefficients = js }) (record { head = b; coefficients = ks })
 same_entry first numbers = cc
@@ -297,7 +302,7 @@ text_tells a b names h i e =
     let yours = spelt_automaton b names i in
     let texts : marks_text (automaton_marks x a ++ line_end) ≡ marks_text (automaton_marks x b ++ line_end) =
     cc (text_both (automaton_marks x a) line_end, text_both (automaton_marks x b) line_end) in
-    let marks = whole_same (alike_automata a b x x line_end line_end mine.named yours.named (same ended)) (inr (automaton_marks x a, codes "\n", refl))
+    let marks = whole_same (alike_automata a b x x mine.named yours.named) (inr (automaton_marks x a, codes "\n", refl))
     (inr (automaton_marks x b, codes "\n", refl)) texts in
     (same_automata a b names line_end line_end h i marks).0
 

@@ -5,14 +5,13 @@ use Rattle.certificates.specs.Prelude.{Automaton, PairEntry, Simplification, Cer
 use Rattle.cops_names.specs.NameTable.{NameTable}
 use Rattle.cert_grammar.specs.Prelude.{name_of, Version, first_version, second_version, Uses, number_in, CertificateCause, Naming, Mark, fixed, marks_text, answer_marks, heading_marks}
 use Rattle.cert_grammar.specs.Prelude.{body_marks, closing, certificate_marks, HaveNames, Item, opening, between, line, Shared, nothing_shared}
-use Rattle.cert_laws.proofs.Along.{have_append}
-use Rattle.cert_laws.proofs.Spelt.{text_both}
+use Rattle.cert_laws.proofs.Spelt.{have_append, text_both}
 use Rattle.cert_sharing.proofs.UseMarks.{AreStill, counts_still}
 use Rattle.cert_openings.specs.Openings.{IsLine, IsKindLine, AreHeadingLines, lines_text, Opening, certificate_for, uses_with, IsOpeningEnd, IsOpened}
 use Rattle.cert_openings.proofs.Lines.{line_same, kind_line}
 use Rattle.cert_openings.proofs.EntryLines.{other}
 use Rattle.cert_openings.proofs.OwnLines.{Own, no_lines, own_both, own_answer, own_heading, own_simplify}
-use Rattle.cert_openings.proofs.Opened.{same_version}
+use Rattle.cert_sharing.proofs.SpeltShares.{same_version}
 use Rattle.cert_openings.proofs.Bare.{openings_end, no_peak}
 use Rattle.cert_openings.proofs.BadOpenings.{bad_openings_are_refused}
 use Rattle.cert_words.specs.declared.error.CertError.{CertError}
