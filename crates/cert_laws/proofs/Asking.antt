@@ -7,7 +7,8 @@ use Rattle.certificates.specs.Prelude.{InfeasibilityEvidence, by_caps, by_automa
 use Rattle.certificates.specs.Prelude.{LinearEntry, MeasureCertificate, linear_measure, precedence_measure, Redex, Apartness, by_normal_forms, by_rigid_caps, Peak, Simplification, dropped}
 use Rattle.certificates.specs.Prelude.{inlined}
 use Rattle.cops_names.specs.NameTable.{NameTable}
-use Rattle.cert_grammar.specs.Prelude.{CertificateCause, meets, refusal_of, refusal_place, verdict, Uses, in_full, by_number, Naming, Share, automaton_begins, is_use, is_light, Demand, in_range, fits_answer, shares, Mark, mark_text, demands_of}
+use Rattle.cert_grammar.specs.Prelude.{CertificateCause, meets, refusal_of, refusal_place, verdict, Uses, in_full, by_number, Naming, Share, automaton_begins, is_use, is_light, Demand}
+use Rattle.cert_grammar.specs.Prelude.{in_range, fits_answer, shares, Mark, mark_text, demands_of}
 use Rattle.cert_grammar.specs.Prelude.{dotted, are_places, places_text, term_marks, arguments_marks, further_marks, steps_marks, step_marks, derivations_marks, derivation_marks}
 use Rattle.cert_grammar.specs.Prelude.{automaton_marks, heads_marks, measure_marks, simplifications_marks, accepting_marks, further_states_marks, states_marks, head_marks}
 use Rattle.cert_grammar.specs.Prelude.{transitions_marks, infeasibility_marks, evidence_marks, pairs_marks, coefficients_marks, measured_marks, entries_marks, redexes_marks, apart_marks}
@@ -115,13 +116,9 @@ module _ (Answer : Type 0) (Sharing : Share → Type 0) where
 
   -- an automaton behind its first word
   pub behind_word_ask : (a : Automaton) (x : Naming) → Ask (drop 1 (automaton_marks x a))
-  behind_word_ask a x = (
-    tt,
-    (
-      (any _, (tt, tt)),
-      (tt, both_ask (accepting_marks a.states a.accepting) _ (accepting_ask a.accepting a.states) (tt, ((any _, (tt, tt)), (tt, transitions_ask a.transitions x a.states)))),
-    ),
-  )
+  behind_word_ask a x =
+      let lines = both_ask (accepting_marks a.states a.accepting) _ (accepting_ask a.accepting a.states) (tt, ((any _, (tt, tt)), (tt, transitions_ask a.transitions x a.states))) in
+      (tt, ((any _, (tt, tt)), (tt, lines)))
 
   coefficients_ask : (ks : List ℕ) (n : ℕ) → Ask (coefficients_marks n ks)
   coefficients_ask [] n = tt
@@ -164,52 +161,24 @@ module _ (Answer : Type 0) (Sharing : Share → Type 0) where
 
     pub pairs_ask : (ps : List PairEntry) (x : Naming) (u : Uses) (n : ℕ) → Ask (pairs_marks x u n ps)
     pairs_ask [] x u n = tt
-    pairs_ask (p ∷ ps) x u n = (
-      (tt, tt),
-      (
-        tt,
-        (
-          (any _, tt),
-          (
-            tt,
-            (
-              place_asks p.position,
-              (tt, ((any _, tt), (tt, both_ask (evidence_marks x u p.evidence) _ (evidence_asks p.evidence x u) (pairs_ask ps x u (suc n))))),
-            ),
-          ),
-        ),
-      ),
-    )
+    pairs_ask (p ∷ ps) x u n =
+        let others = both_ask (evidence_marks x u p.evidence) _ (evidence_asks p.evidence x u) (pairs_ask ps x u (suc n)) in
+        ((tt, tt), (tt, ((any _, tt), (tt, (place_asks p.position, (tt, ((any _, tt), (tt, others))))))))
 
     redexes_ask : (rs : List Redex) (x : Naming) (u : Uses) (n : ℕ) → Ask (redexes_marks x u n rs)
     redexes_ask [] x u n = tt
-    redexes_ask (r ∷ rs) x u n = (
-      (tt, tt),
-      (
-        tt,
-        (
-          (any _, tt),
-          (
-            tt,
-            (
-              place_asks r.position,
-              (tt, ((any _, tt), (tt, both_ask (infeasibility_marks x u r.evidence) _ (infeasibility_asks r.evidence x u) (redexes_ask rs x u (suc n))))),
-            ),
-          ),
-        ),
-      ),
-    )
+    redexes_ask (r ∷ rs) x u n =
+        let others = both_ask (infeasibility_marks x u r.evidence) _ (infeasibility_asks r.evidence x u) (redexes_ask rs x u (suc n)) in
+        ((tt, tt), (tt, ((any _, tt), (tt, (place_asks r.position, (tt, ((any _, tt), (tt, others))))))))
 
     apart_asks : (a : Apartness) (x : Naming) (u : Uses) → Ask (apart_marks x u a)
     apart_asks (by_normal_forms rs) x u = (tt, redexes_ask rs x u 1)
     apart_asks by_rigid_caps x u = (tt, tt)
 
     pub peak_asks : (p : Peak) (x : Naming) (u : Uses) → Ask (peak_marks x u p)
-    peak_asks p x u = (
-      tt,
-      both_ask (term_marks x 1 1 p.start) _ (term_asks p.start x 1 1)
-          (tt, both_ask (derivation_marks p.first) _ (derivation_asks p.first) (both_ask (derivation_marks p.second) _ (derivation_asks p.second) (apart_asks p.apart x u))),
-    )
+    peak_asks p x u =
+        let last = both_ask (derivation_marks p.second) _ (derivation_asks p.second) (apart_asks p.apart x u) in
+        (tt, both_ask (term_marks x 1 1 p.start) _ (term_asks p.start x 1 1) (tt, both_ask (derivation_marks p.first) _ (derivation_asks p.first) last))
 
     pub simplifications_ask : (ss : List Simplification) (x : Naming) (u : Uses) → Ask (simplifications_marks x u ss)
     simplifications_ask [] x u = tt

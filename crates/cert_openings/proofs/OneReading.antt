@@ -1,17 +1,16 @@
 -- Two readings of a text up to one place are one.
-use Rattle.std.proofs.Common.{◌≡◌, inr, ℕ, suc, Bool, List, [], ◌∷◌, ◌++◌, length, Option, refl, sym, ap, ◌∙◌, subst, codes, arith}
+use Rattle.std.proofs.Common.{◌≡◌, ℕ, suc, Bool, List, [], ◌∷◌, ◌++◌, length, Option, refl, sym, ap, ◌∙◌, subst, codes, arith}
 use Rattle.std.proofs.lemmas.List.{append_cancel_left, length-append}
 use Rattle.general_lemmas.proofs.Lists.{three_parts}
 use Rattle.certificates.specs.Prelude.{Automaton, PairEntry, Simplification, Certificate}
 use Rattle.cops_names.specs.NameTable.{NameTable}
 use Rattle.cert_grammar.specs.Prelude.{name_of, closing, is_answer, Version, first_version, second_version, Uses, version_of, IsOfVersion, shared_by, marks_text, certificate_marks}
 use Rattle.cert_grammar.specs.Prelude.{heading_text, body_text, HaveNames, Skeleton}
-use Rattle.cert_laws.proofs.AlikePaths.{alike_skeletons}
-use Rattle.cert_laws.proofs.OneAnswer.{closes_all}
+use Rattle.cert_laws.proofs.AlikePaths.{same_skeletons}
 use Rattle.cert_laws.proofs.Spelt.{have_both, text_both}
 use Rattle.cert_sharing.proofs.SpeltShares.{front_marks, numbered_with, same_version, spelt_front, whole_marks}
 use Rattle.cert_sharing.proofs.SpeltShares as before
-use Rattle.cert_sharing.proofs.OneCertificate.{whole_same, numbered_in, StandBefore, AreSame, marks_tell}
+use Rattle.cert_sharing.proofs.OneCertificate.{numbered_in, StandBefore, AreSame, marks_tell}
 use Rattle.cert_openings.specs.Openings.{Opening, ortho_opening, quasi_opening, simplified_opening, certificate_for, uses_with, AreLeft, IsRead}
 use Rattle.cert_openings.specs.Laws.{AreOne}
 use Rattle.cert_openings.proofs.Opened.{given_of, told_is}
@@ -95,7 +94,7 @@ one_reading names bytes o p es fs at h k =
     ∙ (k.text ∙ three_parts k.answer (heading_text k.version names ds) (body_text names (uses_with k.version names ds) d) k.rest)) lengths in
     let s : Skeleton = record { names = x; uses = uses_with h.version names bs; shared = bs; answer = mine.given; certificate = c; allowed = mine.allowed; named = mine.named } in
     let t : Skeleton = record { names = x; uses = uses_with k.version names ds; shared = ds; answer = yours.given; certificate = d; allowed = yours.allowed; named = yours.named } in
-    let marks = whole_same (alike_skeletons s t) (inr (closes_all s)) (inr (closes_all t)) (mine.text ∙ ap (λ (w : List ℕ). w ++ codes "end\n") cut.0 ∙ sym yours.text) in
+    let marks = same_skeletons s t (mine.text ∙ ap (λ (w : List ℕ). w ++ codes "end\n") cut.0 ∙ sym yours.text) in
     let tell = marks_tell h.version k.version names c d bs ds mine.given yours.given h.within k.within (stand h.version names c h.left h.are_left) (stand k.version names d k.left k.are_left)
     (ap (λ (u : Uses). certificate_marks x u bs mine.given c) (sym (same_uses h.version names bs)) ∙ marks ∙ ap (λ (u : Uses). certificate_marks x u ds yours.given d)
     (same_uses k.version names ds)) in

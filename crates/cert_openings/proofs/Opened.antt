@@ -5,14 +5,14 @@ use Rattle.certificates.specs.Prelude.{Automaton, PairEntry, Certificate}
 use Rattle.cops_names.specs.NameTable.{NameTable}
 use Rattle.cert_grammar.specs.Prelude.{name_of, IsWithin, Version, Uses, version_of, IsOfVersion}
 use Rattle.cert_grammar.specs.Prelude.{shared_by, is_answer, marks_text, answer_marks}
-use Rattle.cert_grammar.specs.Prelude.{closing, heading_text, body_text, nothing_shared, PassShares, HaveNames, Skeleton, marks_of}
-use Rattle.cert_laws.proofs.Spelt.{Spells, have_both}
+use Rattle.cert_grammar.specs.Prelude.{closing, heading_text, body_text, nothing_shared, PassShares, Skeleton, marks_of}
+use Rattle.cert_laws.proofs.Spelt.{Spells}
 use Rattle.cert_laws.proofs.SpeltWhole.{answer_of}
 use Rattle.cert_sharing.proofs.SpeltShares.{front_marks, same_version, spelt_front, pass_front}
 use Rattle.cert_openings.specs.Openings.{Opening, ortho_opening, quasi_opening, simplified_opening, certificate_for, uses_with, AreLeft, IsRead}
 use Rattle.cert_sharing.proofs.PassShares.{told_marks}
 use Rattle.cert_openings.specs.Laws.{IsReadTo}
-use Rattle.cert_openings.proofs.OpeningMarks.{opening_marks, whole_marks}
+use Rattle.cert_openings.proofs.OpeningMarks.{opening_marks, with_closing}
 
 -- ---- an opening and entries
 
@@ -113,18 +113,6 @@ unfolding opened
 opened_rest names bytes o end h = gone_rest names bytes o [] end h
 
 -- with the last line it is a text of the grammar
-skeleton : (names : NameTable) (bytes : List ℕ) (o : Opening) (end : ℕ) → Opened names bytes o end → Skeleton
-skeleton names bytes o end h = record {
-  names = name_of names;
-  uses = h.uses;
-  shared = h.shared;
-  answer = h.answer;
-  certificate = certificate_for o [];
-  allowed = h.allowed;
-  named = subst HaveNames (sym (whole_marks (name_of names) h.uses h.shared h.answer o)) (have_both (opening_marks (name_of names) h.uses h.shared h.answer o) closing h.spells.named tt);
-}
-
 pub with_end : (names : NameTable) (bytes : List ℕ) (o : Opening) (end : ℕ) → (h : Opened names bytes o end)
     → (s : Skeleton) × (marks_of s ≡ opening_marks (name_of names) h.uses h.shared h.answer o ++ closing)
-unfolding skeleton
-with_end names bytes o end h = (skeleton names bytes o end h, whole_marks (name_of names) h.uses h.shared h.answer o)
+with_end names bytes o end h = with_closing (name_of names) h.uses h.shared h.answer o h.allowed h.spells.named

@@ -138,8 +138,8 @@ front_found v all names bytes left given o es at used share p q a h e text place
     version = same_version v names all
 
     k : MeantFront (name_of names) names (uses_with v names all) (IsUsed v all) all given c
-    k = front_meant (uses_with v names all) c (name_of names) names (IsUsed v all) all given (of_certificate v all c p) (subst (λ (w : Version). IsOfVersion w c) (sym version) (plain_version v all c p))
-        a.named a.passed h
+    k = front_meant (uses_with v names all) c (name_of names) names (IsUsed v all) all given (of_certificate v all c p)
+        (subst (λ (w : Version). IsOfVersion w c) (sym version) (plain_version v all c p)) a.named a.passed h
 
     same : (c ≡ k.certificate) × AreShared (uses_with v names all) all (shared_by names k.certificate ++ k.left)
     same = k.same (λ f. refl) (shows v names all q) a.found

@@ -1,6 +1,6 @@
 -- Bytes are the text of one certificate at most.
 use Rattle.std.proofs.Common.{◌≡◌, ◌⊎◌, inl, inr, ℕ, suc, Bool, true, false, List, [], ◌∷◌, ◌++◌, length, codes, Option, Some, None, refl, sym, ap, ◌∙◌, append_assoc, arith}
-use Rattle.std.proofs.lemmas.List.{append_cancel_left}
+use Rattle.std.proofs.lemmas.List.{append-nil}
 use Rattle.rewriting.specs.Prelude.{Term, Position, Head, file, auxiliary}
 use Rattle.certificates.specs.Prelude.{Derivation, Automaton, InfeasibilityEvidence, by_caps, by_automaton, PairEvidence, trivial_pair, infeasible_pair, conflicting_pair, joined_pair}
 use Rattle.certificates.specs.Prelude.{unfeasible_pair, PairEntry, LinearEntry, MeasureCertificate, linear_measure, precedence_measure, Redex, Apartness, by_normal_forms, by_rigid_caps}
@@ -11,34 +11,16 @@ use Rattle.cert_grammar.specs.Prelude.{used_by_steps, automata_of, automaton_tex
 use Rattle.cert_grammar.specs.Prelude.{automaton_ends, Mark, fixed, closed, mark_text, marks_text, term_marks, derivation_marks, closing, use_marks, automaton_marks, automata_marks}
 use Rattle.cert_grammar.specs.Prelude.{infeasibility_marks, evidence_marks, pairs_marks, coefficients_marks, measured_marks, entries_marks, heads_marks, measure_marks, redexes_marks}
 use Rattle.cert_grammar.specs.Prelude.{apart_marks, simplifications_marks, body_marks, answer_marks, certificate_marks, is_among, texts_of, shared_by, number_in, uses_of, AreAutomata}
-use Rattle.cert_grammar.specs.Prelude.{Skeleton}
-use Rattle.cert_laws.specs.MarkLaws.{Alike, ended, same, parted}
-use Rattle.cert_laws.proofs.AlikePaths.{alike_automata, alike_skeletons}
-use Rattle.cert_laws.proofs.OneAnswer.{closes_all}
+use Rattle.cert_grammar.specs.Prelude.{HaveNames, Skeleton, states_line}
+use Rattle.cert_laws.proofs.AlikePaths.{same_marks, same_skeletons}
+use Rattle.cert_laws.proofs.SkeletonPaths.{nothing_left, automaton_path}
 use Rattle.cert_laws.proofs.SpeltWhole.{spelt_automaton}
-use Rattle.cert_laws.proofs.OneRefusal.{Closes, whole_goes}
 use Rattle.cert_laws.proofs.Spelt.{text_both}
 use Rattle.cert_laws.proofs.PassEvidence.{AllOf, all_of}
 use Rattle.cert_laws.proofs.Moves.{tail_same}
 use Rattle.cert_sharing.proofs.FirstUses.{AreAmong, place_text}
 use Rattle.cert_sharing.proofs.SpeltShares.{of_certificate, shared_are, shared_numbered, spelt_marks}
 use Rattle.cert_sharing.proofs.SameParts.{same_symbol, regroup, differ, clash, place_same, same_terms, same_derivation, same_automata}
-
--- ---- whole texts that are alike
-
-shorter : (m : Mark) (ms : List Mark) → (m ∷ ms ≡ []) ⊎ Closes (m ∷ ms) → (ms ≡ []) ⊎ Closes ms
-shorter m ms (inl c) = absurd cc
-shorter m ms (inr ([], t, c)) = inl cc
-shorter m ms (inr (d ∷ front, t, c)) = inr (front, t, cc)
-
-pub whole_same : {ms ns : List Mark} → Alike ms ns → (ms ≡ []) ⊎ Closes ms → (ns ≡ []) ⊎ Closes ns → marks_text ms ≡ marks_text ns → ms ≡ ns
-whole_same ended c d e = refl
-whole_same (same {m = m} {ms = ms} {ns = ns} k) c d e = ap (λ (l : List Mark). m ∷ l)
-    (whole_same k (shorter m ms c) (shorter m ns d) (append_cancel_left (mark_text m) (marks_text ms) (marks_text ns) e))
-whole_same (parted {m = m} {n = n} {ms = ms} {ns = ns} f) (inl c) d e = let q : m ∷ ms ≡ [] = c in absurd cc
-whole_same (parted {m = m} {n = n} {ms = ms} {ns = ns} f) (inr c) (inl d) e = let q : n ∷ ns ≡ [] = d in absurd cc
-whole_same (parted {m = m} {n = n} {ms = ms} {ns = ns} f) (inr c) (inr d) e = absurd
-    (f (marks_text (m ∷ ms)) (whole_goes (m ∷ ms) (marks_text (m ∷ ms)) c refl) (whole_goes (n ∷ ns) (marks_text (m ∷ ms)) d e))
 
 -- ---- parts that use automata
 
@@ -300,11 +282,9 @@ text_tells a b names h i e =
     let x = name_of names in
     let mine = spelt_automaton a names h in
     let yours = spelt_automaton b names i in
-    let texts : marks_text (automaton_marks x a ++ line_end) ≡ marks_text (automaton_marks x b ++ line_end) =
-    cc (text_both (automaton_marks x a) line_end, text_both (automaton_marks x b) line_end) in
-    let marks = whole_same (alike_automata a b x x mine.named yours.named) (inr (automaton_marks x a, codes "\n", refl))
-    (inr (automaton_marks x b, codes "\n", refl)) texts in
-    (same_automata a b names line_end line_end h i marks).0
+    let texts : marks_text (automaton_marks x a ++ []) ≡ marks_text (automaton_marks x b ++ []) = cc (append-nil (automaton_marks x a), append-nil (automaton_marks x b)) in
+    let path = λ (c : Automaton) (h : HaveNames (automaton_marks x c)). (automaton_path {s = []} {ks = []} c x h nothing_left).path in
+    (same_automata a b names [] [] h i (same_marks (automaton_marks x a ++ []) (automaton_marks x b ++ []) (states_line ∷ []) (path a mine.named) (path b yours.named) texts)).0
 
 -- ---- certificates
 
@@ -387,7 +367,7 @@ one_certificate names bytes c d (v, h) (w, k) =
     let yours = spelt_marks w names bytes d k in
     let s : Skeleton = record { names = x; uses = uses_of v names c; shared = shared_by names c; answer = mine.0; certificate = c; allowed = mine.3; named = mine.2 } in
     let t : Skeleton = record { names = x; uses = uses_of w names d; shared = shared_by names d; answer = yours.0; certificate = d; allowed = yours.3; named = yours.2 } in
-    let marks = whole_same (alike_skeletons s t) (inr (closes_all s)) (inr (closes_all t)) (mine.1 ∙ sym yours.1) in
+    let marks = same_skeletons s t (mine.1 ∙ sym yours.1) in
     (marks_tell v w names c d (shared_by names c) (shared_by names d) mine.0 yours.0 h.spelt.1 k.spelt.1 (own_stand v names c h.spelt.1) (own_stand w names d k.spelt.1)
     (ap (λ (u : Uses). certificate_marks x u (shared_by names c) mine.0 c) (sym (same_uses v names c)) ∙ marks
     ∙ ap (λ (u : Uses). certificate_marks x u (shared_by names d) yours.0 d) (same_uses w names d))).1

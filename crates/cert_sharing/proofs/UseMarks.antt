@@ -1,6 +1,7 @@
 -- What the marks of a certificate ask of its shared automata: the numbers of its uses, in order.
 use Rattle.std.proofs.Common.{◌≡◌, ℕ, suc, ◌+◌, ◌-◌, ◌≤◌, max, Bool, true, false, cond, not, List, [], ◌∷◌, ◌++◌, length, map, codes, Option, Some, None, refl, sym}
 use Rattle.std.proofs.Common.{arith, ap, ◌∙◌, subst, append_assoc, append-nil, le-leb}
+use Rattle.std.proofs.lemmas.List.{map-append}
 use Rattle.std.proofs.lemmas.Bool.{not-true}
 use Rattle.rewriting.specs.Prelude.{Term, Position}
 use Rattle.certificates.specs.Prelude.{Derivation, Automaton}
@@ -42,7 +43,8 @@ still_demands_are (shares e ∷ ds) s a h = absurd h
 still_demands_are (_ ∷ ds) s a h = still_demands_are ds s a h
 
 still_mark : (m : Mark) (ts : List (List ℕ)) (b : List ℕ) (u w : ℕ) → IsStill (demands_of m) → behind_mark m (state ts b u w) ≡ state ts (b ++ mark_text m) u w
-still_mark m ts b u w h = ap (λ (s : Shared). record { texts = s.texts; begun = s.begun ++ mark_text m; used = s.used; unfolds_to = s.unfolds_to }) (still_demands_are (demands_of m) (state ts b u w) 0 h).0
+still_mark m ts b u w h = ap (λ (s : Shared). record { texts = s.texts; begun = s.begun ++ mark_text m; used = s.used; unfolds_to = s.unfolds_to })
+    (still_demands_are (demands_of m) (state ts b u w) 0 h).0
 
 -- they only add their text to what was begun
 pub still_marks : (ms : List Mark) (ts : List (List ℕ)) (b : List ℕ) (u w : ℕ) → AreStill ms → behind_marks ms (state ts b u w) ≡ state ts (b ++ marks_text ms) u w
@@ -219,13 +221,6 @@ pub counts_put : (m : Mark) (ms : List Mark) (ns : List ℕ) → IsStill (demand
 counts_put m ms ns h k = counts_both (m ∷ []) ms [] ns (counts_still (m ∷ []) (h, tt)) k
 
 -- both demands of a use
-two : (v w : Bool) (x y : CertificateCause × ℕ)
-    → first_of (cond {A = Option (CertificateCause × ℕ)} v None (Some x)) (first_of (cond {A = Option (CertificateCause × ℕ)} w None (Some y)) None) ≡ None
-    → (v ≡ true) × (w ≡ true)
-two true true x y e = (refl, refl)
-two true false x y e = absurd cc
-two false w x y e = absurd cc
-
 pub two_met : (v w : Bool) (x y : CertificateCause × ℕ) → v ≡ true → w ≡ true
     → first_of (cond {A = Option (CertificateCause × ℕ)} v None (Some x)) (first_of (cond {A = Option (CertificateCause × ℕ)} w None (Some y)) None) ≡ None
 two_met true true x y e f = refl
@@ -254,13 +249,9 @@ abbrev pub numbers_of : Uses → List Automaton → List ℕ
 numbers_of in_full used = []
 numbers_of (by_number f) used = map f used
 
-pub map_both : (f : Automaton → ℕ) (a b : List Automaton) → map f (a ++ b) ≡ map f a ++ map f b
-map_both f [] b = refl
-map_both f (x ∷ a) b = ap (λ (l : List ℕ). f x ∷ l) (map_both f a b)
-
 numbers_both : (u : Uses) (a b : List Automaton) → numbers_of u (a ++ b) ≡ numbers_of u a ++ numbers_of u b
 numbers_both in_full a b = refl
-numbers_both (by_number f) a b = map_both f a b
+numbers_both (by_number f) a b = map-append f a b
 
 no_numbers : (u : Uses) (ms : List Mark) → AreStill ms → Counts ms (numbers_of u [])
 no_numbers in_full ms h = counts_still ms h
