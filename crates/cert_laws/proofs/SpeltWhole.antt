@@ -81,7 +81,8 @@ spelt_evidence (joined_pair d e) names u s h = put_bytes (codes "join\n") (put_t
 spelt_evidence (unfeasible_pair k d e) names u s h = put_bytes (codes "unfeasible ") (put_number k h.0 (put_bytes (codes "\n") (put_two
     (spelt_derivation d names h.1) (spelt_derivation e names h.2))))
 
-put_counted : {names : NameTable} {ms : List Mark} {t : List ℕ} (bytes : List ℕ) (what : Counted) (n : ℕ) → n ≤ limit what → Spells names ms t → Spells names (word bytes (is_few what n ∷ []) ∷ ms) (bytes ++ t)
+put_counted : {names : NameTable} {ms : List Mark} {t : List ℕ} (bytes : List ℕ) (what : Counted) (n : ℕ) → n ≤ limit what → Spells names ms t
+    → Spells names (word bytes (is_few what n ∷ []) ∷ ms) (bytes ++ t)
 put_counted {names = names} bytes what n few h = put_word bytes bytes (is_few what n ∷ []) refl (pass_few names what n [] few refl) h
 
 spelt_pairs : (ps : List PairEntry) (names : NameTable) (u : Uses) (n : ℕ) → AreShort u → n + length ps ≤ 20001 → ArePairs names ps
@@ -170,7 +171,8 @@ spelt_body (peak_certificate p) names u given s e h =
     (put_two (spelt_derivation p.second names h.3) (spelt_apart p.apart names u s h.4)))))))
 spelt_body (simplified_certificate ss c) names u given s e h =
     let few : length ss ≤ 21000 = h.1 in
-    put_bytes (codes "simplify ") (put_word (numeral (length ss)) (decimal (length ss)) (in_range 0 1 (suc largest) (length ss) ∷ is_few Counted.simplifications (length ss) ∷ []) (numeral_fits (length ss) (omega arith))
+    put_bytes (codes "simplify ") (put_word (numeral (length ss)) (decimal (length ss)) (in_range 0 1 (suc largest) (length ss) ∷ is_few Counted.simplifications (length ss) ∷ [])
+    (numeral_fits (length ss) (omega arith))
     (pass_range names 0 1 (suc largest) (length ss) (is_few Counted.simplifications (length ss) ∷ []) h.0 (omega arith) (pass_few names Counted.simplifications (length ss) [] few refl))
     (put_bytes (codes "\n") (put_two (spelt_steps ss names u s h.2) (spelt_body c names u given s e h.3))))
 

@@ -18,6 +18,7 @@ use Rattle.cert_laws.proofs.StuckReaders.{refused_where_stuck, refused_behind_en
 use Rattle.cert_laws.proofs.ExactReader.{weight, lighter}
 use Rattle.cert_sharing.specs.SharedLaws.{IsMetText, IsAnswer}
 use Rattle.cert_sharing.proofs.OneShared.{shares_anywhere}
+use Rattle.cert_sharing.proofs.UseMarks.{behind_both, pass_join}
 use Rattle.cert_sharing.proofs.Reaches.{moves_goes, no_shared, stops}
 use Rattle.cert_sharing.proofs.Exact.{met_never, one_certificate_refusal}
 
@@ -26,14 +27,6 @@ pub record At (names : NameTable) (bytes : List ℕ) (l : Left) (s : Shared) : T
   pub reached : Reached names bytes l
   pub passed : PassShares nothing_shared reached.front
   pub is : s ≡ behind_marks reached.front nothing_shared
-
-behind_more : (ms : List Mark) (m : Mark) (s : Shared) → behind_marks (ms ++ m ∷ []) s ≡ behind_mark m (behind_marks ms s)
-behind_more [] m s = refl
-behind_more (n ∷ ms) m s = behind_more ms m (behind_mark n s)
-
-pass_more : (ms : List Mark) (m : Mark) (s : Shared) → PassShares s ms → share_verdict (behind_marks ms s) 0 (demands_of m) ≡ None → PassShares s (ms ++ m ∷ [])
-pass_more [] m s h v = (v, tt)
-pass_more (n ∷ ms) m s h v = (h.0, pass_more ms m (behind_mark n s) h.1 v)
 
 abbrev pub IsSharedStepOf : NameTable → List ℕ → Left → SharedStep → Type 0
 IsSharedStepOf names bytes l (ends r) = IsAnswer names bytes r
@@ -78,8 +71,8 @@ module _ (names : NameTable) (bytes : List ℕ) (at : ℕ) (i : Item) (items : L
     on : verdict names 0 (demands_of m) ≡ None → share_verdict s 0 (demands_of m) ≡ None → At names bytes next (behind_mark m s)
     on v w = record {
       reached = next_reached names bytes at i items left a p.reached n e v;
-      passed = pass_more front m nothing_shared p.passed (subst (λ (x : Shared). share_verdict x 0 (demands_of m) ≡ None) p.is w);
-      is = ap (behind_mark m) p.is ∙ sym (behind_more front m nothing_shared);
+      passed = pass_join front (m ∷ []) nothing_shared p.passed (subst (λ (x : Shared). share_verdict x 0 (demands_of m) ≡ None) p.is w, tt);
+      is = ap (behind_mark m) p.is ∙ sym (behind_both front (m ∷ []) nothing_shared);
     }
 
     -- a demand on shared automata that is not met

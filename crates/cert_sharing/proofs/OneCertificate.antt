@@ -331,12 +331,10 @@ pub marks_tell : (v w : Version) (names : NameTable) (c d : Certificate) (bs ds 
 marks_tell first_version first_version names c d bs ds f g a b m n e =
     let r = same_answers f g (codes "concon 1\n") (codes "concon 1\n") _ _ refl refl refl refl e in
     let lines : body_marks (name_of names) in_full f c ++ closing ≡ body_marks (name_of names) in_full f d ++ closing = tail_same _ _ _ _ r.1
-    ∙ ap (λ (o : Option Bool). body_marks (name_of names) in_full o d ++ closing) (sym r.0) in (
-      refl,
-      same_bodies c d names in_full in_full (IsAutomaton names) (IsAutomaton names) f (in_full_same names) a b (all_automata (automata_of c) names (of_certificate c names a))
-          (all_automata (automata_of d) names (of_certificate d names b)) lines,
-      tt,
-    )
+    ∙ ap (λ (o : Option Bool). body_marks (name_of names) in_full o d ++ closing) (sym r.0) in
+    let mine = all_automata (automata_of c) names (of_certificate c names a) in
+    let yours = all_automata (automata_of d) names (of_certificate d names b) in
+    (refl, same_bodies c d names in_full in_full (IsAutomaton names) (IsAutomaton names) f (in_full_same names) a b mine yours lines, tt)
 marks_tell first_version second_version names c d bs ds f g a b m n e = let r = same_answers f g (codes "concon 1\n") (codes "concon 2\n") _ _ refl refl refl refl e in absurd (clash _ _ _ _ refl r.1)
 marks_tell second_version first_version names c d bs ds f g a b m n e = let r = same_answers f g (codes "concon 2\n") (codes "concon 1\n") _ _ refl refl refl refl e in absurd (clash _ _ _ _ refl r.1)
 marks_tell second_version second_version names c d bs ds f g a b m n e =
@@ -345,12 +343,10 @@ marks_tell second_version second_version names c d bs ds f g a b m n e =
     let w = by_number (number_in names ds) in
     let r = same_answers f g (codes "concon 2\n") (codes "concon 2\n") _ _ refl refl refl refl e in
     let all = same_shared bs ds names (body_marks x u f c ++ closing) (body_marks x w g d ++ closing) m.0 n.0 (cc) (cc) in
-    let lines : body_marks x u f c ++ closing ≡ body_marks x w f d ++ closing = all.1 ∙ ap (λ (o : Option Bool). body_marks x w o d ++ closing) (sym r.0) in (
-      refl,
-      same_bodies c d names u w (Known names bs) (Known names ds) f (numbers_same names bs ds all.0) a b
-          (all_known (automata_of c) bs names (of_certificate c names a) m.1) (all_known (automata_of d) ds names (of_certificate d names b) n.1) lines,
-      all.0,
-    )
+    let lines : body_marks x u f c ++ closing ≡ body_marks x w f d ++ closing = all.1 ∙ ap (λ (o : Option Bool). body_marks x w o d ++ closing) (sym r.0) in
+    let mine = all_known (automata_of c) bs names (of_certificate c names a) m.1 in
+    let yours = all_known (automata_of d) ds names (of_certificate d names b) n.1 in
+    (refl, same_bodies c d names u w (Known names bs) (Known names ds) f (numbers_same names bs ds all.0) a b mine yours lines, all.0)
 
 own_stand : (v : Version) (names : NameTable) (c : Certificate) → IsWithin names c → StandBefore v names c (shared_by names c)
 own_stand first_version names c a = tt
