@@ -1,7 +1,6 @@
 -- What is read along the marks of a certificate is its text: marks that pass, with symbols that are found, mean the certificate itself.
-use Rattle.std.proofs.Common.{◌≡◌, ◌+◌, ◌-◌, ℕ, zero, suc, Bool, true, List, [], ◌∷◌, ◌++◌, length, drop, take, slice_get, Option, None, refl, sym, ap, ◌∙◌, subst, arith}
+use Rattle.std.proofs.Common.{◌≡◌, ◌+◌, ℕ, zero, suc, Bool, true, List, [], ◌∷◌, ◌++◌, length, drop, take, Option, None, refl, sym, ap, ◌∙◌, subst, arith}
 use Rattle.std.proofs.lemmas.List.{drop_at, append-nil}
-use Rattle.general_lemmas.proofs.Options.{one_value}
 use Rattle.certificates.specs.Prelude.{Automaton, InfeasibilityEvidence, by_caps, by_automaton, PairEvidence, infeasible_pair, PairEntry, Redex, Apartness, by_normal_forms, by_rigid_caps}
 use Rattle.certificates.specs.Prelude.{Simplification, dropped, inlined, Certificate, ortho_certificate, quasi_certificate, peak_certificate, simplified_certificate}
 use Rattle.cops_names.specs.NameTable.{NameTable}
@@ -99,7 +98,7 @@ shows first_version names all p = λ a h. h
 shows second_version names all p = (
   plain_states all p,
   λ new a h.
-      let there : pick all h.0 ≡ a = one_value (slice_get all (h.0 - 1)) (pick all h.0) a (pick_stands all h.0 h.1 h.2) h.3 in
+      let there : pick all h.0 ≡ a = cc (pick_stands all h.0 h.1 h.2, h.3) in
       subst (λ (b : Automaton). pick all (number_in names all b) ≡ b) there (ap (pick all) (pick_number names all h.0 new h.1 h.2)),
 )
 
