@@ -1,12 +1,14 @@
 -- What the marks of a certificate's parts ask: numbers that stand in a word of their length, and whatever is asked of the answer
 -- and of shared automata is allowed.
-use Rattle.std.proofs.Common.{ℕ, suc, ◌+◌, ◌≤◌, List, [], ◌∷◌, ◌++◌, length, drop, Option, Some, None, length-append, arith}
+use Rattle.std.proofs.Common.{◌≡◌, ℕ, suc, ◌+◌, ◌≤◌, Bool, true, false, cond, ap, subst, List, [], ◌∷◌, ◌++◌, length, drop, Option, Some, None, length-append, arith}
 use Rattle.rewriting.specs.Prelude.{Term, var, app, Terms, nil, cons, size, Position, Head, file, auxiliary}
 use Rattle.certificates.specs.Prelude.{Derivation, no_steps, first_step, Step, by_rule, by_hypothesis, Derivations, no_derivations, first_derivation, Transition, Automaton}
 use Rattle.certificates.specs.Prelude.{InfeasibilityEvidence, by_caps, by_automaton, PairEvidence, trivial_pair, infeasible_pair, conflicting_pair, joined_pair, unfeasible_pair, PairEntry}
 use Rattle.certificates.specs.Prelude.{LinearEntry, MeasureCertificate, linear_measure, precedence_measure, Redex, Apartness, by_normal_forms, by_rigid_caps, Peak, Simplification, dropped}
 use Rattle.certificates.specs.Prelude.{inlined}
-use Rattle.cert_grammar.specs.Prelude.{Uses, in_full, by_number, Naming, Share, automaton_begins, is_use, is_light, Demand, in_range, fits_answer, shares, Mark, mark_text, demands_of}
+use Rattle.cops_names.specs.NameTable.{NameTable}
+use Rattle.cert_grammar.specs.Prelude.{CertificateCause, meets, refusal_of, refusal_place, verdict, Uses, in_full, by_number, Naming, Share, automaton_begins, is_use, is_light, Demand}
+use Rattle.cert_grammar.specs.Prelude.{in_range, fits_answer, shares, Mark, mark_text, demands_of}
 use Rattle.cert_grammar.specs.Prelude.{dotted, are_places, places_text, term_marks, arguments_marks, further_marks, steps_marks, step_marks, derivations_marks, derivation_marks}
 use Rattle.cert_grammar.specs.Prelude.{automaton_marks, heads_marks, measure_marks, simplifications_marks, accepting_marks, further_states_marks, states_marks, head_marks}
 use Rattle.cert_grammar.specs.Prelude.{transitions_marks, infeasibility_marks, evidence_marks, pairs_marks, coefficients_marks, measured_marks, entries_marks, redexes_marks, apart_marks}
@@ -38,6 +40,16 @@ module _ (Answer : Type 0) (Sharing : Share → Type 0) where
   pub both_ask : (a b : List Mark) → Ask a → Ask b → Ask (a ++ b)
   both_ask [] b h k = k
   both_ask (m ∷ a) b h k = (h.0, both_ask a b h.1 k)
+
+  -- where a demand is refused of those that ask so
+  pub judged_where : (P : ℕ → Type 0) (names : NameTable) (a n : ℕ) → ((d : Demand) → Asks Answer Sharing n d → P (refusal_place a d)) → (ds : List Demand) (e : CertificateCause) (at : ℕ)
+      → AllAsk Answer Sharing n ds → verdict names a ds ≡ Some (e, at) → P at
+  judged_where P names a n f [] e at h r = absurd cc
+  judged_where P names a n f (d ∷ ds) e at h r = by (meets names d) r (λ q. judged_where P names a n f ds e at h.1 q)
+    where
+      by : (v : Bool) → cond v (verdict names a ds) (Some (refusal_of d, refusal_place a d)) ≡ Some (e, at) → (verdict names a ds ≡ Some (e, at) → P at) → P at
+      by true r each = each r
+      by false r each = let q : (refusal_of d, refusal_place a d) ≡ (e, at) = cc in subst P (ap (λ (z : CertificateCause × ℕ). z.1) q) (f d h.0)
 
   places_ask : (n skip : ℕ) (p : Position) → skip + length (dotted p) ≤ n → AllAsk Answer Sharing n (are_places (skip + 1) p)
   places_ask n skip [] le = tt

@@ -9,11 +9,11 @@ use Rattle.cops_names.specs.NameTable.{NameTable}
 use Rattle.cert_grammar.specs.Prelude.{largest, name_of, numbers_text, further_states_text, states_text, head_text, transitions_text, automaton_text, infeasibility_text}
 use Rattle.cert_grammar.specs.Prelude.{evidence_text, pairs_text, AreAtMost, AreStates, IsHead, AreTransitions, IsAutomaton, IsInfeasibility, IsEvidence, ArePairs, IsName}
 use Rattle.cert_grammar.specs.Prelude.{measured_text, entries_text, heads_text, measure_text, redexes_text, apart_text, simplifications_text, body_text, automata_text}
-use Rattle.cert_grammar.specs.Prelude.{heading_text, answer_line, IsMeasured, AreEntries, AreHeads, IsMeasure, AreRedexEntries, IsApart, AreSimplifications, IsWithin, Uses}
-use Rattle.cert_grammar.specs.Prelude.{in_full, by_number, version_of, AreAutomata, Counted, limit, automaton_begins, is_use, is_light, all_used, in_range, is_few, fits_answer}
-use Rattle.cert_grammar.specs.Prelude.{shares, is_answer, Mark, word, closing, automata_marks, heading_marks, heads_marks, simplifications_marks, state, accepting_marks}
+use Rattle.cert_grammar.specs.Prelude.{heading_text, IsMeasured, AreEntries, AreHeads, IsMeasure, AreRedexEntries, IsApart, AreSimplifications, IsWithin, Uses}
+use Rattle.cert_grammar.specs.Prelude.{in_full, by_number, version_of, AreAutomata, Counted, limit, automaton_begins, is_use, is_light, in_range, is_few, fits_answer}
+use Rattle.cert_grammar.specs.Prelude.{shares, is_answer, Mark, word, automata_marks, heading_marks, heads_marks, simplifications_marks, state, accepting_marks}
 use Rattle.cert_grammar.specs.Prelude.{further_states_marks, states_marks, head_marks, transitions_marks, automaton_marks, infeasibility_marks, evidence_marks, pairs_marks}
-use Rattle.cert_grammar.specs.Prelude.{coefficients_marks, measured_marks, entries_marks, measure_marks, redexes_marks, apart_marks, body_marks, certificate_marks}
+use Rattle.cert_grammar.specs.Prelude.{coefficients_marks, measured_marks, entries_marks, measure_marks, redexes_marks, apart_marks, body_marks}
 use Rattle.cert_grammar.specs.WordMarks.{numeral}
 use Rattle.cert_grammar.proofs.Names.{name_is}
 use Rattle.cert_laws.proofs.Spelt.{Spells, nothing, put_bytes, put_word, put_two, put_number, put_count, put_position, put_symbol, put_arity, numeral_fits, met_first, pass_range, pass_few}
@@ -191,28 +191,3 @@ spelt_heading in_full names bs h = put_bytes (codes "concon 1\n") nothing
 spelt_heading (by_number f) names bs h =
     let few : length bs ≤ 1000 = h.0 in
     put_bytes (codes "concon 2\n") (put_bytes (codes "shared ") (put_count Counted.shared_automata (length bs) (omega arith) few (put_bytes (codes "\n") (spelt_automata bs names h.1))))
-
-spelt_lines : (c : Certificate) (names : NameTable) (u : Uses) (bs : List Automaton) (given : Option Bool) → AreShort u → HasHeading names u bs
-    → is_answer (answer_of c) given ≡ true → IsWithin names c
-    → Spells names (heading_marks (name_of names) u bs ++ (body_marks (name_of names) u given c ++ closing)) (heading_text (version_of u) names bs ++ (body_text names u c ++ codes "end\n"))
-spelt_lines c names u bs given s k e h =
-    put_two (spelt_heading u names bs k) (put_two (spelt_body c names u given s e h) (put_word (codes "end") (codes "end") (shares all_used ∷ []) refl refl (put_bytes (codes "\n") nothing)))
-
-fits_none : (told : Bool) → is_answer told None ≡ true
-fits_none true = refl
-fits_none false = refl
-
-pub spelt_alone : (c : Certificate) (names : NameTable) (u : Uses) (bs : List Automaton) → AreShort u → HasHeading names u bs → IsWithin names c
-    → Spells names (certificate_marks (name_of names) u bs None c) (heading_text (version_of u) names bs ++ (body_text names u c ++ codes "end\n"))
-spelt_alone c names u bs s k h = spelt_lines c names u bs None s k (fits_none (answer_of c)) h
-
-pub spelt_answered : (c : Certificate) (names : NameTable) (u : Uses) (bs : List Automaton) → AreShort u → HasHeading names u bs → IsWithin names c
-    → Spells names (certificate_marks (name_of names) u bs (Some (answer_of c)) c) (answer_line c ++ (heading_text (version_of u) names bs ++ (body_text names u c ++ codes "end\n")))
-spelt_answered c names u bs s k h = by c refl
-  where
-    by : (d : Certificate) → answer_of c ≡ answer_of d
-        → Spells names (certificate_marks (name_of names) u bs (Some (answer_of d)) c) (answer_line d ++ (heading_text (version_of u) names bs ++ (body_text names u c ++ codes "end\n")))
-    by (ortho_certificate ps) e = put_bytes (codes "YES\n") (spelt_lines c names u bs (Some true) s k (ap (λ (v : Bool). is_answer v (Some true)) e) h)
-    by (quasi_certificate m ps) e = put_bytes (codes "YES\n") (spelt_lines c names u bs (Some true) s k (ap (λ (v : Bool). is_answer v (Some true)) e) h)
-    by (peak_certificate p) e = put_bytes (codes "NO\n") (spelt_lines c names u bs (Some false) s k (ap (λ (v : Bool). is_answer v (Some false)) e) h)
-    by (simplified_certificate ss d) e = by d e

@@ -4,11 +4,12 @@ use Rattle.std.proofs.Common.{append_assoc, append-nil, length-append, arith}
 use Rattle.general_lemmas.proofs.Lists.{three_parts}
 use Rattle.certificates.specs.Prelude.{Automaton, PairEntry, Certificate}
 use Rattle.cops_names.specs.NameTable.{NameTable}
-use Rattle.cert_grammar.specs.Prelude.{position_text, Version, first_version, second_version, Uses, IsUnsimplified, CanSimplify, IsOfVersion, used_by_evidence, used_by_pairs, used_by_steps}
-use Rattle.cert_grammar.specs.Prelude.{automata_of, is_among, texts_of, with_new, shared_by, uses_of, unfolded_length, AllNew, AreAutomata, automaton_text, evidence_text, pairs_text}
-use Rattle.cert_grammar.specs.Prelude.{ArePairs, measure_text, simplifications_text, heading_text, body_text, answer_line, certificate_text, IsWithin, IsShared, IsCertificateText}
-use Rattle.cert_sharing.proofs.FirstUses.{told, pick, pick_number, numbered}
-use Rattle.cert_sharing.proofs.SpeltShares.{shared_are}
+use Rattle.cert_grammar.specs.Prelude.{position_text, Version, first_version, second_version, Uses, IsUnsimplified, IsOfVersion, used_by_evidence, used_by_pairs, used_by_steps}
+use Rattle.cert_grammar.specs.Prelude.{automata_of, is_among, texts_of, with_new, shared_by, unfolded_length, AllNew, AreAutomata, automaton_text, evidence_text, pairs_text}
+use Rattle.cert_grammar.specs.Prelude.{ArePairs, measure_text, simplifications_text, heading_text, body_text, answer_line, certificate_text, IsWithin, IsCertificateText}
+use Rattle.cert_sharing.proofs.FirstUses.{told, pick, pick_number}
+use Rattle.cert_sharing.proofs.PassShares.{is_shared}
+use Rattle.cert_sharing.proofs.SpeltShares.{front_text, whole_text, none_left}
 use Rattle.cert_openings.specs.Openings.{Opening, ortho_opening, quasi_opening, simplified_opening, certificate_for, uses_with, AreLeft, IsRead, Takes}
 use Rattle.cert_openings.specs.Laws.{IsWhole, IsReadTo, IsTold}
 
@@ -70,18 +71,14 @@ within_more (quasi_opening m) es p names l k h = let long = length-append es (p 
 within_more (simplified_opening steps o) es p names l k h = (h.0, h.1, h.2, within_more o es p names l k h.3)
 
 unsimplified_more : (o : Opening) (es ps : List PairEntry) → IsUnsimplified (certificate_for o es) → IsUnsimplified (certificate_for o ps)
-unsimplified_more ortho_opening es ps h = tt
-unsimplified_more (quasi_opening m) es ps h = tt
 unsimplified_more (simplified_opening steps o) es ps h = absurd h
-
-simplify_more : (v : Version) (o : Opening) (es ps : List PairEntry) → CanSimplify v (certificate_for o es) → CanSimplify v (certificate_for o ps)
-simplify_more first_version o es ps h = absurd h
-simplify_more second_version o es ps h = unsimplified_more o es ps h
+unsimplified_more _ es ps h = h
 
 allowed_more : (o : Opening) (es ps : List PairEntry) (v : Version) → IsOfVersion v (certificate_for o es) → IsOfVersion v (certificate_for o ps)
 allowed_more ortho_opening es ps v h = tt
 allowed_more (quasi_opening m) es ps v h = h
-allowed_more (simplified_opening steps o) es ps v h = simplify_more v o es ps h
+allowed_more (simplified_opening steps o) es ps first_version h = absurd h
+allowed_more (simplified_opening steps o) es ps second_version h = unsimplified_more o es ps h
 
 -- ---- what is shared and what is left
 
@@ -96,25 +93,19 @@ left_more first_version o es p names left then h t = t
 left_more second_version o es p names left then h t =
     let same = same_shared o es p names left then t.0 in
     let long = ap (unfolded_length names) (automata_more o es p) ∙ unfolded_both (automata_of (certificate_for o es)) (used_by_evidence p.evidence) names in
-    let most = t.1 in (
-      subst (λ (l : List Automaton). length l ≤ 1000) (sym same) h.0,
-      subst (λ (l : List Automaton). AllNew [] (texts_of names l)) (sym same) h.1,
-      subst (AreAutomata names) (sym same) h.2,
-      omega (arith, long, most),
-    )
+    let most = t.1 in
+    subst (λ (l : List Automaton). (length l ≤ 1000) × AllNew [] (texts_of names l) × AreAutomata names l × (unfolded_length names (automata_of (certificate_for o (es ++ p ∷ []))) ≤ 67108864))
+    (sym same) (h.0, h.1, h.2, omega (arith, long, most))
 
 -- the lines before the body and the numbers are those of before
-heading_more : (v : Version) (o : Opening) (es : List PairEntry) (p : PairEntry) (names : NameTable) (left then : List Automaton)
+front_more : (v : Version) (o : Opening) (es : List PairEntry) (p : PairEntry) (names : NameTable) (left then : List Automaton)
     → Takes v names (certificate_for o es) left (used_by_evidence p.evidence) then
-    → heading_text v names (shared_by names (certificate_for o (es ++ p ∷ [])) ++ then) ≡ heading_text v names (shared_by names (certificate_for o es) ++ left)
-heading_more first_version o es p names left then t = refl
-heading_more second_version o es p names left then t = ap (heading_text second_version names) (same_shared o es p names left then t.0)
-
-uses_more : (v : Version) (o : Opening) (es : List PairEntry) (p : PairEntry) (names : NameTable) (left then : List Automaton)
-    → Takes v names (certificate_for o es) left (used_by_evidence p.evidence) then
-    → uses_with v names (shared_by names (certificate_for o (es ++ p ∷ [])) ++ then) ≡ uses_with v names (shared_by names (certificate_for o es) ++ left)
-uses_more first_version o es p names left then t = refl
-uses_more second_version o es p names left then t = ap (uses_with second_version names) (same_shared o es p names left then t.0)
+    → (heading_text v names (shared_by names (certificate_for o (es ++ p ∷ [])) ++ then) ≡ heading_text v names (shared_by names (certificate_for o es) ++ left))
+    × (uses_with v names (shared_by names (certificate_for o (es ++ p ∷ [])) ++ then) ≡ uses_with v names (shared_by names (certificate_for o es) ++ left))
+front_more first_version o es p names left then t = (refl, refl)
+front_more second_version o es p names left then t =
+    let same = same_shared o es p names left then t.0 in
+    (ap (heading_text second_version names) same, ap (uses_with second_version names) same)
 
 pub entry_is_taken :
     (names : NameTable) (bytes : List ℕ) (o : Opening) (es : List PairEntry) (at : ℕ) (p : PairEntry) (left : List Automaton) (rest : List ℕ) → (h : IsRead names bytes o es at)
@@ -141,7 +132,7 @@ entry_is_taken names bytes o es at p then rest h l k e t =
         answer = h.answer;
         is_answer = h.is_answer;
         rest = rest;
-        text = cc (uses_more v o es p names h.left then t, heading_more v o es p names h.left then t);
+        text = (let same = front_more v o es p names h.left then t in cc);
         place = omega (arith, ap length e ∙ length-append one rest, h.place);
       };
       is_version = refl;
@@ -168,7 +159,7 @@ number_tells names now left n h low high most =
       stands = pick_stands (now ++ left) n low high;
       number = pick_number names (now ++ left) n h low high;
       then = r.left;
-      takes = ap (λ (l : List Automaton). l ++ r.left) r.is ∙ sym r.parts;
+      takes = r.parts;
     }
 
 -- ---- the whole text
@@ -178,36 +169,6 @@ answer_is ortho_opening es = refl
 answer_is (quasi_opening m) es = refl
 answer_is (simplified_opening steps o) es = answer_is o es
 
-uses_same : (v : Version) (names : NameTable) (c : Certificate) → uses_of v names c ≡ uses_with v names (shared_by names c)
-uses_same first_version names c = refl
-uses_same second_version names c = refl
-
--- a text with this front
-abbrev text_behind : NameTable → Version → Certificate → List ℕ → List Automaton → List ℕ → List ℕ
-text_behind names v c answer all rest = answer ++ (heading_text v names all ++ (body_text names (uses_with v names all) c ++ rest))
-
-none_left : (v : Version) (names : NameTable) (c : Certificate) → IsWithin names c → IsShared v names c → AreLeft v names c []
-none_left first_version names c w h = refl
-none_left second_version names c w h =
-    let same = append-nil (shared_by names c) in (
-      subst (λ (l : List Automaton). length l ≤ 1000) (sym same) h.0,
-      subst (λ (l : List Automaton). AllNew [] (texts_of names l)) (sym same) (numbered (automata_of c) names [] tt).new,
-      subst (AreAutomata names) (sym same) (shared_are names c w),
-      h.1,
-    )
-
-is_shared : (v : Version) (names : NameTable) (c : Certificate) (left : List Automaton) → left ≡ [] → AreLeft v names c left → IsShared v names c
-is_shared first_version names c left e h = tt
-is_shared second_version names c left e h = (subst (λ (l : List Automaton). length l ≤ 1000) (ap (λ (l : List Automaton). shared_by names c ++ l) e ∙ append-nil (shared_by names c)) h.0, h.3)
-
-whole_text : (names : NameTable) (v : Version) (c : Certificate) (answer : List ℕ) (left : List Automaton) (rest : List ℕ) → left ≡ [] → rest ≡ codes "end\n"
-    → text_behind names v c answer (shared_by names c ++ left) rest ≡ answer ++ certificate_text v names c
-whole_text names v c answer left rest e f =
-    let shared = shared_by names c in
-    ap (text_behind names v c answer (shared ++ left)) f
-    ∙ ap (λ (l : List Automaton). text_behind names v c answer l (codes "end\n")) (ap (λ (l : List Automaton). shared ++ l) e ∙ append-nil shared)
-    ∙ ap (λ (u : Uses). answer ++ (heading_text v names shared ++ (body_text names u c ++ codes "end\n"))) (sym (uses_same v names c))
-
 pub whole_is_text : (names : NameTable) (bytes : List ℕ) (o : Opening) (es : List PairEntry) (at : ℕ) → (h : IsRead names bytes o es at) → h.left ≡ [] → h.rest ≡ codes "end\n"
     → IsCertificateText names bytes (certificate_for o es)
 whole_is_text names bytes o es at h e f = (h.version, record { spelt = (h.allowed, h.within, is_shared h.version names c h.left e h.are_left); text = by h.is_answer })
@@ -216,7 +177,11 @@ whole_is_text names bytes o es at h e f = (h.version, record { spelt = (h.allowe
     c = certificate_for o es
 
     text : bytes ≡ h.answer ++ certificate_text h.version names c
-    text = h.text ∙ whole_text names h.version c h.answer h.left h.rest e f
+    text =
+        let all = shared_by names c ++ h.left in
+        h.text ∙ ap (λ (w : List ℕ). h.answer ++ w) (sym (append_assoc (heading_text h.version names all) (body_text names (uses_with h.version names all) c) h.rest)
+        ∙ ap (λ (w : List ℕ). front_text names h.version c all ++ w) f
+        ∙ ap (λ (l : List Automaton). front_text names h.version c (shared_by names c ++ l) ++ codes "end\n") e ∙ whole_text h.version names c)
 
     by : (h.answer ≡ []) ⊎ (h.answer ≡ codes "YES\n") → (bytes ≡ certificate_text h.version names c) ⊎ (bytes ≡ answer_line c ++ certificate_text h.version names c)
     by (inl q) = inl (text ∙ ap (λ (a : List ℕ). a ++ certificate_text h.version names c) q)
@@ -233,7 +198,7 @@ text_is_whole names bytes o es (v, h) = by h.text
         let all = shared_by names c ++ [] in
         let heading = heading_text v names all in
         let body = body_text names (uses_with v names all) c in
-        let text = e ∙ sym (whole_text names v c answer [] (codes "end\n") refl refl) in
+        let text = e ∙ ap (λ (w : List ℕ). answer ++ w) (sym (whole_text v names c) ∙ append_assoc heading body (codes "end\n")) in
         record {
           at = length (answer ++ (heading ++ body));
           read = record {

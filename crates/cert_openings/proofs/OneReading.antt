@@ -1,19 +1,19 @@
 -- Two readings of a text up to one place are one.
-use Rattle.std.proofs.Common.{◌≡◌, ◌⊎◌, inl, inr, ℕ, suc, ◌+◌, Bool, List, [], ◌∷◌, ◌++◌, length, Option, Some, None, refl, sym, ap, ◌∙◌, subst, codes, arith}
+use Rattle.std.proofs.Common.{◌≡◌, ℕ, suc, Bool, List, [], ◌∷◌, ◌++◌, length, Option, refl, sym, ap, ◌∙◌, subst, codes, arith}
 use Rattle.std.proofs.lemmas.List.{append_cancel_left, length-append}
 use Rattle.general_lemmas.proofs.Lists.{three_parts}
 use Rattle.certificates.specs.Prelude.{Automaton, PairEntry, Simplification, Certificate}
 use Rattle.cops_names.specs.NameTable.{NameTable}
-use Rattle.cert_grammar.specs.Prelude.{name_of, Version, first_version, second_version, Uses, version_of, IsOfVersion, automata_of, shared_by, marks_text, certificate_marks}
-use Rattle.cert_grammar.specs.Prelude.{heading_text, body_text, answer_line, HaveNames, Skeleton}
+use Rattle.cert_grammar.specs.Prelude.{name_of, closing, is_answer, Version, first_version, second_version, Uses, version_of, IsOfVersion, shared_by, marks_text, certificate_marks}
+use Rattle.cert_grammar.specs.Prelude.{heading_text, body_text, HaveNames, Skeleton}
 use Rattle.cert_laws.proofs.AlikePaths.{same_skeletons}
-use Rattle.cert_laws.proofs.SpeltWhole.{answer_of, spelt_alone, spelt_answered}
-use Rattle.cert_sharing.proofs.SpeltShares.{shared_numbered}
+use Rattle.cert_laws.proofs.Spelt.{have_both, text_both}
+use Rattle.cert_sharing.proofs.SpeltShares.{front_marks, numbered_with, same_version, spelt_front, whole_marks}
+use Rattle.cert_sharing.proofs.SpeltShares as before
 use Rattle.cert_sharing.proofs.OneCertificate.{numbered_in, StandBefore, AreSame, marks_tell}
 use Rattle.cert_openings.specs.Openings.{Opening, ortho_opening, quasi_opening, simplified_opening, certificate_for, uses_with, AreLeft, IsRead}
 use Rattle.cert_openings.specs.Laws.{AreOne}
-use Rattle.cert_openings.proofs.Entries.{answer_is}
-use Rattle.cert_openings.proofs.Opened.{same_version, short_with, heading_with, among_all}
+use Rattle.cert_openings.proofs.Opened.{given_of, told_is}
 
 -- two cuts of a list with ends of one length
 same_cut : (u v r s : List ℕ) → u ++ r ≡ v ++ s → length r ≡ length s → (u ≡ v) × (r ≡ s)
@@ -52,50 +52,24 @@ record Marked (names : NameTable) (v : Version) (c : Certificate) (answer : List
 
 marked : (names : NameTable) (bytes : List ℕ) (o : Opening) (es : List PairEntry) (at : ℕ) → (h : IsRead names bytes o es at)
     → Marked names h.version (certificate_for o es) h.answer (shared_by names (certificate_for o es) ++ h.left)
-marked names bytes o es at h = by h.is_answer
-  where
-    c : Certificate
-    c = certificate_for o es
-
-    all : List Automaton
-    all = shared_by names c ++ h.left
-
-    u : Uses
-    u = uses_with h.version names all
-
-    version : version_of u ≡ h.version
-    version = same_version h.version names all
-
-    allowed : IsOfVersion (version_of u) c
-    allowed = subst (λ (w : Version). IsOfVersion w c) (sym version) h.allowed
-
-    behind : List ℕ
-    behind = body_text names u c ++ codes "end\n"
-
-    by : (h.answer ≡ []) ⊎ (h.answer ≡ codes "YES\n") → Marked names h.version c h.answer all
-    by (inl e) =
-        let p = spelt_alone c names u all (short_with h.version names c h.left h.are_left) (heading_with h.version names c h.left h.are_left) h.within in
-        record {
-          given = None;
-          text = p.text ∙ ap (λ (w : Version). heading_text w names all ++ behind) version ∙ ap (λ (a : List ℕ). a ++ (heading_text h.version names all ++ behind)) (sym e)
-              ∙ three_parts h.answer (heading_text h.version names all) (body_text names u c) (codes "end\n");
-          named = p.named;
-          allowed = allowed;
-        }
-    by (inr e) =
-        let p = spelt_answered c names u all (short_with h.version names c h.left h.are_left) (heading_with h.version names c h.left h.are_left) h.within in
-        record {
-          given = Some (answer_of c);
-          text = p.text ∙ ap (λ (w : Version). answer_line c ++ (heading_text w names all ++ behind)) version
-              ∙ ap (λ (a : List ℕ). a ++ (heading_text h.version names all ++ behind)) (answer_is o es ∙ sym e)
-              ∙ three_parts h.answer (heading_text h.version names all) (body_text names u c) (codes "end\n");
-          named = p.named;
-          allowed = allowed;
-        }
+marked names bytes o es at h =
+    let c = certificate_for o es in
+    let all = shared_by names c ++ h.left in
+    let u = uses_with h.version names all in
+    let g = given_of h.answer h.is_answer in
+    let front = front_marks (name_of names) u all g.0 c in
+    let whole = whole_marks (name_of names) u all g.0 c in
+    let p = spelt_front h.version names c h.left g.0 h.are_left (ap (λ (b : Bool). is_answer b g.0) (told_is o es) ∙ g.2) h.within in
+    record {
+      given = g.0;
+      text = ap marks_text whole ∙ text_both front closing ∙ ap (λ (w : List ℕ). w ++ codes "end\n") (p.text ∙ ap (λ (w : List ℕ). w ++ before.front_text names h.version c all) (sym g.1));
+      named = subst HaveNames (sym whole) (have_both front closing p.named tt);
+      allowed = subst (λ (w : Version). IsOfVersion w c) (sym (same_version h.version names all)) h.allowed;
+    }
 
 stand : (v : Version) (names : NameTable) (c : Certificate) (left : List Automaton) → AreLeft v names c left → StandBefore v names c (shared_by names c ++ left)
 stand first_version names c left h = tt
-stand second_version names c left h = (h.2, among_all (automata_of c) names (shared_by names c) left (shared_numbered names c).each)
+stand second_version names c left h = (h.2, (numbered_with names c left).each)
 
 left_same : (v w : Version) (names : NameTable) (c d : Certificate) (l m : List Automaton) → v ≡ w → c ≡ d → AreLeft v names c l → AreLeft w names d m
     → AreSame v (shared_by names c ++ l) (shared_by names d ++ m) → l ≡ m

@@ -1,19 +1,32 @@
--- What passes along its marks, with symbols that are found, is within the limits.
-use Rattle.std.proofs.Common.{◌≡◌, ℕ, suc, ◌+◌, ◌≤◌, max, true, List, [], ◌∷◌, ◌++◌, length, take, Option, Some, None, codes, sym, subst, arith}
-use Rattle.rewriting.specs.Terms.{Term, var, app, Terms, nil, cons, count, size, size_all, depth, depth_all}
-use Rattle.certificates.specs.Evidence.{Transition, Automaton}
+-- What is read along the marks of a certificate is its text: marks that pass, with symbols that are found, mean the certificate itself.
+use Rattle.std.proofs.Common.{◌≡◌, ◌+◌, ℕ, zero, suc, Bool, true, List, [], ◌∷◌, ◌++◌, length, drop, take, Option, None, refl, sym, ap, ◌∙◌, subst, arith}
+use Rattle.std.proofs.lemmas.List.{drop_at, append-nil}
+use Rattle.certificates.specs.Prelude.{Automaton, InfeasibilityEvidence, by_caps, by_automaton, PairEvidence, infeasible_pair, PairEntry, Redex, Apartness, by_normal_forms, by_rigid_caps}
+use Rattle.certificates.specs.Prelude.{Simplification, dropped, inlined, Certificate, ortho_certificate, quasi_certificate, peak_certificate, simplified_certificate}
 use Rattle.cops_names.specs.NameTable.{NameTable}
-use Rattle.cert_grammar.specs.Prelude.{largest, name_of, IsSpelt, AreSpelt, AreStates, IsHead, AreTransitions, IsAutomaton, Counted, has_arity, is_few, Mark, fixed, symbol, behind}
-use Rattle.cert_grammar.specs.Prelude.{is_node, number_for, term_marks, arguments_marks, further_marks, state, accepting_marks, states_marks, head_marks, transitions_marks}
-use Rattle.cert_grammar.specs.Prelude.{automaton_marks, HaveNames, Pass, Lead, name_lead, leads, is_there}
-use Rattle.cert_grammar.specs.Prelude.{mark_of, taken, Left}
-use Rattle.cert_grammar.proofs.Names.{found_is_named}
+use Rattle.cert_grammar.specs.Prelude.{name_of, Version, first_version, second_version, version_of, IsOfVersion, used_by, used_by_evidence, used_by_pairs, used_by_redexes, used_by_apart}
+use Rattle.cert_grammar.specs.Prelude.{used_by_steps, automata_of, number_in, shared_by, AreAutomata, Naming, Mark, marks_text, automata_marks, certificate_marks, HaveNames}
+use Rattle.cert_grammar.specs.Prelude.{Pass, Shared, nothing_shared, behind_marks, PassShares, opening, IsVersionText, IsCertificateText, Lead, name_lead, leads, is_there, mark_of, taken, Left}
 use Rattle.cert_grammar.proofs.ScanWords.{name_is}
-use Rattle.cert_laws.proofs.Spelt.{have_append}
+use Rattle.cert_laws.specs.FoundNames.{tagged, AreFound, AreWithoutStates}
 use Rattle.cert_laws.proofs.Paths.{first_sound, found_there}
-use Rattle.cert_laws.proofs.PassTerms.{range_met, few_met, pass_append, symbol_met, arity_met, node_passed}
-use Rattle.cert_laws.proofs.PassEvidence.{accepting_met, states_met}
-use Rattle.cert_words.specs.Walks.{Walks, tagged, AreFound, HasNoStates, AreWithoutStates}
+use Rattle.cert_laws.proofs.PassEvidence.{AllOf}
+use Rattle.cert_sharing.specs.Fronts.{uses_with, AreLeft}
+use Rattle.cert_sharing.proofs.FirstUses.{pick, pick_number}
+use Rattle.cert_sharing.proofs.SpeltShares.{front_marks, same_version}
+use Rattle.cert_sharing.proofs.PassShares.{Shows, IsCounted, AreShared, MeantFront, front_meant, text_meant, meant_automata}
+use Rattle.cert_openings.specs.Openings.{Opening, certificate_for}
+use Rattle.cert_openings.specs.Laws.{IsReadTo}
+use Rattle.cert_openings.proofs.Entries.{pick_stands}
+use Rattle.cert_openings.proofs.Back.{read_meant}
+use Rattle.cert_shares.specs.SharesView.{with_begun}
+use Rattle.cert_words.specs.declared.reading.Reading.{Reading}
+use Rattle.cert_words.specs.Walks.{Walks, Run}
+use Rattle.cert_words.proofs.Whole.{walks_text, walks_pass}
+use Rattle.cert_reading.specs.Shared.{ArePlainAutomata}
+use Rattle.cert_reading.specs.Plain.{IsUsed, HasUsed, EvidenceUses, PairsUse, RedexesUse, ApartUses, StepsUse, IsPlainBy}
+use Rattle.cert_reading.specs.Whole.{CanShare, ReadsCertificate}
+use Rattle.cert_reading.proofs.Stopping.{ran}
 
 -- ---- names that are walked over are identifiers
 
@@ -26,120 +39,134 @@ walks_named names [] l k w = tt
 walks_named names (m ∷ ms) l k w = subst (λ (n : Mark). HaveNames (n ∷ ms)) (sym w.1.mark)
     (named_lead w.1.lead l.bytes ms (first_sound (leads w.1.item) w.1.lead l.bytes w.1.first).1 (walks_named names ms w.0 k w.2))
 
--- ---- taking what is found apart
+-- marks that pass, for names that are found
+pub record Along (names : NameTable) (f : Naming → List Mark) : Type 0 where
+  pub named : HaveNames (f (name_of names))
+  pub passed : Pass names (f (name_of names))
+  pub found : AreFound names (f tagged)
 
-pub found_append : (names : NameTable) (a b : List Mark) → AreFound names (a ++ b) → AreFound names a × AreFound names b
-found_append names [] b h = (tt, h)
-found_append names (symbol name demands ∷ a) b h = let r = found_append names a b h.1 in ((h.0, r.0), r.1)
-found_append names (_ ∷ a) b h = found_append names a b h
+-- ---- what is known of automata that are used
 
--- ---- terms
+join_all : {A : Type 0} (P : A → Type 0) (a b : List A) → AllOf P a → AllOf P b → AllOf P (a ++ b)
+join_all P [] b h k = k
+join_all P (x ∷ a) b h k = (h.0, join_all P a b h.1 k)
 
-pub record TermWithin (names : NameTable) (level n : ℕ) (t : Term) : Type 0 where
-  pub spelt : IsSpelt names t
-  pub few : n + size t ≤ 10001
-  pub low : level + depth t ≤ 401
+of_infeasibility : (v : Version) (all : List Automaton) (e : InfeasibilityEvidence) → HasUsed v all e → AllOf (IsUsed v all) (used_by e)
+of_infeasibility v all by_caps h = tt
+of_infeasibility v all (by_automaton k a) h = (h, tt)
 
-pub record TermsWithin (names : NameTable) (level n : ℕ) (ts : Terms) : Type 0 where
-  pub spelt : AreSpelt names ts
-  pub few : n + size_all ts ≤ 10001
-  pub low : level + depth_all ts ≤ 401
+of_evidence : (v : Version) (all : List Automaton) (e : PairEvidence) → EvidenceUses v all e → AllOf (IsUsed v all) (used_by_evidence e)
+of_evidence v all (infeasible_pair e) h = of_infeasibility v all e h
+of_evidence v all _ h = tt
 
-mutual
-  pub term_within : (t : Term) (names : NameTable) (level n : ℕ) → HaveNames (term_marks (name_of names) level n t) → Pass names (term_marks (name_of names) level n t)
-      → AreFound names (term_marks tagged level n t) → TermWithin names level n t
-  term_within (var x) names level n i h f =
-      let r = range_met names 1 0 (suc largest) x (is_node level n) h.0 in
-      let s = node_passed names level n r.2 in
-      record {
-        spelt = (let q : x ≤ largest = omega (arith, s.1, s.0, r.1) in q);
-        few = (let q : n + 1 ≤ 10001 = omega (arith, s.1, s.0, r.1) in q);
-        low = (let q : level + 1 ≤ 401 = omega (arith, s.1, s.0, r.1) in q);
-      }
-  term_within (app g ts) names level n i h f =
-      let name = name_of names g in
-      let k = symbol_met names name (is_node level n) h.0 in
-      let s = node_passed names level n k.others in
-      let parts = pass_append names (arguments_marks (name_of names) (suc level) (suc n) ts) (behind (has_arity name (count ts)) ∷ []) h.1 in
-      let inner = have_append (arguments_marks (name_of names) (suc level) (suc n) ts) (behind (has_arity name (count ts)) ∷ []) i.1 in
-      let known = found_append names (arguments_marks tagged (suc level) (suc n) ts) (behind (has_arity (tagged g) (count ts)) ∷ []) f.1 in
-      let others = arguments_within ts names (suc level) (suc n) inner.0 parts.0 known.0 (omega (arith, s.1, s.0)) (omega (arith, s.1, s.0)) in
-      record {
-        spelt = ((name, record { named = found_is_named names name g f.0; identifier = i.0; found = f.0; arity = arity_met names name (count ts) g f.0 parts.1.0 }), others.spelt);
-        few = (let q : n + suc (size_all ts) ≤ 10001 = omega (arith, others.low, others.few, s.1, s.0) in q);
-        low = (let q : level + suc (depth_all ts) ≤ 401 = omega (arith, others.low, others.few, s.1, s.0) in q);
-      }
+of_pairs : (v : Version) (all : List Automaton) (ps : List PairEntry) → PairsUse v all ps → AllOf (IsUsed v all) (used_by_pairs ps)
+of_pairs v all [] h = tt
+of_pairs v all (p ∷ ps) h = join_all (IsUsed v all) (used_by_evidence p.evidence) (used_by_pairs ps) (of_evidence v all p.evidence h.0) (of_pairs v all ps h.1)
 
-  pub arguments_within : (ts : Terms) (names : NameTable) (level n : ℕ) → HaveNames (arguments_marks (name_of names) level n ts)
-      → Pass names (arguments_marks (name_of names) level n ts) → AreFound names (arguments_marks tagged level n ts) → n ≤ 10001 → level ≤ 401 → TermsWithin names level n ts
-  arguments_within nil names level n i h f p q = record { spelt = tt; few = omega arith; low = omega arith }
-  arguments_within (cons t ts) names level n i h f p q =
-      let first = term_within t names level n (have_append (term_marks (name_of names) level n t) (further_marks (name_of names) level (n + size t) ts) i).0
-      (pass_append names (term_marks (name_of names) level n t) (further_marks (name_of names) level (n + size t) ts) h.1).0
-      (found_append names (term_marks tagged level n t) (further_marks tagged level (n + size t) ts) f).0 in
-      let others = further_within ts names level (n + size t) (have_append (term_marks (name_of names) level n t) (further_marks (name_of names) level (n + size t) ts) i).1
-      (pass_append names (term_marks (name_of names) level n t) (further_marks (name_of names) level (n + size t) ts) h.1).1
-      (found_append names (term_marks tagged level n t) (further_marks tagged level (n + size t) ts) f).1 (omega (arith, first.low, first.few)) q in
-      record {
-        spelt = (first.spelt, others.spelt);
-        few = (let r : n + (size t + size_all ts) ≤ 10001 = omega (arith, others.low, others.few, first.low, first.few) in r);
-        low = (let r : level + max (depth t) (depth_all ts) ≤ 401 = omega (arith, others.low, others.few, first.low, first.few) in r);
-      }
+of_redexes : (v : Version) (all : List Automaton) (rs : List Redex) → RedexesUse v all rs → AllOf (IsUsed v all) (used_by_redexes rs)
+of_redexes v all [] h = tt
+of_redexes v all (r ∷ rs) h = join_all (IsUsed v all) (used_by r.evidence) (used_by_redexes rs) (of_infeasibility v all r.evidence h.0) (of_redexes v all rs h.1)
 
-  pub further_within : (ts : Terms) (names : NameTable) (level n : ℕ) → HaveNames (further_marks (name_of names) level n ts) → Pass names (further_marks (name_of names) level n ts)
-      → AreFound names (further_marks tagged level n ts) → n ≤ 10001 → level ≤ 401 → TermsWithin names level n ts
-  further_within nil names level n i h f p q = record { spelt = tt; few = omega arith; low = omega arith }
-  further_within (cons t ts) names level n i h f p q =
-      let first = term_within t names level n (have_append (term_marks (name_of names) level n t) (further_marks (name_of names) level (n + size t) ts) i).0
-      (pass_append names (term_marks (name_of names) level n t) (further_marks (name_of names) level (n + size t) ts) h.1).0
-      (found_append names (term_marks tagged level n t) (further_marks tagged level (n + size t) ts) f).0 in
-      let others = further_within ts names level (n + size t) (have_append (term_marks (name_of names) level n t) (further_marks (name_of names) level (n + size t) ts) i).1
-      (pass_append names (term_marks (name_of names) level n t) (further_marks (name_of names) level (n + size t) ts) h.1).1
-      (found_append names (term_marks tagged level n t) (further_marks tagged level (n + size t) ts) f).1 (omega (arith, first.low, first.few)) q in
-      record {
-        spelt = (first.spelt, others.spelt);
-        few = (let r : n + (size t + size_all ts) ≤ 10001 = omega (arith, others.low, others.few, first.low, first.few) in r);
-        low = (let r : level + max (depth t) (depth_all ts) ≤ 401 = omega (arith, others.low, others.few, first.low, first.few) in r);
-      }
+of_apart : (v : Version) (all : List Automaton) (a : Apartness) → ApartUses v all a → AllOf (IsUsed v all) (used_by_apart a)
+of_apart v all (by_normal_forms rs) h = of_redexes v all rs h
+of_apart v all by_rigid_caps h = tt
 
--- ---- automata
+of_steps : (v : Version) (all : List Automaton) (ss : List Simplification) → StepsUse v all ss → AllOf (IsUsed v all) (used_by_steps ss)
+of_steps v all [] h = tt
+of_steps v all (dropped r e ∷ ss) h = join_all (IsUsed v all) (used_by e) (used_by_steps ss) (of_infeasibility v all e h.0) (of_steps v all ss h.1)
+of_steps v all (inlined r k ∷ ss) h = of_steps v all ss h
 
-head_within : (g : Option ℕ) (names : NameTable) (bound : ℕ) (qs : List ℕ) → HasNoStates g qs → HaveNames (head_marks (name_of names) bound g qs)
-    → Pass names (head_marks (name_of names) bound g qs) → AreFound names (head_marks tagged bound g qs) → IsHead names g qs × AreStates bound qs
-head_within None names bound qs e i h f = (e, subst (AreStates bound) (sym e) tt)
-head_within (Some g) names bound qs e i h f =
-    let name = name_of names g in
-    let parts = pass_append names (states_marks bound qs) (behind (has_arity name (length qs)) ∷ []) h.1 in
-    ((name, record { named = found_is_named names name g f.0; identifier = i.0; found = f.0; arity = arity_met names name (length qs) g f.0 parts.1.0 }), states_met qs names bound parts.0)
+pub of_certificate : (v : Version) (all : List Automaton) (c : Certificate) → IsPlainBy v all c → AllOf (IsUsed v all) (automata_of c)
+of_certificate v all (ortho_certificate ps) h = of_pairs v all ps h
+of_certificate v all (quasi_certificate m ps) h = of_pairs v all ps h.1
+of_certificate v all (peak_certificate p) h = of_apart v all p.apart h
+of_certificate v all (simplified_certificate ss c) h = join_all (IsUsed v all) (used_by_steps ss) (automata_of c) (of_steps v all ss h.1) (of_certificate v all c h.2)
 
-abbrev target_marks : ℕ → ℕ → List Mark
-target_marks bound q = fixed (codes " ") ∷ state bound q ∷ fixed (codes "\n") ∷ []
+plain_version : (v : Version) (all : List Automaton) (c : Certificate) → IsPlainBy v all c → IsOfVersion v c
+plain_version v all (ortho_certificate ps) p = tt
+plain_version v all (quasi_certificate m ps) p = p.0
+plain_version v all (peak_certificate x) p = tt
+plain_version v all (simplified_certificate ss c) p = p.0
 
-transitions_within : (ts : List Transition) (names : NameTable) (bound : ℕ) → AreWithoutStates ts → HaveNames (transitions_marks (name_of names) bound ts)
-    → Pass names (transitions_marks (name_of names) bound ts) → AreFound names (transitions_marks tagged bound ts) → AreTransitions names bound ts
-transitions_within [] names bound e i h f = tt
-transitions_within (t ∷ ts) names bound e i h f =
-    let parts = pass_append names (head_marks (name_of names) bound t.symbol t.arguments ++ target_marks bound t.target) (transitions_marks (name_of names) bound ts) h in
-    let names_in = have_append (head_marks (name_of names) bound t.symbol t.arguments ++ target_marks bound t.target) (transitions_marks (name_of names) bound ts) i in
-    let known = found_append names (head_marks tagged bound t.symbol t.arguments ++ target_marks bound t.target) (transitions_marks tagged bound ts) f in
-    let line = pass_append names (head_marks (name_of names) bound t.symbol t.arguments) (target_marks bound t.target) parts.0 in
-    let head = head_within t.symbol names bound t.arguments e.0 (have_append (head_marks (name_of names) bound t.symbol t.arguments) (target_marks bound t.target) names_in.0).0
-    line.0 (found_append names (head_marks tagged bound t.symbol t.arguments) (target_marks bound t.target) known.0).0 in
-    (head.0, head.1, (range_met names 0 0 bound t.target [] line.1.1.0).1, transitions_within ts names bound e.1 names_in.1 parts.1 known.1)
+plain_states : (bs : List Automaton) → ArePlainAutomata bs → AllOf (λ b. AreWithoutStates b.transitions) bs
+plain_states [] p = tt
+plain_states (b ∷ bs) p = (p.0, plain_states bs p.1)
 
-pub automaton_within : (a : Automaton) (names : NameTable) → AreWithoutStates a.transitions → HaveNames (automaton_marks (name_of names) a)
-    → Pass names (automaton_marks (name_of names) a) → AreFound names (automaton_marks tagged a) → IsAutomaton names a
-automaton_within a names e i h f =
-    let bounds = range_met names 0 1 (suc largest) a.states (is_few Counted.states a.states ∷ []) h.1.1.0 in
-    let back = λ (u : ℕ → List ℕ). fixed (codes "\ntransitions ") ∷ number_for Counted.transitions (length a.transitions) ∷ fixed (codes "\n") ∷ transitions_marks u a.states a.transitions in
-    let parts = pass_append names (accepting_marks a.states a.accepting) (back (name_of names)) h.1.1.1.1 in
-    let names_in = have_append (accepting_marks a.states a.accepting) (back (name_of names)) i in
-    let known = found_append names (accepting_marks a.states a.accepting) (back tagged) f in
-    record {
-      some = bounds.0;
-      few = (few_met names Counted.states a.states [] bounds.2).0;
-      accepting = accepting_met a.accepting names a.states parts.0;
-      number = (few_met names Counted.transitions (length a.transitions) []
-          (range_met names 0 0 (suc largest) (length a.transitions) (is_few Counted.transitions (length a.transitions) ∷ []) parts.1.1.0).2).0;
-      transitions = transitions_within a.transitions names a.states e names_in.1 parts.1.1.1.1 known.1;
-    }
+-- its number tells an automaton
+shows : (v : Version) (names : NameTable) (all : List Automaton) → ArePlainAutomata all → Shows names (IsUsed v all) (uses_with v names all) all
+shows first_version names all p = λ a h. h
+shows second_version names all p = (
+  plain_states all p,
+  λ new a h.
+      let there : pick all h.0 ≡ a = cc (pick_stands all h.0 h.1 h.2, h.3) in
+      subst (λ (b : Automaton). pick all (number_in names all b) ≡ b) there (ap (pick all) (pick_number names all h.0 new h.1 h.2)),
+)
+
+pub automata_within : (bs : List Automaton) (names : NameTable) → ArePlainAutomata bs → Along names (λ u. automata_marks u bs) → AreAutomata names bs
+automata_within bs names p h =
+    let m = meant_automata bs (name_of names) names h.named h.passed in
+    subst (AreAutomata names) (sym (m.same (λ f. refl) (plain_states bs p) h.found)) m.are
+
+-- ---- an opening and entries
+
+left_is : (v : Version) (names : NameTable) (c : Certificate) (all left : List Automaton) (s : Shared) → CanShare v all → AreLeft v names c left
+    → IsCounted (version_of (uses_with v names all)) names c (shared_by names c ++ left) s → AreShared (uses_with v names all) all (shared_by names c ++ left) → left ≡ drop s.used all
+left_is first_version names c all left s none l k e = l ∙ sym (ap (drop s.used) none ∙ drop_nothing s.used)
+  where
+    drop_nothing : (n : ℕ) → drop {A = Automaton} n [] ≡ []
+    drop_nothing zero = refl
+    drop_nothing (suc n) = refl
+left_is second_version names c all left s none l k e = sym (ap (drop s.used) e ∙ drop_at (shared_by names c) left s.used (sym k.0))
+
+pub front_found : (v : Version) (all : List Automaton) (names : NameTable) (bytes left : List ℕ) (given : Option Bool) (o : Opening) (es : List PairEntry) (at used : ℕ)
+    → CanShare v all → IsPlainBy v all (certificate_for o es) → ArePlainAutomata all
+    → Along names (λ u. front_marks u (uses_with v names all) all given (certificate_for o es))
+    → PassShares nothing_shared (front_marks (name_of names) (uses_with v names all) all given (certificate_for o es))
+    → (behind_marks (front_marks (name_of names) (uses_with v names all) all given (certificate_for o es)) nothing_shared).used ≡ used
+    → bytes ≡ marks_text (front_marks (name_of names) (uses_with v names all) all given (certificate_for o es)) ++ left → at + length left ≡ length bytes
+    → IsReadTo names bytes o es at v (drop used all) left
+front_found v all names bytes left given o es at used share p q a h e text place =
+    subst (λ (l : List Automaton). IsReadTo names bytes o es at v l left) (left_is v names k.certificate all k.left _ share (subst (λ (w : Version). AreLeft w names k.certificate k.left) version
+    k.are_left) k.counted same.1 ∙ ap (λ (n : ℕ). drop n all) e)
+    (read_meant k o es v bytes left at version (sym same.0) text place)
+  where
+    c : Certificate
+    c = certificate_for o es
+
+    version : version_of (uses_with v names all) ≡ v
+    version = same_version v names all
+
+    k : MeantFront (name_of names) names (uses_with v names all) (IsUsed v all) all given c
+    k = front_meant (uses_with v names all) c (name_of names) names (IsUsed v all) all given (of_certificate v all c p)
+        (subst (λ (w : Version). IsOfVersion w c) (sym version) (plain_version v all c p)) a.named a.passed h
+
+    same : (c ≡ k.certificate) × AreShared (uses_with v names all) all (shared_by names k.certificate ++ k.left)
+    same = k.same (λ f. refl) (shows v names all q) a.found
+
+-- ---- whole texts
+
+pub found_by : (v : Version) (c : Certificate) (names : NameTable) (all : List Automaton) (given : Option Bool) (bytes : List ℕ) (s t : Shared) → s ≡ nothing_shared
+    → CanShare v all → IsPlainBy v all c → ArePlainAutomata all
+    → Run names (length bytes) (opening ∷ []) (λ u. certificate_marks u (uses_with v names all) all given c) [] bytes [] s t → IsCertificateText names bytes c
+found_by v c names all given bytes s t fresh share p q r =
+    let x = name_of names in
+    let u = uses_with v names all in
+    let ms = certificate_marks x u all given c in
+    let w = r.walks (omega arith) [] in
+    let keeps = r.shares (omega arith) [] in
+    let k = text_meant u c x names (IsUsed v all) all given (of_certificate v all c p) (subst (λ (d : Version). IsOfVersion d c) (sym (same_version v names all)) (plain_version v all c p))
+    (walks_named names ms _ _ w) (walks_pass names ms _ _ w) (subst (λ (z : Shared). PassShares z ms) (ap (with_begun []) fresh) keeps.0) in (
+      version_of u,
+      subst (IsVersionText (version_of u) names bytes) (sym (k.same (λ f. refl) (shows v names all q) r.found))
+          (subst (λ (b : List ℕ). IsVersionText (version_of u) names b k.certificate) (sym (walks_text names ms _ _ w ∙ append-nil (marks_text ms))) k.text),
+    )
+
+-- a text that is read to its end is that of the certificate
+pub whole_read : (names : NameTable) (bytes : List ℕ) (c : Certificate) (s t : Reading) → s.left.now ≡ bytes → s.shares ≡ nothing_shared → s.refused ≡ None → t.refused ≡ None
+    → t.left.now ≡ [] → ReadsCertificate names (length bytes) c s t → IsCertificateText names bytes c
+whole_read names bytes c s t begins fresh none still ends h =
+    let r = ran none still h.read in
+    let k = h.plain still in
+    found_by h.version c names h.shared h.given bytes s.shares t.shares fresh h.can_share k.0 k.1
+    (subst (λ (b : List ℕ). Run names (length bytes) (opening ∷ []) (λ u. certificate_marks u (uses_with h.version names h.shared) h.shared h.given c) [] b [] s.shares t.shares) begins
+    (subst (λ (b : List ℕ). Run names (length bytes) (opening ∷ []) (λ u. certificate_marks u (uses_with h.version names h.shared) h.shared h.given c) [] s.left.now b s.shares t.shares) ends r))

@@ -11,9 +11,6 @@ pub mod TermMarks
 pub mod ListMarks
 pub mod EvidenceKinds
 pub mod Found
-pub mod FoundWhole
 pub mod KindMarks
 pub mod SharedKnown
-pub mod FoundSecond
-pub mod FoundFront
 pub mod SharedPlaces

@@ -13,8 +13,7 @@ use Rattle.cert_reading.specs.Shared.{shared_marks, ArePlainAutomata, IsKnown}
 use Rattle.cert_reading.specs.Uses.{AreShared}
 use Rattle.cert_reading.specs.Stops.{Place, ReadsWhere}
 use Rattle.cert_reading.proofs.Stopping.{open_before_where, ran}
-use Rattle.cert_reading.proofs.Found.{walks_named}
-use Rattle.cert_reading.proofs.FoundWhole.{automata_within}
+use Rattle.cert_reading.proofs.Found.{walks_named, automata_within}
 use Rattle.cert_reading.proofs.UseReads.{run_shorter}
 
 abbrev count_line : List Automaton → List Mark

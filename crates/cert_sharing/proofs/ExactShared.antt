@@ -1,23 +1,26 @@
 -- The reader that stops at the first refusal, shared automata judged, is exact.
-use Rattle.std.proofs.Common.{◌≡◌, inl, inr, ℕ, zero, suc, ◌+◌, ◌*◌, ◌<◌, true, List, [], ◌∷◌, ◌++◌, length, drop, Option, Some, None, refl, sym, ap, ◌∙◌, subst, arith}
+use Rattle.std.proofs.Common.{◌≡◌, ◌⊎◌, inl, inr, ℕ, zero, suc, ◌+◌, ◌*◌, ◌<◌, true, List, [], ◌∷◌, ◌++◌, length, drop, Option, Some, None, refl, sym, ap, ◌∙◌, subst, arith, append-nil}
 use Rattle.cops_names.specs.NameTable.{NameTable}
 use Rattle.cert_grammar.specs.Prelude.{CertificateCause, syntax, Mark, demands_of, verdict, Shared, nothing_shared, share_verdict, behind_mark, behind_marks}
-use Rattle.cert_grammar.specs.Prelude.{PassShares, GoesTo, IsPlainlyRefused, IsRefusedShared, IsCertificateRefused, Item, opening, Lead, leads, is_there, first_there, longest, taken}
+use Rattle.cert_grammar.specs.Prelude.{PassShares, GoesTo, Pass, marks_of, marks_text, goes_on, IsPlainlyRefused, IsRefusedShared, IsCertificateRefused, Item, opening, Lead, leads, is_there}
+use Rattle.cert_grammar.specs.Prelude.{first_there, longest, taken}
 use Rattle.cert_grammar.specs.Prelude.{mark_of, items_of, Left, refuses, behind_lead, judged, step_lead, step, Reading, accepted, refused, whole_text, SharedStep, ends, further}
 use Rattle.cert_grammar.specs.Prelude.{shared_judged, after_step, shared_step, shared_reading, read_shared, read_text}
 use Rattle.cert_laws.proofs.LeadTables.{In}
 use Rattle.cert_laws.proofs.OneRefusal.{passed_anywhere}
 use Rattle.cert_laws.proofs.Spelt.{pass_both}
 use Rattle.cert_laws.proofs.Paths.{path-append, first_sound}
-use Rattle.cert_laws.proofs.Reached.{Moves, moves_path, moves_more}
+use Rattle.cert_laws.proofs.Reached.{moves_path, moves_text, moves_more}
 use Rattle.cert_laws.proofs.Completions.{completes}
+use Rattle.cert_laws.proofs.SkeletonPaths.{skeleton_path}
 use Rattle.cert_laws.proofs.FirstRefusals.{skeleton_of, read_of, Reached, reached_start, next_reached, lead_move, is_judged}
 use Rattle.cert_laws.proofs.StuckReaders.{refused_where_stuck, refused_behind_end}
 use Rattle.cert_laws.proofs.ExactReader.{weight, lighter}
-use Rattle.cert_sharing.specs.SharedLaws.{IsAnswer}
+use Rattle.cert_sharing.specs.SharedLaws.{IsMetText, IsAnswer}
 use Rattle.cert_sharing.proofs.OneShared.{shares_anywhere}
-use Rattle.cert_sharing.proofs.Reaches.{moves_goes}
-use Rattle.cert_sharing.proofs.Exact.{met, none_shared, met_never, one_certificate_refusal}
+use Rattle.cert_sharing.proofs.UseMarks.{behind_both, pass_join}
+use Rattle.cert_sharing.proofs.Reaches.{moves_goes, no_shared, stops}
+use Rattle.cert_sharing.proofs.Exact.{met_never, one_certificate_refusal}
 
 -- where the reader is, with what it knows of shared automata
 pub record At (names : NameTable) (bytes : List ℕ) (l : Left) (s : Shared) : Type 0 where
@@ -25,102 +28,101 @@ pub record At (names : NameTable) (bytes : List ℕ) (l : Left) (s : Shared) : T
   pub passed : PassShares nothing_shared reached.front
   pub is : s ≡ behind_marks reached.front nothing_shared
 
-behind_more : (ms : List Mark) (m : Mark) (s : Shared) → behind_marks (ms ++ m ∷ []) s ≡ behind_mark m (behind_marks ms s)
-behind_more [] m s = refl
-behind_more (n ∷ ms) m s = behind_more ms m (behind_mark n s)
-
-pass_more : (ms : List Mark) (m : Mark) (s : Shared) → PassShares s ms → share_verdict (behind_marks ms s) 0 (demands_of m) ≡ None → PassShares s (ms ++ m ∷ [])
-pass_more [] m s h v = (v, tt)
-pass_more (n ∷ ms) m s h v = (h.0, pass_more ms m (behind_mark n s) h.1 v)
-
--- one mark more
-moved : (names : NameTable) (bytes : List ℕ) (at : ℕ) (i : Item) (items : List Item) (left : List ℕ) (a : Lead)
-    → (r : Reached names bytes (record { at = at; items = i ∷ items; bytes = left })) → In a (leads i) → is_there a left ≡ true
-    → Moves (r.front ++ mark_of a (read_of a left) ∷ []) (opening ∷ []) bytes (items_of a (read_of a left) ++ items) (drop (taken a left) left)
-moved names bytes at i items left a r n e = moves_more r.front (opening ∷ []) items i bytes left (drop (taken a left) left) (mark_of a (read_of a left))
-    (items_of a (read_of a left)) r.moves (lead_move i a left n e)
-
-on : (names : NameTable) (bytes : List ℕ) (at : ℕ) (i : Item) (items : List Item) (left : List ℕ) (a : Lead) (s : Shared)
-    → (p : At names bytes (record { at = at; items = i ∷ items; bytes = left }) s) → In a (leads i) → is_there a left ≡ true
-    → verdict names 0 (demands_of (mark_of a (read_of a left))) ≡ None → share_verdict s 0 (demands_of (mark_of a (read_of a left))) ≡ None
-    → At names bytes (behind_lead (record { at = at; items = i ∷ items; bytes = left }) a items) (behind_mark (mark_of a (read_of a left)) s)
-on names bytes at i items left a s p n e v w =
-    let r = p.reached in
-    let m = mark_of a (read_of a left) in
-    record {
-      reached = next_reached names bytes at i items left a r n e v;
-      passed = pass_more r.front m nothing_shared p.passed (subst (λ (x : Shared). share_verdict x 0 (demands_of m) ≡ None) p.is w);
-      is = ap (behind_mark m) p.is ∙ sym (behind_more r.front m nothing_shared);
-    }
-
--- a demand on shared automata that is not met
-is_shared : (names : NameTable) (bytes : List ℕ) (at : ℕ) (i : Item) (items : List Item) (left : List ℕ) (a : Lead) (s : Shared) (x : CertificateCause × ℕ)
-    → (p : At names bytes (record { at = at; items = i ∷ items; bytes = left }) s) → In a (leads i) → is_there a left ≡ true
-    → verdict names 0 (demands_of (mark_of a (read_of a left))) ≡ None → share_verdict s at (demands_of (mark_of a (read_of a left))) ≡ Some x → IsRefusedShared names bytes x.0 x.1
-is_shared names bytes at i items left a s x p n e v w =
-    let r = p.reached in
-    let m = mark_of a (read_of a left) in
-    let moves = moved names bytes at i items left a r n e in
-    let rest = items_of a (read_of a left) ++ items in
-    let back = completes rest in
-    let t = skeleton_of ((r.front ++ m ∷ []) ++ back.0)
-    (path-append (r.front ++ m ∷ []) back.0 (opening ∷ []) rest [] (moves_path (r.front ++ m ∷ []) (opening ∷ []) rest bytes (drop (taken a left) left) moves) back.1) in (
-      t.0,
-      record {
-        front = r.front;
-        mark = m;
-        goes = subst (λ (l : List Mark). GoesTo l bytes r.front m) (sym t.1) (moves_goes r.front m [] back.0 (opening ∷ []) rest bytes (drop (taken a left) left) moves back.1);
-        passed = pass_both names r.front (m ∷ []) r.passed (v, tt);
-        shared = p.passed;
-        refused = subst (λ (k : ℕ). share_verdict (behind_marks r.front nothing_shared) k (demands_of m) ≡ Some x) r.place (subst (λ (y : Shared). share_verdict y at (demands_of m) ≡ Some x) p.is w);
-      },
-    )
-
 abbrev pub IsSharedStepOf : NameTable → List ℕ → Left → SharedStep → Type 0
 IsSharedStepOf names bytes l (ends r) = IsAnswer names bytes r
 IsSharedStepOf names bytes l (further m s) = At names bytes m s × (weight m < weight l)
 
--- a plain refusal
+-- where the reader stops, with all demands before it met, no demand on shared automata is judged: its refusal is the text's
 plain : (names : NameTable) (bytes : List ℕ) (l : Left) (s : Shared) (e : CertificateCause) (at : ℕ) → At names bytes l s → step names l ≡ refuses e at
     → IsPlainlyRefused names bytes e at → IsCertificateRefused names bytes e at
-plain names bytes l s e at p q h = inr (h, none_shared names bytes (refused e at) (record { left = l; reached = p.reached; ends = q }) p.passed)
+plain names bytes l s e at p q h = inr (
+  h,
+  λ f place (t, k).
+      no_shared p.reached.front names nothing_shared (opening ∷ []) l.items bytes l.bytes (marks_of t) k.front k.mark (f, place) (length (marks_text k.front)) p.reached.moves
+      p.passed (stops names l.at l.items l.bytes (λ m g. let both : goes_on m ≡ refuses e at = sym g ∙ q in absurd cc)) (skeleton_path t) k.goes k.passed k.refused,
+)
 
-lead_step : (names : NameTable) (bytes : List ℕ) (at : ℕ) (i : Item) (items : List Item) (left : List ℕ) (a : Lead) (s : Shared)
-    → At names bytes (record { at = at; items = i ∷ items; bytes = left }) s → In a (leads i) → is_there a left ≡ true → first_there (leads i) left ≡ Some a
-    → IsSharedStepOf names bytes (record { at = at; items = i ∷ items; bytes = left })
-    (after_step (record { at = at; items = i ∷ items; bytes = left }) s (Some a) (step_lead names (record { at = at; items = i ∷ items; bytes = left }) (Some a) i items))
-lead_step names bytes at i items left a s p n e f = by (verdict names at (demands_of (mark_of a (read_of a left)))) refl
-  where
-    shared : (o : Option (CertificateCause × ℕ)) → share_verdict s at (demands_of (mark_of a (read_of a left))) ≡ o → verdict names 0 (demands_of (mark_of a (read_of a left))) ≡ None
-        → IsSharedStepOf names bytes (record { at = at; items = i ∷ items; bytes = left })
-        (shared_judged o (behind_lead (record { at = at; items = i ∷ items; bytes = left }) a items) (behind_mark (mark_of a (read_of a left)) s))
-    shared None w v = (on names bytes at i items left a s p n e v (shares_anywhere s at 0 (demands_of (mark_of a (read_of a left))) w), lighter at i items left a n e)
-    shared (Some x) w v = inl (is_shared names bytes at i items left a s x p n e v w)
+-- where it accepts, the text is one in which all is met
+met : (names : NameTable) (bytes : List ℕ) (at : ℕ) (s : Shared) → At names bytes (record { at = at; items = []; bytes = [] }) s → IsMetText names bytes
+met names bytes at s p =
+    let front = p.reached.front in
+    let t = skeleton_of front (moves_path front (opening ∷ []) [] bytes [] p.reached.moves) in (
+      t.0,
+      ap marks_text t.1 ∙ sym (append-nil (marks_text front)) ∙ sym (moves_text front (opening ∷ []) [] bytes [] p.reached.moves),
+      subst (Pass names) (sym t.1) p.reached.passed,
+      subst (PassShares nothing_shared) (sym t.1) p.passed,
+    )
 
-    by : (o : Option (CertificateCause × ℕ)) → verdict names at (demands_of (mark_of a (read_of a left))) ≡ o
-        → IsSharedStepOf names bytes (record { at = at; items = i ∷ items; bytes = left })
-        (after_step (record { at = at; items = i ∷ items; bytes = left }) s (Some a) (judged o (behind_lead (record { at = at; items = i ∷ items; bytes = left }) a items)))
-    by None v = shared (share_verdict s at (demands_of (mark_of a (read_of a left)))) refl (passed_anywhere names at 0 (demands_of (mark_of a (read_of a left))) v)
-    by (Some x) v =
-        let stops : step names (record { at = at; items = i ∷ items; bytes = left }) ≡ refuses x.0 x.1 = ap
-        (λ (o : Option Lead). step_lead names (record { at = at; items = i ∷ items; bytes = left }) o i items) f
-        ∙ ap (λ (o : Option (CertificateCause × ℕ)). judged o (behind_lead (record { at = at; items = i ∷ items; bytes = left }) a items)) v in
-        plain names bytes (record { at = at; items = i ∷ items; bytes = left }) s x.0 x.1 p stops (inl (is_judged names bytes at i items left a x p.reached n e v))
+module _ (names : NameTable) (bytes : List ℕ) (at : ℕ) (i : Item) (items : List Item) (left : List ℕ) where
+  abbrev l : Left
+  l = record { at = at; items = i ∷ items; bytes = left }
+
+  -- the reader's step over a lead that is there
+  module _ (a : Lead) (n : In a (leads i)) (e : is_there a left ≡ true) (s : Shared) (p : At names bytes l s) where
+    abbrev m : Mark
+    m = mark_of a (read_of a left)
+
+    abbrev next : Left
+    next = behind_lead l a items
+
+    abbrev front : List Mark
+    front = p.reached.front
+
+    on : verdict names 0 (demands_of m) ≡ None → share_verdict s 0 (demands_of m) ≡ None → At names bytes next (behind_mark m s)
+    on v w = record {
+      reached = next_reached names bytes at i items left a p.reached n e v;
+      passed = pass_join front (m ∷ []) nothing_shared p.passed (subst (λ (x : Shared). share_verdict x 0 (demands_of m) ≡ None) p.is w, tt);
+      is = ap (behind_mark m) p.is ∙ sym (behind_both front (m ∷ []) nothing_shared);
+    }
+
+    -- a demand on shared automata that is not met
+    is_shared : (x : CertificateCause × ℕ) → verdict names 0 (demands_of m) ≡ None → share_verdict s at (demands_of m) ≡ Some x → IsRefusedShared names bytes x.0 x.1
+    is_shared x v w =
+        let behind_it = drop (taken a left) left in
+        let rest = items_of a (read_of a left) ++ items in
+        let moves = moves_more front (opening ∷ []) items i bytes left behind_it m (items_of a (read_of a left)) p.reached.moves (lead_move i a left n e) in
+        let back = completes rest in
+        let t = skeleton_of ((front ++ m ∷ []) ++ back.0)
+        (path-append (front ++ m ∷ []) back.0 (opening ∷ []) rest [] (moves_path (front ++ m ∷ []) (opening ∷ []) rest bytes behind_it moves) back.1) in (
+          t.0,
+          record {
+            front = front;
+            mark = m;
+            goes = subst (λ (z : List Mark). GoesTo z bytes front m) (sym t.1) (moves_goes front m [] back.0 (opening ∷ []) rest bytes behind_it moves back.1);
+            passed = pass_both names front (m ∷ []) p.reached.passed (v, tt);
+            shared = p.passed;
+            refused = subst (λ (k : ℕ). share_verdict (behind_marks front nothing_shared) k (demands_of m) ≡ Some x) p.reached.place
+                (subst (λ (y : Shared). share_verdict y at (demands_of m) ≡ Some x) p.is w);
+          },
+        )
+
+    lead_step : first_there (leads i) left ≡ Some a → IsSharedStepOf names bytes l (after_step l s (Some a) (step_lead names l (Some a) i items))
+    lead_step f = by (verdict names at (demands_of m)) refl
+      where
+        shared : (o : Option (CertificateCause × ℕ)) → share_verdict s at (demands_of m) ≡ o → verdict names 0 (demands_of m) ≡ None
+            → IsSharedStepOf names bytes l (shared_judged o next (behind_mark m s))
+        shared None w v = (on v (shares_anywhere s at 0 (demands_of m) w), lighter at i items left a n e)
+        shared (Some x) w v = inl (is_shared x v w)
+
+        by : (o : Option (CertificateCause × ℕ)) → verdict names at (demands_of m) ≡ o → IsSharedStepOf names bytes l (after_step l s (Some a) (judged o next))
+        by None v = shared (share_verdict s at (demands_of m)) refl (passed_anywhere names at 0 (demands_of m) v)
+        by (Some x) v = plain names bytes l s x.0 x.1 p
+            (ap (λ (o : Option Lead). step_lead names l o i items) f ∙ ap (λ (o : Option (CertificateCause × ℕ)). judged o next) v)
+            (inl (is_judged names bytes at i items left a x p.reached n e v))
+
+  further_step : (s : Shared) → At names bytes l s → IsSharedStepOf names bytes l (shared_step names l s)
+  further_step s p = by (first_there (leads i) left) refl
+    where
+      by : (o : Option Lead) → first_there (leads i) left ≡ o → IsSharedStepOf names bytes l (after_step l s o (step_lead names l o i items))
+      by None f = plain names bytes l s syntax (at + longest (leads i) left) p (ap (λ (o : Option Lead). step_lead names l o i items) f) (refused_where_stuck names bytes at i items left p.reached f)
+      by (Some a) f = let there = first_sound (leads i) a left f in lead_step a there.0 there.1 s p f
 
 pub shared_step_is : (names : NameTable) (bytes : List ℕ) (at : ℕ) (items : List Item) (left : List ℕ) (s : Shared)
     → At names bytes (record { at = at; items = items; bytes = left }) s
     → IsSharedStepOf names bytes (record { at = at; items = items; bytes = left }) (shared_step names (record { at = at; items = items; bytes = left }) s)
-shared_step_is names bytes at [] [] s p = met names bytes (record { left = record { at = at; items = []; bytes = [] }; reached = p.reached; ends = refl }) p.passed
+shared_step_is names bytes at [] [] s p = met names bytes at s p
 shared_step_is names bytes at [] (b ∷ left) s p = plain names bytes (record { at = at; items = []; bytes = b ∷ left }) s syntax at p refl (refused_behind_end names bytes at b left p.reached)
-shared_step_is names bytes at (i ∷ items) left s p = by (first_there (leads i) left) refl
-  where
-    by : (o : Option Lead) → first_there (leads i) left ≡ o
-        → IsSharedStepOf names bytes (record { at = at; items = i ∷ items; bytes = left })
-        (after_step (record { at = at; items = i ∷ items; bytes = left }) s o (step_lead names (record { at = at; items = i ∷ items; bytes = left }) o i items))
-    by None f =
-        plain names bytes (record { at = at; items = i ∷ items; bytes = left }) s syntax (at + longest (leads i) left) p
-        (ap (λ (o : Option Lead). step_lead names (record { at = at; items = i ∷ items; bytes = left }) o i items) f) (refused_where_stuck names bytes at i items left p.reached f)
-    by (Some a) f = let there = first_sound (leads i) a left f in lead_step names bytes at i items left a s p there.0 there.1 f
+shared_step_is names bytes at (i ∷ items) left s p = further_step names bytes at i items left s p
 
 read_is : (k : ℕ) (names : NameTable) (bytes : List ℕ) (l : Left) (s : Shared) → weight l < k → At names bytes l s → IsAnswer names bytes (read_shared k names l s)
 read_is zero names bytes l s h p = absurd (omega (arith, h))
@@ -133,6 +135,14 @@ read_is (suc k) names bytes l s h p = by (shared_step names l s) (shared_step_is
 
 pub read_text_is : (names : NameTable) (bytes : List ℕ) → IsAnswer names bytes (read_text names bytes)
 read_text_is names bytes = read_is (2 * length bytes + 2) names bytes (whole_text bytes) nothing_shared (omega arith) (record { reached = reached_start names bytes; passed = tt; is = refl })
+
+-- all bytes are such a text or are refused
+pub met_or_refused : (names : NameTable) (bytes : List ℕ) → IsMetText names bytes ⊎ ((e : CertificateCause) × (at : ℕ) × IsCertificateRefused names bytes e at)
+met_or_refused names bytes = by (read_text names bytes) (read_text_is names bytes)
+  where
+    by : (r : Reading) → IsAnswer names bytes r → IsMetText names bytes ⊎ ((e : CertificateCause) × (at : ℕ) × IsCertificateRefused names bytes e at)
+    by accepted h = inl h
+    by (refused e at) h = inr (e, at, h)
 
 -- and it finds each answer
 pub answers_are_read : (names : NameTable) (bytes : List ℕ) (r : Reading) → IsAnswer names bytes r → read_text names bytes ≡ r

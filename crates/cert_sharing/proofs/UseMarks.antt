@@ -1,19 +1,20 @@
 -- What the marks of a certificate ask of its shared automata: the numbers of its uses, in order.
-use Rattle.std.proofs.Common.{◌≡◌, ℕ, suc, ◌+◌, ◌-◌, ◌≤◌, max, nat_le, Bool, true, false, cond, not, ◌&&◌, List, [], ◌∷◌, ◌++◌, length, map, codes, Option, Some, None, refl, sym}
-use Rattle.std.proofs.Common.{ap, ◌∙◌, subst, append_assoc, append-nil, leb-true, le-leb}
-use Rattle.std.proofs.lemmas.Bool.{not-true, and_from, and_parts}
+use Rattle.std.proofs.Common.{◌≡◌, ℕ, suc, ◌+◌, ◌-◌, ◌≤◌, max, Bool, true, false, cond, not, List, [], ◌∷◌, ◌++◌, length, map, codes, Option, Some, None, refl, sym}
+use Rattle.std.proofs.Common.{arith, ap, ◌∙◌, subst, append_assoc, append-nil, le-leb}
+use Rattle.std.proofs.lemmas.List.{map-append}
+use Rattle.std.proofs.lemmas.Bool.{not-true}
 use Rattle.rewriting.specs.Prelude.{Term, Position}
 use Rattle.certificates.specs.Prelude.{Derivation, Automaton}
 use Rattle.certificates.specs.Prelude.{InfeasibilityEvidence, by_caps, by_automaton, PairEvidence, trivial_pair, infeasible_pair, conflicting_pair, joined_pair, unfeasible_pair, PairEntry}
 use Rattle.certificates.specs.Prelude.{MeasureCertificate, Redex, Apartness, by_normal_forms, by_rigid_caps, Simplification, dropped}
 use Rattle.certificates.specs.Prelude.{inlined, Certificate, ortho_certificate, quasi_certificate, peak_certificate, simplified_certificate}
 use Rattle.cert_grammar.specs.Prelude.{Uses, in_full, by_number, used_by, used_by_evidence, used_by_pairs, used_by_redexes, used_by_apart, used_by_steps, automata_of, largest, Naming}
-use Rattle.cert_grammar.specs.Prelude.{Counted, limit, unfolded, CertificateCause, bad_share, too_many, automaton_begins, automaton_ends, is_use, is_light, Demand}
+use Rattle.cert_grammar.specs.Prelude.{Counted, limit, unfolded, CertificateCause, bad_share, automaton_begins, automaton_ends, Demand}
 use Rattle.cert_grammar.specs.Prelude.{in_range, is_few, fits_answer, shares, Mark, fixed, word, closed, mark_text, marks_text, demands_of, are_places, number, number_for}
 use Rattle.cert_grammar.specs.Prelude.{position, term_marks, derivation_marks, use_mark, accepting_marks}
 use Rattle.cert_grammar.specs.Prelude.{transitions_marks, automaton_marks, automata_marks, infeasibility_marks, evidence_marks, pairs_marks}
 use Rattle.cert_grammar.specs.Prelude.{measure_marks, redexes_marks, apart_marks, simplifications_marks, body_marks}
-use Rattle.cert_grammar.specs.Prelude.{is_among, AllNew, Shared, text_at, holds, first_of, share_verdict, effects, behind_mark, behind_marks, PassShares}
+use Rattle.cert_grammar.specs.Prelude.{is_among, AllNew, Shared, text_at, first_of, share_verdict, effects, behind_mark, behind_marks, PassShares}
 use Rattle.cert_grammar.specs.WordMarks.{numeral}
 use Rattle.cert_laws.proofs.Asking.{AllAsk, MarksAsk, term_asks, derivation_asks, measure_asks, behind_word_ask}
 use Rattle.cert_sharing.proofs.FirstUses.{greatest}
@@ -36,18 +37,14 @@ pub still_both : (a b : List Mark) → AreStill a → AreStill b → AreStill (a
 still_both [] b h k = k
 still_both (m ∷ a) b h k = (h.0, still_both a b h.1 k)
 
-still_effects : (ds : List Demand) (s : Shared) → IsStill ds → effects ds s ≡ s
-still_effects [] s h = refl
-still_effects (shares e ∷ ds) s h = absurd h
-still_effects (_ ∷ ds) s h = still_effects ds s h
-
-still_verdict : (ds : List Demand) (s : Shared) (a : ℕ) → IsStill ds → share_verdict s a ds ≡ None
-still_verdict [] s a h = refl
-still_verdict (shares e ∷ ds) s a h = absurd h
-still_verdict (_ ∷ ds) s a h = still_verdict ds s a h
+still_demands_are : (ds : List Demand) (s : Shared) (a : ℕ) → IsStill ds → (effects ds s ≡ s) × (share_verdict s a ds ≡ None)
+still_demands_are [] s a h = (refl, refl)
+still_demands_are (shares e ∷ ds) s a h = absurd h
+still_demands_are (_ ∷ ds) s a h = still_demands_are ds s a h
 
 still_mark : (m : Mark) (ts : List (List ℕ)) (b : List ℕ) (u w : ℕ) → IsStill (demands_of m) → behind_mark m (state ts b u w) ≡ state ts (b ++ mark_text m) u w
-still_mark m ts b u w h = ap (λ (s : Shared). record { texts = s.texts; begun = s.begun ++ mark_text m; used = s.used; unfolds_to = s.unfolds_to }) (still_effects (demands_of m) (state ts b u w) h)
+still_mark m ts b u w h = ap (λ (s : Shared). record { texts = s.texts; begun = s.begun ++ mark_text m; used = s.used; unfolds_to = s.unfolds_to })
+    (still_demands_are (demands_of m) (state ts b u w) 0 h).0
 
 -- they only add their text to what was begun
 pub still_marks : (ms : List Mark) (ts : List (List ℕ)) (b : List ℕ) (u w : ℕ) → AreStill ms → behind_marks ms (state ts b u w) ≡ state ts (b ++ marks_text ms) u w
@@ -57,7 +54,7 @@ still_marks (m ∷ ms) ts b u w h =
 
 pub still_pass : (ms : List Mark) (s : Shared) → AreStill ms → PassShares s ms
 still_pass [] s h = tt
-still_pass (m ∷ ms) s h = (still_verdict (demands_of m) s 0 h.0, still_pass ms (behind_mark m s) h.1)
+still_pass (m ∷ ms) s h = ((still_demands_are (demands_of m) s 0 h.0).1, still_pass ms (behind_mark m s) h.1)
 
 -- ---- parts that are still
 
@@ -224,13 +221,6 @@ pub counts_put : (m : Mark) (ms : List Mark) (ns : List ℕ) → IsStill (demand
 counts_put m ms ns h k = counts_both (m ∷ []) ms [] ns (counts_still (m ∷ []) (h, tt)) k
 
 -- both demands of a use
-two : (v w : Bool) (x y : CertificateCause × ℕ)
-    → first_of (cond {A = Option (CertificateCause × ℕ)} v None (Some x)) (first_of (cond {A = Option (CertificateCause × ℕ)} w None (Some y)) None) ≡ None
-    → (v ≡ true) × (w ≡ true)
-two true true x y e = (refl, refl)
-two true false x y e = absurd cc
-two false w x y e = absurd cc
-
 pub two_met : (v w : Bool) (x y : CertificateCause × ℕ) → v ≡ true → w ≡ true
     → first_of (cond {A = Option (CertificateCause × ℕ)} v None (Some x)) (first_of (cond {A = Option (CertificateCause × ℕ)} w None (Some y)) None) ≡ None
 two_met true true x y e f = refl
@@ -239,21 +229,11 @@ two_met false w x y e f = absurd cc
 
 use_met : (n : ℕ) (ts : List (List ℕ)) (b : List ℕ) (u w : ℕ) → share_verdict (state ts b u w) 0 (demands_of (use_mark n)) ≡ None
     → (1 ≤ n) × (n ≤ length ts) × (n ≤ suc u) × (w + length (text_at n ts) ≤ limit unfolded)
-use_met n ts b u w e =
-    let r = two (holds (state ts b u w) (is_use n)) (holds (state ts b u w) (is_light n)) (bad_share, 0) (too_many unfolded, 0) e in
-    let rest = (and_parts (nat_le 1 n) (nat_le n (length ts) && nat_le n (suc u)) r.0).1 in (
-      leb-true 1 n (and_parts (nat_le 1 n) (nat_le n (length ts) && nat_le n (suc u)) r.0).0,
-      leb-true n (length ts) (and_parts (nat_le n (length ts)) (nat_le n (suc u)) rest).0,
-      leb-true n (suc u) (and_parts (nat_le n (length ts)) (nat_le n (suc u)) rest).1,
-      leb-true (w + length (text_at n ts)) (limit unfolded) r.1,
-    )
+use_met n ts b u w e = grind arith
 
 met_use : (n : ℕ) (ts : List (List ℕ)) (b : List ℕ) (u w : ℕ) → 1 ≤ n → n ≤ length ts → n ≤ suc u → w + length (text_at n ts) ≤ limit unfolded
     → share_verdict (state ts b u w) 0 (demands_of (use_mark n)) ≡ None
-met_use n ts b u w low high next light =
-    two_met (holds (state ts b u w) (is_use n)) (holds (state ts b u w) (is_light n)) (bad_share, 0) (too_many unfolded, 0)
-    (and_from (nat_le 1 n) (nat_le n (length ts) && nat_le n (suc u)) (le-leb 1 n low) (and_from (nat_le n (length ts)) (nat_le n (suc u)) (le-leb n (length ts) high) (le-leb n (suc u) next)))
-    (le-leb (w + length (text_at n ts)) (limit unfolded) light)
+met_use n ts b u w low high next light = simp (le-leb 1 n low, le-leb n (length ts) high, le-leb n (suc u) next, le-leb (w + length (text_at n ts)) (limit unfolded) light)
 
 pub counts_use : (n : ℕ) → Counts (use_mark n ∷ []) (n ∷ [])
 counts_use n = record {
@@ -269,13 +249,9 @@ abbrev pub numbers_of : Uses → List Automaton → List ℕ
 numbers_of in_full used = []
 numbers_of (by_number f) used = map f used
 
-pub map_both : (f : Automaton → ℕ) (a b : List Automaton) → map f (a ++ b) ≡ map f a ++ map f b
-map_both f [] b = refl
-map_both f (x ∷ a) b = ap (λ (l : List ℕ). f x ∷ l) (map_both f a b)
-
 numbers_both : (u : Uses) (a b : List Automaton) → numbers_of u (a ++ b) ≡ numbers_of u a ++ numbers_of u b
 numbers_both in_full a b = refl
-numbers_both (by_number f) a b = map_both f a b
+numbers_both (by_number f) a b = map-append f a b
 
 no_numbers : (u : Uses) (ms : List Mark) → AreStill ms → Counts ms (numbers_of u [])
 no_numbers in_full ms h = counts_still ms h

@@ -11,7 +11,7 @@ use Rattle.cert_openings.specs.Openings.{IsLine, IsKindLine, AreHeadingLines, li
 use Rattle.cert_openings.proofs.Lines.{line_same, kind_line}
 use Rattle.cert_openings.proofs.EntryLines.{other}
 use Rattle.cert_openings.proofs.OwnLines.{Own, no_lines, own_both, own_answer, own_heading, own_simplify}
-use Rattle.cert_openings.proofs.Opened.{same_version}
+use Rattle.cert_sharing.proofs.SpeltShares.{same_version}
 use Rattle.cert_openings.proofs.Bare.{openings_end, no_peak}
 use Rattle.cert_openings.proofs.BadOpenings.{bad_openings_are_refused}
 use Rattle.cert_words.specs.declared.error.CertError.{CertError}

@@ -28,7 +28,7 @@ use Rattle.cert_reading.specs.Whole.{CanShare}
 use Rattle.cert_reading.proofs.KindMarks.{kind_still, first_still}
 use Rattle.cert_reading.proofs.Stopping.{then_where, as_marks_where, low_where, low_unopened, open_before_where}
 use Rattle.cert_reading.proofs.UseReads.{known_behind, known_where}
-use Rattle.cert_reading.proofs.FoundSecond.{found_by}
+use Rattle.cert_reading.proofs.Found.{found_by}
 use Rattle.cert_text.specs.Reading.{Reading}
 use Rattle.cert_text.specs.ReadingView.{place_of, EndsMeasure, IsNext, read_marks, IsUpTo}
 use Rattle.cert_text.specs.OpenedText.{OpenedText, at_entries, whole, IsOpenedAs, IsRefusedBehind}

@@ -17,8 +17,7 @@ use Rattle.cert_reading.specs.Plain.{IsPlainBy}
 use Rattle.cert_reading.specs.Shared.{ArePlainAutomata}
 use Rattle.cert_reading.specs.Whole.{CanShare}
 use Rattle.cert_reading.specs.Stops.{Anywhere, StopsWhere, IsStoppedWhere}
-use Rattle.cert_reading.proofs.Found.{walks_named}
-use Rattle.cert_reading.proofs.FoundFront.{front_found}
+use Rattle.cert_reading.proofs.Found.{walks_named, front_found}
 use Rattle.cert_text.specs.ReadingView.{place_of, read_marks}
 
 -- ---- a run to the end, and one behind an opening and entries

@@ -1,15 +1,15 @@
 -- How a part of a text is read: along the marks of a value, or up to a refusal.
 use Rattle.std.specs.Prelude.{◌≡◌, ◌≤◌, ◌-◌, nat_le, nat_lt, ◌&&◌, true, false, ℕ, List, [], ◌∷◌, ◌++◌, length, take, Option, Some, None, Result, Ok, Err, Vec}
 use Rattle.std.specs.Global.{Global}
-use Rattle.certificates.specs.Evidence.{Transition}
-use Rattle.cops_names.specs.NameTable.{NameTable, number_of}
-use Rattle.cert_grammar.specs.Prelude.{name_of, CertificateCause, Naming, Mark, fixed, word, symbol, behind, closed, marks_text, verdict, are_places, value, Item, Lead, leads, first_there}
+use Rattle.cops_names.specs.NameTable.{NameTable}
+use Rattle.cert_grammar.specs.Prelude.{name_of, CertificateCause, Naming, Mark, marks_text, verdict, are_places, value, Item, Lead, leads, first_there}
 use Rattle.cert_grammar.specs.Prelude.{taken, mark_of, Left, goes_on, step, Shared, behind_marks, PassShares, ends, shared_step}
 use Rattle.cert_grammar.specs.FirstRefusal as machine
 use Rattle.cert_shares.specs.SharesView.{with_begun}
 use Rattle.cert_words.specs.declared.error.CertError.{CertError}
 use Rattle.cert_words.specs.declared.reading.Reading.{Reading}
 use Rattle.cert_words.specs.Words.{told, IsTold}
+pub use Rattle.cert_laws.specs.FoundNames.{tagged, IsFound, AreFound, HasNoStates, AreWithoutStates}
 
 -- where the reader is with these bytes left of a text of so many
 abbrev pub left_at : ℕ → List Item → List ℕ → Left
@@ -28,22 +28,6 @@ pub record StepsOver (names : NameTable) (l : Left) (m : Mark) (k : Left) : Type
 abbrev pub Walks : NameTable → List Mark → Left → Left → Type 0
 Walks names [] l k = l ≡ k
 Walks names (m ∷ ms) l k = (j : Left) × StepsOver names l m j × Walks names ms j k
-
--- a symbol is the one that is found by its name; each is named by its number alone here
-abbrev pub tagged : Naming
-tagged f = f ∷ []
-
-abbrev pub IsFound : NameTable → List ℕ → Type 0
-IsFound names [] = Unit {0}
-IsFound names (f ∷ others) = number_of names.symbols (name_of names f) ≡ Some f
-
-abbrev pub AreFound : NameTable → List Mark → Type 0
-AreFound names [] = Unit {0}
-AreFound names (fixed bytes ∷ ms) = AreFound names ms
-AreFound names (word bytes demands ∷ ms) = AreFound names ms
-AreFound names (symbol name demands ∷ ms) = IsFound names name × AreFound names ms
-AreFound names (behind demand ∷ ms) = AreFound names ms
-AreFound names (closed demand ∷ ms) = AreFound names ms
 
 -- what is known of shared automata before marks and behind them, where they pass, whatever was begun of an automaton
 abbrev pub Keeps : Shared → List Mark → Shared → Type 0
@@ -114,12 +98,3 @@ IsWithin least bound digits (Some n) = (n ≡ value digits) × ((nat_le least (v
 abbrev pub IsPlaces : NameTable → ℕ → List ℕ → Result (Vec ℕ Global) CertError → Type 0
 IsPlaces names at p (Ok places) = (places.items ≡ p) × (verdict names at (are_places 0 p) ≡ None)
 IsPlaces names at p (Err e) = IsTold (verdict names at (are_places 0 p)) (told e)
-
--- a variable has no states: its marks do not show them
-abbrev pub HasNoStates : Option ℕ → List ℕ → Type 0
-HasNoStates None states = states ≡ []
-HasNoStates (Some f) states = Unit {0}
-
-abbrev pub AreWithoutStates : List Transition → Type 0
-AreWithoutStates [] = Unit {0}
-AreWithoutStates (t ∷ ts) = HasNoStates t.symbol t.arguments × AreWithoutStates ts
