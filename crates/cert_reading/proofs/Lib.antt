@@ -1,6 +1,5 @@
 pub mod Stopping
 pub mod Opening
-pub mod FirstPlaces
 pub mod EntryItems
 pub mod Chosen
 pub mod AutomatonMarks
@@ -16,4 +15,3 @@ pub mod KindMarks
 pub mod SharedKnown
 pub mod FoundSecond
 pub mod FoundFront
-pub mod SharedPlaces
