@@ -249,8 +249,13 @@ no_symbol m b behind ds begins e (inr q) = no_entry 97 (codes "ux") b behind beg
 symbol_step : (v : Version) (i : Item) (m : Mark) (b behind : List ℕ) (new fun aux : List Item) (ds : List Demand) → BeginsEntry b → Move i m b behind new
     → leads i ≡ keyword (codes "fun") ds fun ∷ keyword (codes "aux") ds aux ∷ leads (pairs_from v 1) → AreBehind v 1 (new ++ [])
 symbol_step v i m b behind new fun aux ds begins h is =
-    step_by (λ (x : List Item). AreBehind v 1 (x ++ [])) i m new h.takes (subst (Each (λ (x : List Item). AreBehind v 1 (x ++ [])) m) (sym is)
-    ((λ w e. absurd (no_symbol m b behind ds begins h.text (inl e))), ((λ w e. absurd (no_symbol m b behind ds begins h.text (inr e))), ((λ w e. inl (2, refl, omega arith)), ((λ w e. inr refl), tt)))))
+    step_by (λ (x : List Item). AreBehind v 1 (x ++ [])) i m new h.takes (subst (Each (λ (x : List Item). AreBehind v 1 (x ++ [])) m) (sym is) (
+      (λ w e. absurd (no_symbol m b behind ds begins h.text (inl e))),
+      (
+        (λ w e. absurd (no_symbol m b behind ds begins h.text (inr e))),
+        ((λ w e. inl (2, refl, omega arith)), ((λ w e. inr refl), tt)),
+      ),
+    ))
 
 -- where a list stands, and an overlap or the last line begins
 pub list_step : (v : Version) (i : Item) (m : Mark) (b behind : List ℕ) (new : List Item) → BeginsList v i → BeginsEntry b → Move i m b behind new → AreBehind v 1 (new ++ [])

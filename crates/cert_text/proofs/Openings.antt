@@ -5,8 +5,8 @@ use Rattle.std.proofs.lemmas.List.{append-nil}
 use Rattle.certificates.specs.Prelude.{Automaton, MeasureCertificate, linear_measure, precedence_measure, Simplification, Apartness, Peak, Certificate, peak_certificate}
 use Rattle.cops_names.specs.NameTable.{NameTable}
 use Rattle.cert_grammar.specs.Prelude.{name_of, largest, Version, first_version, second_version, in_full, by_number, HasMeasure, IsUnsimplified, number_in, IsCertificateText, in_range}
-use Rattle.cert_grammar.specs.Prelude.{is_few, simplifications, Naming, Mark, fixed, word, answer_marks, body_marks, heading_marks, measure_marks, peak_marks, simplifications_marks, closing, certificate_marks}
-use Rattle.cert_grammar.specs.Prelude.{Item, pairs_from, Shared, nothing_shared}
+use Rattle.cert_grammar.specs.Prelude.{is_few, simplifications, Naming, Mark, fixed, word, answer_marks, body_marks, heading_marks, measure_marks, peak_marks, simplifications_marks, closing}
+use Rattle.cert_grammar.specs.Prelude.{certificate_marks, Item, pairs_from, Shared, nothing_shared}
 use Rattle.cert_grammar.specs.WordMarks.{numeral}
 use Rattle.cert_grammar.specs.Items as Items
 use Rattle.cert_sharing.proofs.UseMarks.{AreStill, Counts, counts_still, counts_both, counts_body, measure_still}

@@ -17,7 +17,8 @@ returns-clause-read c = λ given.
     (then_where (word_where (λ x. other_place (shared_count given) _ tt)
     (λ none. c.counted-count.ensures.here none names (shared_count given) (λ k. between line ∷ behind_automata k given ∷ []) refl)
     (c.counted-count.ensures.read names (shared_count given) (λ k. between line ∷ behind_automata k given ∷ []) refl))
-    (then_where (low_where (behind_automata n given) (other_below (behind_automata n given) (automata_other n given)) (c.text-2.ensures.read names (between line) [] refl)) (c.automata.ensures.read given))))
+    (then_where (low_where (behind_automata n given) (other_below (behind_automata n given) (automata_other n given)) (c.text-2.ensures.read names (between line) [] refl))
+    (c.automata.ensures.read given))))
 
 pub returns-clause-known : goal.returns-clause-known
 returns-clause-known c = λ fresh. known_now (map automaton_view c.automata.result.items) c.automata.ensures.plain fresh (returns-clause-read c None)

@@ -41,7 +41,8 @@ pub returns-in-Quasi-clause-opened : goal.returns-in-Quasi-clause-opened
 returns-in-Quasi-clause-opened c = λ b.
     let front = line_of Quasi c.in-Quasi.is c.uses_of.ensures.version c.uses_of.ensures.automata b (c.text.ensures.read c.args.names.now (between line) [] refl) in
     let m = c.measure-measure.ensures in
-    rw quasi_opened (opened_there (quasi_read (measure_view c.measure-measure.result) front m.read m.begins m.first) c.in-None-refused.is c.behind-in-None-refused.result c.behind-in-None-refused.ensures)
+    rw quasi_opened (opened_there (quasi_read (measure_view c.measure-measure.result) front m.read m.begins m.first) c.in-None-refused.is c.behind-in-None-refused.result
+    c.behind-in-None-refused.ensures)
 
 pub returns-in-Quasi-clause-peak : goal.returns-in-Quasi-clause-peak
 returns-in-Quasi-clause-peak c = rw quasi_opened tt

@@ -28,8 +28,7 @@ returns-in_default-front-clause-other c = λ t names i new other e. stop _ (none
 
 pub returns-then-not-all_used-clause-other : goal.returns-then-not-all_used-clause-other
 returns-then-not-all_used-clause-other c = λ t names i new other e. stop _ (none_now _ _ c.is_some.ensures c.if-is_some.false)
-    (subst (λ (k : ℕ). IsStuckAt names c.args.end i c.args.at.now.left.now c.args.at.now.shares (Some (bad_share, k))) (sym c.place-then-not-all_used.ensures)
-    (end_stop names c.args.end c.args.at.now.left.now c.args.at.now.shares i _ _ _ other _
+    (rw c.place-then-not-all_used.ensures (end_stop names c.args.end c.args.at.now.left.now c.args.at.now.shares i _ _ _ other _
     (first_two i c.args.at.now.left.now _ _ _ e c.in_default.ensures c.in-Some-front.ensures.there) c.in-Some-front.ensures c.all_used.ensures c.if-not-all_used.true))
 
 pub returns-then-n-limit-clause-here : goal.returns-then-n-limit-clause-here
@@ -43,8 +42,7 @@ returns-in_default-front-clause-here c = λ none names i new other e. stuck_two 
 
 pub returns-then-not-all_used-clause-here : goal.returns-then-not-all_used-clause-here
 returns-then-not-all_used-clause-here c = λ none names i new other e.
-    subst (λ (k : ℕ). IsStuckAt names c.args.end i c.args.at.now.left.now c.args.at.now.shares (Some (bad_share, k))) (sym c.place-then-not-all_used.ensures)
-    (end_stop names c.args.end c.args.at.now.left.now c.args.at.now.shares i _ _ _ other _
+    rw c.place-then-not-all_used.ensures (end_stop names c.args.end c.args.at.now.left.now c.args.at.now.shares i _ _ _ other _
     (first_two i c.args.at.now.left.now _ _ _ e c.in_default.ensures c.in-Some-front.ensures.there) c.in-Some-front.ensures c.all_used.ensures c.if-not-all_used.true)
 
 pub returns-clause-text : goal.returns-clause-text
