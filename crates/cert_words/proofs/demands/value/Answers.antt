@@ -1,5 +1,3 @@
-use Rattle.std.proofs.Common.{◌<◌, ◌+◌, ◌*◌, ℕ, subst}
-use Rattle.cert_grammar.specs.Words.{largest}
 use Rattle.cert_words.proofs.Judging.{value_passes, value_starts}
 use Rattle.cert_words.proofs.demands.value.Goals as goal
 

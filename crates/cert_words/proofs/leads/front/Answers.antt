@@ -1,7 +1,3 @@
-use Rattle.std.proofs.Common.{◌≡◌, [], false, sym, subst}
-use Rattle.cert_grammar.specs.FirstRefusal.{is_there}
-use Rattle.cert_words.specs.declared.leads.Lead.{Lead}
-use Rattle.cert_words.specs.Words.{bare, IsLeadRead}
 use Rattle.cert_words.proofs.Fronts.{text_front, no_text, check_front}
 use Rattle.cert_words.proofs.leads.front.Goals as goal
 

@@ -1,7 +1,4 @@
-use Rattle.std.proofs.Common.{◌≡◌, ◌+◌, ℕ, None, Some, sym, subst}
-use Rattle.cert_grammar.specs.Prelude.{unknown_name, bad_number, verdict, is_node}
-use Rattle.cert_words.specs.Words.{told}
-use Rattle.cert_words.specs.Walks.{IsStuckAt}
+use Rattle.cert_grammar.specs.Prelude.{is_node}
 use Rattle.cert_words.proofs.Stepping.{none_now, first_one, first_two, stuck_two, named, name_run, name_found, name_stop, name_stop_then, variable_run, variable_bad, variable_stop, go, stop}
 use Rattle.cert_words.proofs.nodes.next_node.Goals as goal
 

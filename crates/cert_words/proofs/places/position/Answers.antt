@@ -1,6 +1,3 @@
-use Rattle.std.proofs.Common.{◌≡◌, ℕ, None, subst}
-use Rattle.cert_grammar.specs.Prelude.{are_places, verdict, places}
-use Rattle.cert_words.specs.Words.{told, IsTold}
 use Rattle.cert_words.proofs.Stepping.{none_now, first_one, stuck_one, spelt_place, position_run, position_stop, go, stop}
 use Rattle.cert_words.proofs.places.position.Goals as goal
 

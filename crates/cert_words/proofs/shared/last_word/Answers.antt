@@ -1,6 +1,4 @@
-use Rattle.std.proofs.Common.{ℕ, Some, refl, sym, subst}
-use Rattle.cert_grammar.specs.Marks.{bad_share}
-use Rattle.cert_words.specs.Walks.{IsStuckAt}
+use Rattle.std.proofs.Common.{refl}
 use Rattle.cert_words.proofs.Stepping.{none_now, first_one, stuck_one, keyword_keeps, go, stop}
 use Rattle.cert_words.proofs.Sharings.{end_keeps, end_stop}
 use Rattle.cert_words.proofs.shared.last_word.Goals as goal

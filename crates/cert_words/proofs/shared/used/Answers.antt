@@ -1,6 +1,5 @@
-use Rattle.std.proofs.Common.{ℕ, suc, [], ◌∷◌, Some, refl, sym, ap, subst}
+use Rattle.std.proofs.Common.{suc, [], ◌∷◌, Some, refl, ap}
 use Rattle.cert_grammar.specs.Prelude.{value, Shared, largest, bad_share, too_many, unfolded, is_use, is_light, shares}
-use Rattle.cert_words.specs.Walks.{IsStuckAt}
 use Rattle.cert_words.proofs.Walking.{front_same, stopped}
 use Rattle.cert_words.proofs.Stepping.{none_now, first_one, stuck_one, number_stop, out_of_range, stuck_stops, stop}
 use Rattle.cert_words.proofs.Sharings.{use_read, use_bad, use_heavy}

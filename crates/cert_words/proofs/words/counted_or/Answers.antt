@@ -1,7 +1,5 @@
-use Rattle.std.proofs.Common.{ℕ, Some, refl, sym, subst}
-use Rattle.cert_grammar.specs.Marks.{bad_share}
+use Rattle.std.proofs.Common.{refl}
 use Rattle.cert_words.specs.Words.{counted_view}
-use Rattle.cert_words.specs.Walks.{IsStuckAt}
 use Rattle.cert_words.proofs.Stepping.{none_now, first_one, first_two, stuck_two, keyword_run, keyword_keeps, keyword_stop, counted_there, counted_out, as_counted, word_text, go, stop}
 use Rattle.cert_words.proofs.Sharings.{end_keeps, end_stop}
 use Rattle.cert_words.proofs.words.counted_or.Goals as goal

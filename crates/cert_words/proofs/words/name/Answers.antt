@@ -1,6 +1,4 @@
-use Rattle.std.proofs.Common.{refl, ℕ, [], Some, sym, subst}
-use Rattle.cert_grammar.specs.Marks.{unknown_name}
-use Rattle.cert_words.specs.Walks.{IsStuckAt}
+use Rattle.std.proofs.Common.{refl, []}
 use Rattle.cert_words.proofs.Stepping.{none_now, first_one, stuck_one, named, name_run, name_stop, go, stop}
 use Rattle.cert_words.proofs.words.name.Goals as goal
 

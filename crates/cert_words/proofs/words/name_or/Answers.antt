@@ -1,6 +1,4 @@
-use Rattle.std.proofs.Common.{refl, ℕ, [], Some, sym, subst}
-use Rattle.cert_grammar.specs.Marks.{unknown_name}
-use Rattle.cert_words.specs.Walks.{IsStuckAt}
+use Rattle.std.proofs.Common.{refl, []}
 use Rattle.cert_words.proofs.Stepping.{none_now, first_one, first_two, stuck_two, text_run, named, name_run, name_found, name_stop, go, stop}
 use Rattle.cert_words.proofs.words.name_or.Goals as goal
 
