@@ -1,6 +1,5 @@
 pub mod Stopping
 pub mod Opening
-pub mod FirstPlaces
 pub mod EntryItems
 pub mod Chosen
 pub mod AutomatonMarks
@@ -13,4 +12,3 @@ pub mod EvidenceKinds
 pub mod Found
 pub mod KindMarks
 pub mod SharedKnown
-pub mod SharedPlaces

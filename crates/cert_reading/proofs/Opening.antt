@@ -1,9 +1,9 @@
 -- The words of an opening, which are refused where they stand.
-use Rattle.std.proofs.Common.{◌≡◌, inl, inr, ◌<◌, ◌==◌, ℕ, suc, Bool, true, false, List, [], ◌∷◌, Option, Some, None, codes, IfSome, IsTrue, refl, sym, ap, ◌∙◌, subst, arith, eqb-true}
+use Rattle.std.proofs.Common.{◌≡◌, inl, inr, ◌<◌, ◌==◌, ℕ, zero, suc, Bool, true, false, List, [], ◌∷◌, ◌++◌, Option, Some, None, codes, IfSome, IsTrue, refl, sym, ap, ◌∙◌, subst, arith, eqb-true}
 use Rattle.cops_names.specs.NameTable.{NameTable}
 use Rattle.cert_grammar.specs.Prelude.{Version, first_version, second_version, fits_answer, is_answer, syntax, word, Item, Lead, keyword, leads, pair_or_end, heading, shared_line, body}
 use Rattle.cert_grammar.specs.Prelude.{between, line, any_number, pairs_from, entries_from, heads_from, measured_name, measured_condition, head_name, coefficients_behind, is_there}
-use Rattle.cert_grammar.specs.Prelude.{first_there, Shared}
+use Rattle.cert_grammar.specs.Prelude.{first_there, behind_automata, Shared}
 use Rattle.cert_openings.specs.Openings.{BeginsEntry}
 use Rattle.cert_words.specs.declared.error.CertError.{CertError}
 use Rattle.cert_words.specs.declared.error.CertError.TheVariants.{CertSyntax}
@@ -13,32 +13,46 @@ use Rattle.cert_words.specs.Choices.{Choice}
 use Rattle.cert_words.specs.Walks.{Run, IsStuckAt}
 use Rattle.cert_words.proofs.Walking.{front_same, went, stopped}
 use Rattle.cert_words.proofs.Stepping.{keyword_run, keyword_stop, stuck_stops}
-use Rattle.cert_reading.specs.Stops.{Place, ReadsWhere, IsBehind, AreBehind, BeginsList, WithinOpening}
+use Rattle.cert_reading.specs.Stops.{Place, ReadsWhere, IsBehind, AreBehind, BeginsList, BeforeEntries, WithinOpening}
 use Rattle.cert_reading.specs.Headings.{item_by}
 use Rattle.cert_reading.specs.Measures.{SymbolAt}
 use Rattle.cert_reading.specs.declared.headings.Kind.{Kind}
 use Rattle.cert_reading.specs.declared.headings.Kind.TheVariants.{Ortho, Quasi, Peak}
-use Rattle.cert_reading.proofs.Stopping.{word_where, pair_later}
+use Rattle.cert_reading.proofs.Stopping.{word_where, low_unopened, pair_later}
 
 -- ---- places within an opening
 
 pub same_item : (i j : Item) → i ∷ [] ≡ j ∷ [] → i ≡ j
 same_item i j e = cc
 
-no_list : (v : Version) (i j : Item) → i ≡ j → ((m : ℕ) → i ≡ pairs_from v m → ⊥) → ((m : ℕ) → i ≡ entries_from v m → ⊥) → ((m : ℕ) → i ≡ heads_from m → ⊥) → BeginsList v j → ⊥
-no_list first_version i j e pairs entries heads (inl h) = entries h.0 (e ∙ h.1)
-no_list first_version i j e pairs entries heads (inr h) = pairs (suc h.0) (e ∙ h.1)
-no_list second_version i j e pairs entries heads (inl h) = entries h.0 (e ∙ h.1)
-no_list second_version i j e pairs entries heads (inr (inl h)) = pairs (suc h.0) (e ∙ h.1)
-no_list second_version i j e pairs entries heads (inr (inr h)) = heads h.0 (e ∙ h.1)
+-- an item that is neither the end of a line nor a list
+abbrev pub IsOther : Item → Type 0
+IsOther (between b) = ⊥
+IsOther (pairs_from v n) = ⊥
+IsOther (entries_from v n) = ⊥
+IsOther (heads_from n) = ⊥
+IsOther i = Unit {0}
+
+no_list : (v : Version) (i : Item) → IsOther i → BeginsList v i → ⊥
+no_list first_version i o (inl h) = subst IsOther h.1 o
+no_list first_version i o (inr h) = subst IsOther h.1 o
+no_list second_version i o (inl h) = subst IsOther h.1 o
+no_list second_version i o (inr (inl h)) = subst IsOther h.1 o
+no_list second_version i o (inr (inr h)) = subst IsOther h.1 o
 
 alone_early : (v : Version) (i : Item) → (i ≡ between line → ⊥) → (IsBehind v 1 i → ⊥) → AreBehind v 1 (i ∷ []) → ⊥
 alone_early v i end pairs (inl h) = pairs h
 alone_early v i end pairs (inr s) = end (same_item i (between line) s)
 
-pub other_item : (v : Version) (i : Item) (q : List ℕ) → (i ≡ between line → ⊥) → ((m : ℕ) → i ≡ pairs_from v m → ⊥) → ((m : ℕ) → i ≡ entries_from v m → ⊥)
-    → ((m : ℕ) → i ≡ heads_from m → ⊥) → WithinOpening v (i ∷ []) q
-other_item v i q end pairs entries heads = record { early = alone_early v i end (λ h. pairs h.0 h.1); closed = λ j e h b. no_list v i j (same_item i j e) pairs entries heads h }
+pub other_place : (i : Item) (q : List ℕ) → IsOther i → BeforeEntries (i ∷ []) q
+other_place i q o = λ v. record { early = alone_early v i (λ e. subst IsOther e o) (λ h. subst IsOther h.1 o); closed = λ j e h b. no_list v j (subst IsOther (same_item i j e) o) h }
+
+pub other_below : (low : Item) → IsOther low → (i : Item) (m : List Item) (q : List ℕ) → BeforeEntries (i ∷ (m ++ low ∷ [])) q
+other_below low o i m q = λ v. low_unopened v low (λ h. subst IsOther h.1 o) i m q
+
+pub automata_other : (n : ℕ) (given : Option Bool) → IsOther (behind_automata n given)
+automata_other zero given = tt
+automata_other (suc n) given = tt
 
 -- a list, where no overlap and no last line may begin
 list_item : (v : Version) (i : Item) (q : List ℕ) → (i ≡ between line → ⊥) → (IsBehind v 1 i → ⊥) → (BeginsEntry q → ⊥) → WithinOpening v (i ∷ []) q

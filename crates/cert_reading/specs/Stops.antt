@@ -47,10 +47,13 @@ lowest i (j ∷ items) = lowest j items
 abbrev pub IsBehind : Version → ℕ → Item → Type 0
 IsBehind v n i = (m : ℕ) × (i ≡ pairs_from v m) × (n < m)
 
--- nothing more is left, or that; or the end of the last line alone
+-- nothing more is left, or such an item below the others; or the end of the last line alone
+abbrev pub AreAbove : (Item → Type 0) → List Item → Type 0
+AreAbove P [] = Unit {0}
+AreAbove P (i ∷ items) = P (lowest i items) ⊎ (i ∷ items ≡ between line ∷ [])
+
 abbrev pub AreBehind : Version → ℕ → List Item → Type 0
-AreBehind v n [] = Unit {0}
-AreBehind v n (i ∷ items) = IsBehind v n (lowest i items) ⊎ (i ∷ items ≡ between line ∷ [])
+AreBehind v n items = AreAbove (IsBehind v n) items
 
 -- entries, or overlaps; in the second version the symbols of a precedence too
 abbrev pub BeginsList : Version → Item → Type 0

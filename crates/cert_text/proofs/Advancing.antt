@@ -9,7 +9,7 @@ use Rattle.cops_names.specs.NameTable.{NameTable}
 use Rattle.cert_model.specs.declared.model.PairEntry.{PairEntry}
 use Rattle.cert_model.specs.CertificateView.{pair_entry_view}
 use Rattle.cert_grammar.specs.Prelude.{name_of, Version, first_version, second_version, CanSimplify, pairs_marks, closing, IsCertificateText, CertificateCause, syntax, bad_share, Naming}
-use Rattle.cert_grammar.specs.Prelude.{Mark, IsCertificateRefused, Item, pairs_from, Shared, nothing_shared}
+use Rattle.cert_grammar.specs.Prelude.{Mark, IsCertificateRefused, Item, pairs_from, entries_from, heads_from, Shared, nothing_shared}
 use Rattle.cert_grammar.specs.Items as Items
 use Rattle.cert_sharing.proofs.FirstUses.{texts_length}
 use Rattle.cert_sharing.proofs.Whole.{never_both}
@@ -27,8 +27,6 @@ use Rattle.cert_words.specs.CertRefusals.{IsRefusedAs}
 use Rattle.cert_words.specs.Walks.{Run, IsFront}
 use Rattle.cert_words.proofs.Walking.{run_then, as_run}
 use Rattle.cert_words.proofs.Whole.{walks_text}
-use Rattle.cert_reading.specs.declared.uses.Uses as uses_code
-use Rattle.cert_reading.specs.Uses.{version_by, automata_by}
 use Rattle.cert_reading.specs.Plain.{EvidenceUses, IsPlainBy}
 use Rattle.cert_reading.specs.Stops.{Anywhere, AreBehind, WithinEntry, IsStoppedWhere, ReadsWhere}
 use Rattle.cert_reading.proofs.ListMarks.{pairs_use}
@@ -56,29 +54,29 @@ same_at first_version item x b h = subst (λ (i : Item). IsSame first_version i 
 same_at second_version item (inl x) b h = subst (λ (i : Item). IsSame second_version i b) (sym x.1) (symbol_same second_version x.0 _ _ _ (entry_at second_version x.0) b h)
 same_at second_version item (inr x) b h = subst (λ (i : Item). IsSame second_version i b) (sym x.1) (symbol_same second_version x.0 _ _ _ (head_at x.0) b h)
 
-no_overlap : (v : Version) (item : Item) (m : ℕ) → EndsMeasure v item → item ≡ pairs_from v m → ⊥
-no_overlap first_version item m x e = let q = sym x.1 ∙ e in cc
-no_overlap second_version item m (inl x) e = let q = sym x.1 ∙ e in cc
-no_overlap second_version item m (inr x) e = let q = sym x.1 ∙ e in cc
+abbrev IsSymbols : Item → Type 0
+IsSymbols (entries_from v n) = Unit {0}
+IsSymbols (heads_from n) = Unit {0}
+IsSymbols _ = ⊥
 
-no_line : (v : Version) (item : Item) → EndsMeasure v item → item ∷ [] ≡ Items.between Items.line ∷ [] → ⊥
-no_line first_version item x e = let q : item ≡ Items.between Items.line = cc in let p = sym x.1 ∙ q in cc
-no_line second_version item (inl x) e = let q : item ≡ Items.between Items.line = cc in let p = sym x.1 ∙ q in cc
-no_line second_version item (inr x) e = let q : item ≡ Items.between Items.line = cc in let p = sym x.1 ∙ q in cc
+are_symbols : (v : Version) (item : Item) → EndsMeasure v item → IsSymbols item
+are_symbols first_version item x = subst IsSymbols (sym x.1) tt
+are_symbols second_version item (inl x) = subst IsSymbols (sym x.1) tt
+are_symbols second_version item (inr x) = subst IsSymbols (sym x.1) tt
 
-measure_early : (v : Version) (item : Item) → EndsMeasure v item → AreBehind v 2 (item ∷ []) → ⊥
-measure_early v item x (inl h) = no_overlap v item h.0 x h.1
-measure_early v item x (inr s) = no_line v item x s
+symbols_early : (v : Version) (item : Item) → IsSymbols item → AreBehind v 2 (item ∷ []) → ⊥
+symbols_early v item s (inl h) = subst IsSymbols h.1 s
+symbols_early v item s (inr e) = subst IsSymbols (same_item item (Items.between Items.line) e) s
 
-measure_place : (v : Version) (item : Item) (b q : List ℕ) → EndsMeasure v item → WithinEntry v 1 b (item ∷ []) q
-measure_place v item b q x = record { early = λ h. absurd (measure_early v item x h); going = λ e. no_overlap v item 2 x (same_item item (pairs_from v 2) e) }
+symbols_place : (v : Version) (item : Item) (b q : List ℕ) → IsSymbols item → WithinEntry v 1 b (item ∷ []) q
+symbols_place v item b q s = record { early = λ h. absurd (symbols_early v item s h); going = λ e. subst IsSymbols (same_item item (pairs_from v 2) e) s }
 
 next_stop : (names : NameTable) (end : ℕ) (v : Version) (n : ℕ) (item : Item) (b : List ℕ) (sa : Shared) (t : Option (CertificateCause × ℕ)) → IsNext v item n b
     → IsStoppedWhere (WithinEntry v n b) names end (pairs_from v n ∷ []) b sa t → IsStoppedWhere (WithinEntry v n b) names end (item ∷ []) b sa t
 next_stop names end v n item b sa t (inl e) h = subst (λ (i : Item). IsStoppedWhere (WithinEntry v n b) names end (i ∷ []) b sa t) (sym e) h
 next_stop names end v n item b sa t (inr x) h =
     subst (λ (k : ℕ). IsStoppedWhere (WithinEntry v k b) names end (item ∷ []) b sa t) (sym x.1)
-    (symbol_stopped names end v item b (same_at v item x.0 b x.2) (WithinEntry v 1 b) sa t (measure_place v item b b x.0)
+    (symbol_stopped names end v item b (same_at v item x.0 b x.2) (WithinEntry v 1 b) sa t (symbols_place v item b b (are_symbols v item x.0))
     (subst (λ (k : ℕ). IsStoppedWhere (WithinEntry v k b) names end (pairs_from v k ∷ []) b sa t) x.1 h))
 
 next_run : (names : NameTable) (end : ℕ) (v : Version) (n : ℕ) (item : Item) (f : Naming → List Mark) (to : List Item) (b r : List ℕ) (sa sb : Shared) → IsNext v item n b
@@ -108,15 +106,10 @@ front_kept names v shared end n s t None h k = k.front
 front_kept names v shared end n s t (Some p) h k = h.front
 
 -- as the code holds the version and the shared automata
-pub by_uses : {v : Version} {shared : List Automaton} {names : NameTable} {bytes left : List ℕ} {count : ℕ} {now : Shared} (w : uses_code.Uses) → version_by w ≡ v
-    → automata_by w ≡ shared → IsUpTo v shared names bytes left count now → IsUpTo (version_by w) (automata_by w) names bytes left count now
-by_uses {v} {shared} {names} {bytes} {left} {count} {now} w e f u = subst (λ (x : Version). IsUpTo x (automata_by w) names bytes left count now) (sym e)
-    (subst (λ (l : List Automaton). IsUpTo v l names bytes left count now) (sym f) u)
-
-pub from_uses : {v : Version} {shared : List Automaton} {names : NameTable} {bytes left : List ℕ} {count : ℕ} {now : Shared} (w : uses_code.Uses) → version_by w ≡ v
-    → automata_by w ≡ shared → IsUpTo (version_by w) (automata_by w) names bytes left count now → IsUpTo v shared names bytes left count now
-from_uses {v} {shared} {names} {bytes} {left} {count} {now} w e f u = subst (λ (x : Version). IsUpTo x shared names bytes left count now) e
-    (subst (λ (l : List Automaton). IsUpTo (version_by w) l names bytes left count now) f u)
+pub up_to_by : {v w : Version} {shared all : List Automaton} {names : NameTable} {bytes left : List ℕ} {count : ℕ} {now : Shared} → w ≡ v → all ≡ shared
+    → IsUpTo w all names bytes left count now → IsUpTo v shared names bytes left count now
+up_to_by {v} {w} {shared} {all} {names} {bytes} {left} {count} {now} e f u = subst (λ (x : Version). IsUpTo x shared names bytes left count now) e
+    (subst (λ (l : List Automaton). IsUpTo w l names bytes left count now) f u)
 
 -- ---- shares
 
@@ -165,6 +158,10 @@ plain_more : (v : Version) (all : List Automaton) (o : Opening) (es : List math.
 plain_more v all ortho_opening es p h k = pairs_use v all es p h k
 plain_more v all (quasi_opening m) es p h k = (h.0, pairs_use v all es p h.1 k)
 plain_more v all (simplified_opening ss o) es p h k = (can_simplify v o es (es ++ p ∷ []) h.0, h.1, plain_more v all o es p h.2 k)
+
+none_if : {A : Type 0} (t : Option A) → ((x : A) → t ≡ Some x → ⊥) → t ≡ None
+none_if None never = refl
+none_if (Some x) never = absurd (never x refl)
 
 module _ {v : Version} {shared : List Automaton} {names : NameTable} {bytes left : List ℕ} {count : ℕ} {now : Shared} (u : IsUpTo v shared names bytes left count now)
     (n : ℕ) (is_n : n ≡ suc count) where
@@ -314,18 +311,11 @@ module _ {v : Version} {shared : List Automaton} {names : NameTable} {bytes left
 
       -- nothing is told of a text that goes on
       pub not_told : (o : Opening) (es : List math.PairEntry) → HasRead old o es → IsAll old o es → told e ≡ None
-      not_told o es h k = by (told e) refl
-        where
-          by : (t : Option (CertificateCause × ℕ)) → told e ≡ t → told e ≡ None
-          by None q = q
-          by (Some x) q = absurd (never_both names bytes (certificate_for o es) x.0 x.1 (text_here (certificate_for o es) k) (refused_as_told names bytes e x.0 x.1 refused_here q))
+      not_told o es h k = none_if (told e)
+          (λ x q. never_both names bytes (certificate_for o es) x.0 x.1 (text_here (certificate_for o es) k) (refused_as_told names bytes e x.0 x.1 refused_here q))
 
       pub not_told_at : (o : Opening) (es : List math.PairEntry) (p : math.PairEntry) (place : ℕ) → HasRead old o es → IsRead old.names old.bytes o (es ++ p ∷ []) place → told e ≡ None
-      not_told_at o es p place h k = by (told e) refl
-        where
-          by : (t : Option (CertificateCause × ℕ)) → told e ≡ t → told e ≡ None
-          by None q = q
-          by (Some x) q =
-              let at_item = subst (IsStoppedWhere (WithinEntry v n left) names (length bytes) (u.item ∷ []) left now) q stop in
-              let there = subst (λ (m : ℕ). IsStoppedWhere (WithinEntry v m left) names (length bytes) (u.item ∷ []) left now (Some x)) is_n at_item in
-              absurd (in_entry v shared names bytes left count now u x (there within) o es p place (read_here o es h) (after_here o (es ++ p ∷ []) place k))
+      not_told_at o es p place h k = none_if (told e) (λ x q.
+          let at_item = subst (IsStoppedWhere (WithinEntry v n left) names (length bytes) (u.item ∷ []) left now) q stop in
+          let there = subst (λ (m : ℕ). IsStoppedWhere (WithinEntry v m left) names (length bytes) (u.item ∷ []) left now (Some x)) is_n at_item in
+          in_entry v shared names bytes left count now u x (there within) o es p place (read_here o es h) (after_here o (es ++ p ∷ []) place k))

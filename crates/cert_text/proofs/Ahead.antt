@@ -1,8 +1,11 @@
 -- A reader goes along what stands there, and never stops before its end.
-use Rattle.std.proofs.Common.{◌≡◌, ◌⊎◌, inl, inr, ◌<◌, ℕ, suc, List, [], ◌∷◌, ◌++◌, take, Option, Some, None, codes, refl, sym, ap, ◌∙◌, subst, arith, append_assoc}
-use Rattle.std.proofs.lemmas.List.{append_cancel_left}
+use Rattle.std.proofs.Common.{◌≡◌, ◌⊎◌, inl, inr, ◌<◌, ◌&&◌, ℕ, suc, Bool, true, List, [], ◌∷◌, ◌++◌, take, Option, Some, None, codes, refl, sym, ap, ◌∙◌, subst, arith, append_assoc}
+use Rattle.std.proofs.lemmas.Bool.{and_parts}
+use Rattle.std.proofs.lemmas.List.{append-nil, append_cancel_left}
+use Rattle.certificates.specs.Prelude.{PairEntry}
 use Rattle.cops_names.specs.NameTable.{NameTable}
-use Rattle.cert_grammar.specs.Prelude.{CertificateCause, Demand, Mark, fixed, word, mark_text, marks_text, demands_of, verdict, Pass, Item, between, line, pairs_from, entries_from}
+use Rattle.cert_grammar.specs.Prelude.{name_of, all_used, shares, CertificateCause, Demand, Mark, fixed, word, mark_text, marks_text, demands_of, verdict, Pass, Item, opening, between, line}
+use Rattle.cert_grammar.specs.Prelude.{pairs_from, entries_from, answer_marks, heading_marks, body_marks, certificate_marks, closing, Skeleton, HaveNames}
 use Rattle.cert_grammar.specs.Prelude.{heads_from, Lead, text, check, at_once, keyword, numeral_lead, position_lead, variable_lead, name_lead, leads, Version, first_version, second_version}
 use Rattle.cert_grammar.specs.Prelude.{mode_of, first_there, taken, mark_of, items_of, Left, behind_lead, judged, step_lead, Reading as Answer, Shared, share_verdict, behind_mark}
 use Rattle.cert_grammar.specs.Prelude.{behind_marks, PassShares, ends, further}
@@ -13,14 +16,19 @@ use Rattle.cert_laws.proofs.OneRefusal.{passed_anywhere}
 use Rattle.cert_laws.proofs.PassTerms.{pass_append}
 use Rattle.cert_laws.proofs.Paths.{Takes, Path, first_complete}
 use Rattle.cert_laws.proofs.Moves.{There, takes_along}
-use Rattle.cert_laws.proofs.Reached.{Move, Moves, same_taken, there_size}
-use Rattle.cert_openings.specs.Openings.{BeginsEntry}
+use Rattle.cert_laws.proofs.Reached.{Move, Moves, moves_path, same_taken, there_size}
+use Rattle.cert_laws.proofs.SkeletonPaths.{skeleton_path}
+use Rattle.cert_laws.proofs.Spelt.{have_both, text_both}
+use Rattle.cert_openings.specs.Openings.{BeginsEntry, Opening, certificate_for}
 use Rattle.cert_openings.proofs.Lines.{apart}
+use Rattle.cert_openings.proofs.Opened.{Gone}
 use Rattle.cert_sharing.proofs.UseMarks.{pass_split}
 use Rattle.cert_words.specs.Walks.{left_at, RefusesAt}
 use Rattle.cert_words.proofs.Walking.{step_on}
-use Rattle.cert_reading.specs.Stops.{lowest, IsBehind, AreBehind, BeginsList}
+use Rattle.cert_reading.specs.Stops.{lowest, AreAbove, IsBehind, AreBehind, BeginsList}
 use Rattle.cert_reading.proofs.Opening.{same_item}
+use Rattle.cert_text.specs.ReadingView.{read_marks}
+use Rattle.cert_text.proofs.Ends.{read_end}
 
 -- ---- from a path to moves
 
@@ -51,19 +59,48 @@ moves_along (m ∷ front) u back (i ∷ s) bytes rest p e =
     let others = moves_along front u back (p.0 ++ s) behind rest p.2 refl in
     (others.0, (p.0, behind, record { takes = p.1; there = there; text = whole }, others.1), others.2)
 
+-- an opening and entries that are read, up to where the last line may stand
+pub along : (names : NameTable) (bytes : List ℕ) (o : Opening) (es : List PairEntry) (at : ℕ) (g : Gone names bytes o es at)
+    → (t : List Item) × Moves (read_marks (name_of names) g.uses g.shared g.answer o es) (opening ∷ []) bytes t g.rest × Path closing t []
+along names bytes o es at g =
+    let x = name_of names in
+    let c = certificate_for o es in
+    let ms = read_marks x g.uses g.shared g.answer o es in
+    let heading = heading_marks x g.uses g.shared in
+    let body = body_marks x g.uses g.answer c in
+    let whole : certificate_marks x g.uses g.shared g.answer c ≡ ms ++ closing = sym (append_assoc (answer_marks g.answer) (heading ++ body) closing
+    ∙ ap (λ (k : List Mark). answer_marks g.answer ++ k) (append_assoc heading body closing)) in
+    let skeleton : Skeleton = record {
+      names = x;
+      uses = g.uses;
+      shared = g.shared;
+      answer = g.answer;
+      certificate = c;
+      allowed = g.allowed;
+      named = subst HaveNames (sym whole)
+          (have_both ms closing g.spells.named tt);
+    } in
+    let end = read_end x g.uses g.shared g.answer o es in
+    let last = end.1 ∷ end.2 in
+    let path = subst (λ (k : List Mark). Path k (opening ∷ []) []) (whole ∙ ap (λ (k : List Mark). k ++ closing) end.3 ∙ append_assoc end.0 (fixed last ∷ []) closing) (skeleton_path skeleton) in
+    let spelt = ap marks_text end.3 ∙ text_both end.0 (fixed last ∷ []) ∙ ap (λ (w : List ℕ). marks_text end.0 ++ w) (append-nil last) in
+    let text : bytes ≡ marks_text end.0 ++ (last ++ g.rest) = g.text ∙ ap (λ (w : List ℕ). w ++ g.rest) spelt ∙ append_assoc (marks_text end.0) last g.rest in
+    let moved = moves_along end.0 last closing (opening ∷ []) bytes g.rest path text in
+    (moved.0, subst (λ (k : List Mark). Moves k (opening ∷ []) bytes moved.0 g.rest) (sym end.3) moved.1, moved.2)
+
 -- ---- two readers of the same bytes
 
 -- the first gets to where the other is, or stays before
 pub data Meet (f g : List Mark) (t : List Item) (r : List ℕ) (u : List Item) (q : List ℕ) : Type 0 where
-  ahead : (more : List Mark) → Moves more t r u q → Meet f g t r u q
+  ahead : (more : List Mark) → g ≡ f ++ more → Moves more t r u q → Meet f g t r u q
   behind_it : (m : Mark) (ms : List Mark) → f ≡ g ++ m ∷ ms → Moves (m ∷ ms) u q t r → Meet f g t r u q
 
 meet_more : (m n : Mark) (f g : List Mark) (t : List Item) (r : List ℕ) (u : List Item) (q : List ℕ) → m ≡ n → Meet f g t r u q → Meet (m ∷ f) (n ∷ g) t r u q
-meet_more m n f g t r u q e (ahead more h) = ahead more h
+meet_more m n f g t r u q e (ahead more p h) = ahead more (ap (λ (x : Mark). x ∷ g) (sym e) ∙ ap (λ (x : List Mark). m ∷ x) p) h
 meet_more m n f g t r u q e (behind_it k ms p h) = behind_it k ms (ap (λ (x : Mark). x ∷ f) e ∙ ap (λ (x : List Mark). n ∷ x) p) h
 
 pub meet : (f g : List Mark) (s t u : List Item) (b r q : List ℕ) → Moves f s b t r → Moves g s b u q → Meet f g t r u q
-meet [] g s t u b r q h k = ahead g (subst (λ (x : List Item). Moves g x r u q) h.0 (subst (λ (x : List ℕ). Moves g s x u q) h.1 k))
+meet [] g s t u b r q h k = ahead g refl (subst (λ (x : List Item). Moves g x r u q) h.0 (subst (λ (x : List ℕ). Moves g s x u q) h.1 k))
 meet (m ∷ f) [] s t u b r q h k = behind_it m f refl (subst (λ (x : List Item). Moves (m ∷ f) x q t r) k.0 (subst (λ (x : List ℕ). Moves (m ∷ f) s x t r) k.1 h))
 meet (m ∷ f) (n ∷ g) [] t u b r q h k = absurd h
 meet (m ∷ f) (n ∷ g) (i ∷ s) t u b r q h k =
@@ -107,7 +144,7 @@ pub stops_ahead : (names : NameTable) (end : ℕ) (f g : List Mark) (s t : List 
 stops_ahead names end f g s t b r i more q a z e h p w k is x = by (meet f g s t (i ∷ more) b r q h k)
   where
     by : Meet f g t r (i ∷ more) q → (ms : List Mark) × Moves ms t r (i ∷ more) q
-    by (ahead ms y) = (ms, y)
+    by (ahead ms e y) = (ms, y)
     by (behind_it m ms v y) =
         let there = (pass_split g (m ∷ ms) a (subst (PassShares a) v w)).1.0 in
         absurd (never_refused names end i more m q y.1 y.0 (behind_marks g a) e y.2 (pass_append names g (m ∷ ms) (subst (Pass names) v p)).1.0 there
@@ -129,29 +166,72 @@ step_by P i m new h each = subst P (sym h.items) (each_in P m (leads i) h.lead h
 
 -- ---- what stands below
 
-pub lowest_behind : (k : Item) (ks : List Item) (j : Item) (s : List Item) → lowest k (ks ++ j ∷ s) ≡ lowest j s
+abbrev pub end_mark : Mark
+end_mark = word (codes "end") (shares all_used ∷ [])
+
+abbrev pub line_mark : Mark
+line_mark = fixed (codes "\n")
+
+lowest_behind : (k : Item) (ks : List Item) (j : Item) (s : List Item) → lowest k (ks ++ j ∷ s) ≡ lowest j s
 lowest_behind k [] j s = refl
 lowest_behind k (l ∷ ks) j s = lowest_behind l ks j s
+
+abbrev pub all_fit : (Mark → Bool) → List Mark → Bool
+all_fit fits [] = true
+all_fit fits (m ∷ ms) = fits m && all_fit fits ms
+
+-- an item of this kind stays below, if one such mark leaves one
+module _ (P : Item → Type 0) (fits : Mark → Bool) (one : (i : Item) (m : Mark) (new : List Item) → fits m ≡ true → Takes i m new → P i → AreAbove P (new ++ [])) where
+  above_step : (i : Item) (s : List Item) (m : Mark) (new : List Item) → fits m ≡ true → Takes i m new → AreAbove P (i ∷ s) → AreAbove P (new ++ s)
+  above_step i [] m new f h (inl x) = one i m new f h x
+  above_step i [] m new f h (inr x) = step_by (λ (y : List Item). AreAbove P (y ++ [])) (between line) m new
+      (subst (λ (j : Item). Takes j m new) (same_item i (between line) x) h) ((λ w e. tt), tt)
+  above_step i (j ∷ s) m [] f h (inl x) = inl x
+  above_step i (j ∷ s) m (k ∷ ks) f h (inl x) = inl (subst P (sym (lowest_behind k ks j s)) x)
+  above_step i (j ∷ s) m new f h (inr x) = absurd cc
+
+  pub above_path : (ms : List Mark) (s t : List Item) → all_fit fits ms ≡ true → Path ms s t → AreAbove P s → AreAbove P t
+  above_path [] s t f p x = subst (AreAbove P) p x
+  above_path (m ∷ ms) [] t f p x = absurd p
+  above_path (m ∷ ms) (i ∷ s) t f p x = let both = and_parts (fits m) (all_fit fits ms) f in above_path ms (p.0 ++ s) t both.1 p.2 (above_step i s m p.0 both.0 p.1 x)
+
+nothing_else : (new s : List Item) → new ++ s ≡ [] → s ≡ []
+nothing_else [] s e = e
+nothing_else (i ∷ new) s e = absurd cc
+
+-- where the last line may stand one item is left, if no such item begins with the end of a line
+module _ (P : Item → Type 0) (no_line : (i : Item) (new : List Item) → Takes i line_mark new → P i → ⊥) where
+  two_left : (j : Item) (s new : List Item) → P (lowest j s) → Path (line_mark ∷ []) (new ++ j ∷ s) [] → ⊥
+  two_left j s [] x p = no_line j p.0 p.1 (subst (λ (z : List Item). P (lowest j z)) (nothing_else p.0 s p.2) x)
+  two_left j s (k ∷ ks) x p = let none = nothing_else ks (j ∷ s) (nothing_else p.0 (ks ++ j ∷ s) p.2) in cc
+
+  pub one_left : (t : List Item) → AreAbove P t → Path closing t [] → (i : Item) × (t ≡ i ∷ []) × P i × ((new : List Item) × Takes i end_mark new)
+  one_left [] x p = absurd p
+  one_left (i ∷ []) (inl x) p = (i, refl, x, (p.0, p.1))
+  one_left (i ∷ j ∷ s) (inl x) p = absurd (two_left j s p.0 x p.2)
+  one_left (i ∷ []) (inr e) p = absurd (step_by (λ (y : List Item). ⊥) (between line) end_mark p.0
+      (subst (λ (z : Item). Takes z end_mark p.0) (same_item i (between line) e) p.1) ((λ w q. cc), tt))
+  one_left (i ∷ j ∷ s) (inr e) p = absurd cc
 
 -- an overlap is read, or the last line
 pub pair_step : (v : Version) (n k : ℕ) (m : Mark) (new : List Item) → n < suc k → Takes (pairs_from v k) m new → AreBehind v n (new ++ [])
 pair_step v n k m new less h = step_by (λ (x : List Item). AreBehind v n (x ++ [])) (pairs_from v k) m new h ((λ w e. inl (suc k, refl, less)), ((λ w e. inr refl), tt))
 
--- behind the end of the last line nothing is left
-pub line_step : (v : Version) (n : ℕ) (m : Mark) (new : List Item) → Takes (between line) m new → AreBehind v n (new ++ [])
-line_step v n m new h = step_by (λ (x : List Item). AreBehind v n (x ++ [])) (between line) m new h ((λ w e. tt), tt)
-
-pub later_step : (v : Version) (n : ℕ) (i : Item) (s : List Item) (m : Mark) (new : List Item) → Takes i m new → AreBehind v n (i ∷ s) → AreBehind v n (new ++ s)
-later_step v n i [] m new h (inl x) = let less = x.2 in pair_step v n x.0 m new (omega (arith, less)) (subst (λ (j : Item). Takes j m new) x.1 h)
-later_step v n i [] m new h (inr x) = line_step v n m new (subst (λ (j : Item). Takes j m new) (same_item i (between line) x) h)
-later_step v n i (j ∷ s) m [] h (inl x) = inl x
-later_step v n i (j ∷ s) m (k ∷ ks) h (inl x) = inl (subst (IsBehind v n) (sym (lowest_behind k ks j s)) x)
-later_step v n i (j ∷ s) m new h (inr x) = absurd cc
-
 pub later_moves : (v : Version) (n : ℕ) (ms : List Mark) (s t : List Item) (b r : List ℕ) → Moves ms s b t r → AreBehind v n s → AreBehind v n t
-later_moves v n [] s t b r h x = subst (AreBehind v n) h.0 x
-later_moves v n (m ∷ ms) [] t b r h x = absurd h
-later_moves v n (m ∷ ms) (i ∷ s) t b r h x = later_moves v n ms (h.0 ++ s) t h.1 r h.3 (later_step v n i s m h.0 h.2.takes x)
+later_moves v n ms s t b r h x = above_path (IsBehind v n) (λ (m : Mark). true)
+    (λ i m new f k y. let less = y.2 in pair_step v n y.0 m new (omega (arith, less)) (subst (λ (j : Item). Takes j m new) y.1 k)) ms s t (each ms)
+    (moves_path ms s t b r h) x
+  where
+    each : (ms : List Mark) → all_fit (λ (m : Mark). true) ms ≡ true
+    each [] = refl
+    each (m ∷ ms) = each ms
+
+-- where the last line may stand behind an overlap, a later overlap alone is left
+pub last_pair : (v : Version) (n : ℕ) (t : List Item) → AreBehind v n t → Path closing t [] → (m : ℕ) × (n < m) × (t ≡ pairs_from v m ∷ [])
+last_pair v n t x p =
+    let one = one_left (IsBehind v n)
+    (λ i new h y. step_by (λ (z : List Item). ⊥) (pairs_from v y.0) line_mark new (subst (λ (j : Item). Takes j line_mark new) y.1 h) ((λ w e. cc), ((λ w e. cc), tt))) t x p in
+    (one.2.0, one.2.2, one.1 ∙ ap (λ (i : Item). i ∷ []) one.2.1)
 
 -- ---- behind an opening
 
@@ -165,20 +245,22 @@ no_symbol : (m : Mark) (b behind : List ℕ) (ds : List Demand) → BeginsEntry 
 no_symbol m b behind ds begins e (inl q) = no_entry 102 (codes "un") b behind begins (e ∙ ap (λ (x : Mark). mark_text x ++ behind) q) (apart 102 112 refl) (apart 102 101 refl)
 no_symbol m b behind ds begins e (inr q) = no_entry 97 (codes "ux") b behind begins (e ∙ ap (λ (x : Mark). mark_text x ++ behind) q) (apart 97 112 refl) (apart 97 101 refl)
 
-pub entry_step : (v : Version) (k : ℕ) (m : Mark) (b behind : List ℕ) (new : List Item) → BeginsEntry b → Move (entries_from v k) m b behind new → AreBehind v 1 (new ++ [])
-entry_step v k m b behind new begins h =
-    step_by (λ (x : List Item). AreBehind v 1 (x ++ [])) (entries_from v k) m new h.takes
-    ((λ w e. absurd (no_symbol m b behind _ begins h.text (inl e))), ((λ w e. absurd (no_symbol m b behind _ begins h.text (inr e))), ((λ w e. inl (2, refl, omega arith)), ((λ w e. inr refl), tt))))
-
-pub head_step : (k : ℕ) (m : Mark) (b behind : List ℕ) (new : List Item) → BeginsEntry b → Move (heads_from k) m b behind new → AreBehind second_version 1 (new ++ [])
-head_step k m b behind new begins h =
-    step_by (λ (x : List Item). AreBehind second_version 1 (x ++ [])) (heads_from k) m new h.takes
-    ((λ w e. absurd (no_symbol m b behind _ begins h.text (inl e))), ((λ w e. absurd (no_symbol m b behind _ begins h.text (inr e))), ((λ w e. inl (2, refl, omega arith)), ((λ w e. inr refl), tt))))
+-- where they begin behind symbols
+symbol_step : (v : Version) (i : Item) (m : Mark) (b behind : List ℕ) (new fun aux : List Item) (ds : List Demand) → BeginsEntry b → Move i m b behind new
+    → leads i ≡ keyword (codes "fun") ds fun ∷ keyword (codes "aux") ds aux ∷ leads (pairs_from v 1) → AreBehind v 1 (new ++ [])
+symbol_step v i m b behind new fun aux ds begins h is =
+    step_by (λ (x : List Item). AreBehind v 1 (x ++ [])) i m new h.takes (subst (Each (λ (x : List Item). AreBehind v 1 (x ++ [])) m) (sym is) (
+      (λ w e. absurd (no_symbol m b behind ds begins h.text (inl e))),
+      (
+        (λ w e. absurd (no_symbol m b behind ds begins h.text (inr e))),
+        ((λ w e. inl (2, refl, omega arith)), ((λ w e. inr refl), tt)),
+      ),
+    ))
 
 -- where a list stands, and an overlap or the last line begins
 pub list_step : (v : Version) (i : Item) (m : Mark) (b behind : List ℕ) (new : List Item) → BeginsList v i → BeginsEntry b → Move i m b behind new → AreBehind v 1 (new ++ [])
-list_step first_version i m b behind new (inl x) begins h = entry_step first_version x.0 m b behind new begins (subst (λ (j : Item). Move j m b behind new) x.1 h)
+list_step first_version i m b behind new (inl x) begins h = symbol_step first_version i m b behind new _ _ _ begins h (ap leads x.1)
 list_step first_version i m b behind new (inr x) begins h = pair_step first_version 1 (suc x.0) m new (omega arith) (subst (λ (j : Item). Takes j m new) x.1 h.takes)
-list_step second_version i m b behind new (inl x) begins h = entry_step second_version x.0 m b behind new begins (subst (λ (j : Item). Move j m b behind new) x.1 h)
+list_step second_version i m b behind new (inl x) begins h = symbol_step second_version i m b behind new _ _ _ begins h (ap leads x.1)
 list_step second_version i m b behind new (inr (inl x)) begins h = pair_step second_version 1 (suc x.0) m new (omega arith) (subst (λ (j : Item). Takes j m new) x.1 h.takes)
-list_step second_version i m b behind new (inr (inr x)) begins h = head_step x.0 m b behind new begins (subst (λ (j : Item). Move j m b behind new) x.1 h)
+list_step second_version i m b behind new (inr (inr x)) begins h = symbol_step second_version i m b behind new _ _ _ begins h (ap leads x.1)

@@ -53,18 +53,20 @@ begun_on {names} {bytes} {v} {shared} {given} {steps} {further} {items} {s} {t} 
 }
 
 -- behind the line of the kind
-pub line_behind : {names : NameTable} {bytes : List ℕ} {v : Version} {shared : List Automaton} {kind : Kind} {s t : Reading} → (b : BeginsBody names bytes v shared kind s)
+line_behind : {names : NameTable} {bytes : List ℕ} {v : Version} {shared : List Automaton} {kind : Kind} {s t : Reading} → (b : BeginsBody names bytes v shared kind s)
     → Reads names (length bytes) (between line ∷ []) (λ u. fixed (codes "\n") ∷ []) [] s t
     → IsBegun names bytes v shared b.given b.steps (kind_mark b.given kind ∷ fixed (codes "\n") ∷ []) (item_by v kind ∷ []) t
 line_behind {v = v} {kind = kind} b h = begun_on (fixed (codes "\n") ∷ []) (item_by v kind ∷ []) b.begun (tt, tt)
     (low_where (item_by v kind) (λ i m q w. low_unopened w (item_by v kind) (kind_item v w kind) i m q) h)
 
--- of a kind that is known
-pub line_of : {names : NameTable} {bytes : List ℕ} {v : Version} {shared : List Automaton} {kind : Kind} {s t : Reading} (k : Kind) → kind ≡ k
+-- of a kind that is known, as the code writes uses
+pub line_of : {names : NameTable} {bytes : List ℕ} {v w : Version} {shared all : List Automaton} {kind : Kind} {s t : Reading} (k : Kind) → kind ≡ k → w ≡ v → all ≡ shared
     → (b : BeginsBody names bytes v shared kind s) → Reads names (length bytes) (between line ∷ []) (λ u. fixed (codes "\n") ∷ []) [] s t
-    → IsBegun names bytes v shared b.given b.steps (kind_mark b.given k ∷ fixed (codes "\n") ∷ []) (item_by v k ∷ []) t
-line_of {names} {bytes} {v} {shared} {kind} {s} {t} k e b h = subst (λ (x : Kind). IsBegun names bytes v shared b.given b.steps (kind_mark b.given x ∷ fixed (codes "\n") ∷ [])
-    (item_by v x ∷ []) t) e (line_behind b h)
+    → IsBegun names bytes w all b.given b.steps (kind_mark b.given k ∷ fixed (codes "\n") ∷ []) (item_by w k ∷ []) t
+line_of {names} {bytes} {v} {w} {shared} {all} {kind} {s} {t} k e p q b h =
+    subst (λ (x : Kind). IsBegun names bytes w all b.given b.steps (kind_mark b.given x ∷ fixed (codes "\n") ∷ []) (item_by w x ∷ []) t) e
+    (subst (λ (x : Version). IsBegun names bytes x all b.given b.steps (kind_mark b.given kind ∷ fixed (codes "\n") ∷ []) (item_by x kind ∷ []) t) (sym p)
+    (subst (λ (x : List Automaton). IsBegun names bytes v x b.given b.steps (kind_mark b.given kind ∷ fixed (codes "\n") ∷ []) (item_by v kind ∷ []) t) (sym q) (line_behind b h)))
 
 -- ---- the marks from the first one on
 

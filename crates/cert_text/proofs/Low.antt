@@ -1,201 +1,136 @@
 -- The item below the others, up to the end of an opening.
-use Rattle.std.proofs.Common.{◌≡◌, ◌⊎◌, inl, inr, ℕ, zero, suc, Bool, true, false, List, [], ◌∷◌, ◌++◌, Option, codes, refl, sym, ap, ◌∙◌, subst}
-use Rattle.cert_grammar.specs.Prelude.{Version, first_version, second_version, Demand, all_used, shares, Mark, fixed, word, closing, value, Item, shared_line, shared_count, automata_left}
-use Rattle.cert_grammar.specs.Prelude.{automaton_end, simplified, body, between, line, pairs_from, entries_from, heads_from, measure, leads, behind_automata, body_leads}
+use Rattle.std.proofs.Common.{◌≡◌, ◌⊎◌, inl, inr, ℕ, zero, suc, Bool, true, false, not, cond, List, [], ◌∷◌, ◌++◌, Option, codes, refl, sym, ap, ◌∙◌, subst}
+use Rattle.cert_grammar.specs.Prelude.{Version, first_version, second_version, Demand, all_used, fits_answer, shares, Mark, fixed, word, closing, value, same_bytes, Item, opening, heading}
+use Rattle.cert_grammar.specs.Prelude.{shared_line, shared_count, automata_left, automaton_end, simplified, body, pairs_from, entries_from, heads_from, measure, leads, behind_automata, body_leads}
 use Rattle.cert_laws.proofs.Paths.{Takes, Path}
-use Rattle.cert_reading.specs.Stops.{lowest, BeginsList}
-use Rattle.cert_reading.proofs.Opening.{same_item}
-use Rattle.cert_text.proofs.Peakless.{is_peak, Peakless}
-use Rattle.cert_text.proofs.Ahead.{Each, step_by, lowest_behind}
+use Rattle.cert_reading.specs.Stops.{AreAbove, BeginsList}
+use Rattle.cert_text.proofs.Ahead.{Each, step_by, end_mark, line_mark, all_fit, above_path, one_left}
 
--- the items of the second version before its body
-pub data IsEarly (i : Item) : Type 0 where
-  line_at : (g : Option Bool) → i ≡ shared_line g → IsEarly i
-  count_at : (g : Option Bool) → i ≡ shared_count g → IsEarly i
-  next_at : (n : ℕ) (g : Option Bool) → i ≡ automata_left n g → IsEarly i
-  end_at : (n : ℕ) (g : Option Bool) → i ≡ automaton_end n g → IsEarly i
-  body_at : (g : Option Bool) → i ≡ simplified g → IsEarly i
+abbrev pub IsLow : Version → Item → Type 0
+IsLow v opening = Unit {0}
+IsLow v (heading g) = Unit {0}
+IsLow v (shared_line g) = v ≡ second_version
+IsLow v (shared_count g) = v ≡ second_version
+IsLow v (automata_left n g) = v ≡ second_version
+IsLow v (automaton_end n g) = v ≡ second_version
+IsLow v (simplified g) = v ≡ second_version
+IsLow v (body u g) = v ≡ u
+IsLow v (measure u) = v ≡ u
+IsLow v (pairs_from u (suc n)) = v ≡ u
+IsLow v (entries_from u n) = v ≡ u
+IsLow v (heads_from n) = v ≡ second_version
+IsLow v _ = ⊥
 
-pub data IsLow (v : Version) (i : Item) : Type 0 where
-  early : v ≡ second_version → IsEarly i → IsLow v i
-  at_body : (g : Option Bool) → i ≡ body v g → IsLow v i
-  at_measure : i ≡ measure v → IsLow v i
-  at_list : BeginsList v i → IsLow v i
+-- ---- one mark, which is neither the word of a peak nor the first line of the other version
 
--- or the end of the last line alone
-abbrev pub AreLow : Version → List Item → Type 0
-AreLow v [] = Unit {0}
-AreLow v (i ∷ s) = IsLow v (lowest i s) ⊎ (i ∷ s ≡ between line ∷ [])
+abbrev asks_peak : List Demand → Bool
+asks_peak (fits_answer told given ∷ ds) = not told
+asks_peak _ = false
 
-abbrev NewLow : Version → List Item → Type 0
-NewLow v new = AreLow v (new ++ [])
+abbrev is_first : Version → Bool
+is_first first_version = true
+is_first second_version = false
 
-pub shared_low : (g : Option Bool) → IsLow second_version (shared_line g)
-shared_low g = early refl (line_at g refl)
+abbrev pub is_early : Version → Mark → Bool
+is_early v (fixed bytes) = cond (same_bytes bytes (codes "concon 1\n")) (is_first v) (cond (same_bytes bytes (codes "concon 2\n")) (not (is_first v)) true)
+is_early v (word bytes ds) = not (asks_peak ds)
+is_early v _ = true
 
-pub body_low : (v : Version) (g : Option Bool) → IsLow v (body v g)
-body_low v g = at_body g refl
+apart : {m n : Mark} (test : Mark → Bool) → test m ≡ true → m ≡ n → test n ≡ false → {A : Type 0} → A
+apart test h e k = let both : true ≡ false = sym h ∙ ap test e ∙ k in absurd cc
 
-automata_low : (n : ℕ) (g : Option Bool) → IsLow second_version (behind_automata n g)
-automata_low zero g = early refl (body_at g refl)
-automata_low (suc n) g = early refl (next_at n g refl)
+told_first : (v : Version) (m : Mark) → is_early v m ≡ true → m ≡ fixed (codes "concon 1\n") → v ≡ first_version
+told_first first_version m h e = refl
+told_first second_version m h e = apart (is_early second_version) h e refl
 
-pairs_low : (v : Version) (n : ℕ) → IsLow v (pairs_from v (suc n))
-pairs_low first_version n = at_list (inr (n, refl))
-pairs_low second_version n = at_list (inr (inl (n, refl)))
+told_second : (v : Version) (m : Mark) → is_early v m ≡ true → m ≡ fixed (codes "concon 2\n") → v ≡ second_version
+told_second first_version m h e = apart (is_early first_version) h e refl
+told_second second_version m h e = refl
 
-entries_low : (v : Version) (n : ℕ) → IsLow v (entries_from v n)
-entries_low first_version n = at_list (inl (n, refl))
-entries_low second_version n = at_list (inl (n, refl))
+automata_low : (v : Version) (n : ℕ) (g : Option Bool) → v ≡ second_version → IsLow v (behind_automata n g)
+automata_low v zero g e = e
+automata_low v (suc n) g e = e
 
-heads_low : (n : ℕ) → IsLow second_version (heads_from n)
-heads_low n = at_list (inr (inr (n, refl)))
+abbrev New : Version → List Item → Type 0
+New v new = AreAbove (IsLow v) (new ++ [])
 
--- ---- one mark
+body_low : (v u : Version) (g : Option Bool) (m : Mark) → is_early v m ≡ true → v ≡ u → Each (New v) m (body_leads u g)
+body_low v u g m f x = ((λ w e. inl x), ((λ w e. inl x), ((λ w e. apart (is_early v) f e refl), tt)))
 
-not_peak : (m : Mark) (ds : List Demand) → is_peak m ≡ false → m ≡ word (codes "peak") ds → ⊥
-not_peak m ds none e = let both : true ≡ false = sym (ap is_peak e) ∙ none in cc
+one_low : (v : Version) (i : Item) (m : Mark) (new : List Item) → is_early v m ≡ true → Takes i m new → IsLow v i → New v new
+one_low v opening m new f h x = step_by (New v) opening m new h ((λ w e. inl tt), ((λ w e. inl tt), ((λ w e. inl (told_first v m f e)), ((λ w e. inl (told_second v m f e)), tt))))
+one_low v (heading g) m new f h x = step_by (New v) (heading g) m new h ((λ w e. inl (told_first v m f e)), ((λ w e. inl (told_second v m f e)), tt))
+one_low v (shared_line g) m new f h x = step_by (New v) (shared_line g) m new h ((λ w e. inl x), tt)
+one_low v (shared_count g) m new f h x = step_by (New v) (shared_count g) m new h ((λ w e. inl (automata_low v (value w) g x)), tt)
+one_low v (automata_left n g) m new f h x = step_by (New v) (automata_left n g) m new h ((λ w e. inl x), tt)
+one_low v (automaton_end n g) m new f h x = step_by (New v) (automaton_end n g) m new h ((λ w e. inl (automata_low v n g x)), tt)
+one_low v (simplified g) m new f h x = step_by (New v) (simplified g) m new h ((λ w e. inl x), body_low v second_version g m f x)
+one_low v (body u g) m new f h x = step_by (New v) (body u g) m new h (body_low v u g m f x)
+one_low v (measure first_version) m new f h x = step_by (New v) (measure first_version) m new h ((λ w e. inl x), tt)
+one_low v (measure second_version) m new f h x = step_by (New v) (measure second_version) m new h ((λ w e. inl x), ((λ w e. inl x), tt))
+one_low v (pairs_from u (suc n)) m new f h x = step_by (New v) (pairs_from u (suc n)) m new h ((λ w e. inl x), ((λ w e. inr refl), tt))
+one_low v (entries_from u n) m new f h x = step_by (New v) (entries_from u n) m new h ((λ w e. inl x), ((λ w e. inl x), ((λ w e. inl x), ((λ w e. inr refl), tt))))
+one_low v (heads_from n) m new f h x = step_by (New v) (heads_from n) m new h ((λ w e. inl x), ((λ w e. inl x), ((λ w e. inl x), ((λ w e. inr refl), tt))))
+one_low v _ m new f h x = absurd x
 
-body_each : (v : Version) (g : Option Bool) (m : Mark) → is_peak m ≡ false → Each (NewLow v) m (body_leads v g)
-body_each v g m none = ((λ w e. inl (pairs_low v 0)), ((λ w e. inl (at_measure refl)), ((λ w e. absurd (not_peak m _ none e)), tt)))
+pub low_path : (v : Version) (ms : List Mark) (s t : List Item) → all_fit (is_early v) ms ≡ true → Path ms s t → AreAbove (IsLow v) s → AreAbove (IsLow v) t
+low_path v = above_path (IsLow v) (is_early v) (one_low v)
 
-early_step : (i : Item) (m : Mark) (new : List Item) → is_peak m ≡ false → Takes i m new → IsEarly i → NewLow second_version new
-early_step i m new none h (line_at g e) = step_by (NewLow second_version) (shared_line g) m new (subst (λ (j : Item). Takes j m new) e h) ((λ w q. inl (early refl (count_at g refl))), tt)
-early_step i m new none h (count_at g e) = step_by (NewLow second_version) (shared_count g) m new (subst (λ (j : Item). Takes j m new) e h) ((λ w q. inl (automata_low (value w) g)), tt)
-early_step i m new none h (next_at n g e) = step_by (NewLow second_version) (automata_left n g) m new (subst (λ (j : Item). Takes j m new) e h) ((λ w q. inl (early refl (end_at n g refl))), tt)
-early_step i m new none h (end_at n g e) = step_by (NewLow second_version) (automaton_end n g) m new (subst (λ (j : Item). Takes j m new) e h) ((λ w q. inl (automata_low n g)), tt)
-early_step i m new none h (body_at g e) = step_by (NewLow second_version) (simplified g) m new (subst (λ (j : Item). Takes j m new) e h)
-    ((λ w q. inl (body_low second_version g)), body_each second_version g m none)
+-- ---- the marks of the last line: its word is one of lists alone, and no such item begins with the end of a line
 
-measure_step : (v : Version) (m : Mark) (new : List Item) → Takes (measure v) m new → NewLow v new
-measure_step first_version m new h = step_by (NewLow first_version) (measure first_version) m new h ((λ w e. inl (entries_low first_version 1)), tt)
-measure_step second_version m new h = step_by (NewLow second_version) (measure second_version) m new h ((λ w e. inl (entries_low second_version 1)), ((λ w e. inl (heads_low 1)), tt))
+abbrev is_line : Mark → Bool
+is_line (fixed bytes) = same_bytes bytes (codes "\n")
+is_line _ = false
 
-entries_step : (v : Version) (n : ℕ) (m : Mark) (new : List Item) → Takes (entries_from v n) m new → NewLow v new
-entries_step v n m new h = step_by (NewLow v) (entries_from v n) m new h
-    ((λ w e. inl (entries_low v (suc n))), ((λ w e. inl (entries_low v (suc n))), ((λ w e. inl (pairs_low v 1)), ((λ w e. inr refl), tt))))
+abbrev is_last : Mark → Bool
+is_last (word bytes (shares all_used ∷ ds)) = true
+is_last m = is_line m
 
-heads_step : (n : ℕ) (m : Mark) (new : List Item) → Takes (heads_from n) m new → NewLow second_version new
-heads_step n m new h = step_by (NewLow second_version) (heads_from n) m new h
-    ((λ w e. inl (heads_low (suc n))), ((λ w e. inl (heads_low (suc n))), ((λ w e. inl (pairs_low second_version 1)), ((λ w e. inr refl), tt))))
+list_pairs : (v u : Version) (n : ℕ) → v ≡ u → BeginsList v (pairs_from u (suc n))
+list_pairs first_version u n e = inr (n, ap (λ (w : Version). pairs_from w (suc n)) (sym e))
+list_pairs second_version u n e = inr (inl (n, ap (λ (w : Version). pairs_from w (suc n)) (sym e)))
 
-pairs_step : (v : Version) (n : ℕ) (m : Mark) (new : List Item) → Takes (pairs_from v (suc n)) m new → NewLow v new
-pairs_step v n m new h = step_by (NewLow v) (pairs_from v (suc n)) m new h ((λ w e. inl (pairs_low v (suc n))), ((λ w e. inr refl), tt))
+list_entries : (v u : Version) (n : ℕ) → v ≡ u → BeginsList v (entries_from u n)
+list_entries first_version u n e = inl (n, ap (λ (w : Version). entries_from w n) (sym e))
+list_entries second_version u n e = inl (n, ap (λ (w : Version). entries_from w n) (sym e))
 
-lists_step : (v : Version) (i : Item) (m : Mark) (new : List Item) → Takes i m new → BeginsList v i → NewLow v new
-lists_step first_version i m new h (inl x) = entries_step first_version x.0 m new (subst (λ (j : Item). Takes j m new) x.1 h)
-lists_step first_version i m new h (inr x) = pairs_step first_version x.0 m new (subst (λ (j : Item). Takes j m new) x.1 h)
-lists_step second_version i m new h (inl x) = entries_step second_version x.0 m new (subst (λ (j : Item). Takes j m new) x.1 h)
-lists_step second_version i m new h (inr (inl x)) = pairs_step second_version x.0 m new (subst (λ (j : Item). Takes j m new) x.1 h)
-lists_step second_version i m new h (inr (inr x)) = heads_step x.0 m new (subst (λ (j : Item). Takes j m new) x.1 h)
+abbrev Last : Version → Item → Mark → List Item → Type 0
+Last v i m new = BeginsList v i × (is_line m ≡ false)
 
-lone_step : (v : Version) (i : Item) (m : Mark) (new : List Item) → is_peak m ≡ false → Takes i m new → IsLow v i → NewLow v new
-lone_step v i m new none h (early q x) = subst (λ (w : Version). NewLow w new) (sym q) (early_step i m new none h x)
-lone_step v i m new none h (at_body g e) = step_by (NewLow v) (body v g) m new (subst (λ (j : Item). Takes j m new) e h) (body_each v g m none)
-lone_step v i m new none h (at_measure e) = measure_step v m new (subst (λ (j : Item). Takes j m new) e h)
-lone_step v i m new none h (at_list x) = lists_step v i m new h x
+none_body : (v u : Version) (i : Item) (m : Mark) (g : Option Bool) → is_last m ≡ true → Each (Last v i m) m (body_leads u g)
+none_body v u i m g l = ((λ w e. apart is_last l e refl), ((λ w e. apart is_last l e refl), ((λ w e. apart is_last l e refl), tt)))
 
-low_step : (v : Version) (i : Item) (s : List Item) (m : Mark) (new : List Item) → is_peak m ≡ false → Takes i m new → AreLow v (i ∷ s) → AreLow v (new ++ s)
-low_step v i [] m new none h (inl x) = lone_step v i m new none h x
-low_step v i [] m new none h (inr x) = step_by (NewLow v) (between line) m new (subst (λ (j : Item). Takes j m new) (same_item i (between line) x) h) ((λ w e. tt), tt)
-low_step v i (j ∷ s) m [] none h (inl x) = inl x
-low_step v i (j ∷ s) m (k ∷ ks) none h (inl x) = inl (subst (IsLow v) (sym (lowest_behind k ks j s)) x)
-low_step v i (j ∷ s) m new none h (inr x) = absurd cc
-
-pub low_path : (v : Version) (ms : List Mark) (s t : List Item) → Peakless ms → Path ms s t → AreLow v s → AreLow v t
-low_path v [] s t none p x = subst (AreLow v) p x
-low_path v (m ∷ ms) [] t none p x = absurd p
-low_path v (m ∷ ms) (i ∷ s) t none p x = low_path v ms (p.0 ++ s) t none.1 p.2 (low_step v i s m p.0 none.0 p.1 x)
-
--- ---- where the last line may stand
-
-abbrev end_mark : Mark
-end_mark = word (codes "end") (shares all_used ∷ [])
-
-abbrev line_mark : Mark
-line_mark = fixed (codes "\n")
-
--- an item of which no lead has a mark
-abbrev Misses : Mark → Item → Type 0
-Misses m i = Each (λ (new : List Item). ⊥) m (leads i)
-
-never : (i : Item) (m : Mark) (new : List Item) → Takes i m new → Misses m i → ⊥
-never i m new h x = step_by (λ (new : List Item). ⊥) i m new h x
-
-missing : (i j : Item) (m : Mark) (new : List Item) → i ≡ j → Takes i m new → Misses m j → ⊥
-missing i j m new e h x = never j m new (subst (λ (k : Item). Takes k m new) e h) x
-
-body_ends : (v : Version) (g : Option Bool) → Misses end_mark (body v g)
-body_ends v g = ((λ w e. cc), ((λ w e. cc), ((λ w e. cc), tt)))
-
-measure_ends : (v : Version) → Misses end_mark (measure v)
-measure_ends first_version = ((λ w e. cc), tt)
-measure_ends second_version = ((λ w e. cc), ((λ w e. cc), tt))
-
-early_ends : (i : Item) (new : List Item) → Takes i end_mark new → IsEarly i → ⊥
-early_ends i new h (line_at g e) = missing i (shared_line g) end_mark new e h ((λ w q. cc), tt)
-early_ends i new h (count_at g e) = missing i (shared_count g) end_mark new e h ((λ w q. cc), tt)
-early_ends i new h (next_at n g e) = missing i (automata_left n g) end_mark new e h ((λ w q. cc), tt)
-early_ends i new h (end_at n g e) = missing i (automaton_end n g) end_mark new e h ((λ w q. cc), tt)
-early_ends i new h (body_at g e) = missing i (simplified g) end_mark new e h ((λ w q. cc), body_ends second_version g)
-
-list_there : (v : Version) (i : Item) (new : List Item) → Takes i end_mark new → IsLow v i → BeginsList v i
-list_there v i new h (early q x) = absurd (early_ends i new h x)
-list_there v i new h (at_body g e) = absurd (missing i (body v g) end_mark new e h (body_ends v g))
-list_there v i new h (at_measure e) = absurd (missing i (measure v) end_mark new e h (measure_ends v))
-list_there v i new h (at_list x) = x
-
-body_line : (v : Version) (g : Option Bool) → Misses line_mark (body v g)
-body_line v g = ((λ w e. cc), ((λ w e. cc), ((λ w e. cc), tt)))
-
-measure_line : (v : Version) → Misses line_mark (measure v)
-measure_line first_version = ((λ w e. cc), tt)
-measure_line second_version = ((λ w e. cc), ((λ w e. cc), tt))
-
-early_line : (i : Item) (new : List Item) → Takes i line_mark new → IsEarly i → ⊥
-early_line i new h (line_at g e) = missing i (shared_line g) line_mark new e h ((λ w q. cc), tt)
-early_line i new h (count_at g e) = missing i (shared_count g) line_mark new e h ((λ w q. cc), tt)
-early_line i new h (next_at n g e) = missing i (automata_left n g) line_mark new e h ((λ w q. cc), tt)
-early_line i new h (end_at n g e) = missing i (automaton_end n g) line_mark new e h ((λ w q. cc), tt)
-early_line i new h (body_at g e) = missing i (simplified g) line_mark new e h ((λ w q. cc), body_line second_version g)
-
-entries_line : (v : Version) (n : ℕ) → Misses line_mark (entries_from v n)
-entries_line v n = ((λ w e. cc), ((λ w e. cc), ((λ w e. cc), ((λ w e. cc), tt))))
-
-heads_line : (n : ℕ) → Misses line_mark (heads_from n)
-heads_line n = ((λ w e. cc), ((λ w e. cc), ((λ w e. cc), ((λ w e. cc), tt))))
-
-pairs_line : (v : Version) (n : ℕ) → Misses line_mark (pairs_from v n)
-pairs_line v n = ((λ w e. cc), ((λ w e. cc), tt))
-
-list_line : (v : Version) (i : Item) (new : List Item) → Takes i line_mark new → BeginsList v i → ⊥
-list_line first_version i new h (inl x) = missing i (entries_from first_version x.0) line_mark new x.1 h (entries_line first_version x.0)
-list_line first_version i new h (inr x) = missing i (pairs_from first_version (suc x.0)) line_mark new x.1 h (pairs_line first_version (suc x.0))
-list_line second_version i new h (inl x) = missing i (entries_from second_version x.0) line_mark new x.1 h (entries_line second_version x.0)
-list_line second_version i new h (inr (inl x)) = missing i (pairs_from second_version (suc x.0)) line_mark new x.1 h (pairs_line second_version (suc x.0))
-list_line second_version i new h (inr (inr x)) = missing i (heads_from x.0) line_mark new x.1 h (heads_line x.0)
-
-no_line : (v : Version) (i : Item) (new : List Item) → IsLow v i → Takes i line_mark new → ⊥
-no_line v i new (early q x) h = early_line i new h x
-no_line v i new (at_body g e) h = missing i (body v g) line_mark new e h (body_line v g)
-no_line v i new (at_measure e) h = missing i (measure v) line_mark new e h (measure_line v)
-no_line v i new (at_list x) h = list_line v i new h x
-
-pub nothing_else : (new s : List Item) → new ++ s ≡ [] → s ≡ []
-nothing_else [] s e = e
-nothing_else (i ∷ new) s e = absurd cc
-
-pub some_item : (j : Item) (s : List Item) → j ∷ s ≡ [] → ⊥
-some_item j s e = cc
-
-two_items : (v : Version) (j : Item) (s new : List Item) → IsLow v (lowest j s) → Path (line_mark ∷ []) (new ++ j ∷ s) [] → ⊥
-two_items v j s [] o p = no_line v j p.0 (subst (λ (x : List Item). IsLow v (lowest j x)) (nothing_else p.0 s p.2) o) p.1
-two_items v j s (k ∷ ks) o p = some_item j s (nothing_else ks (j ∷ s) (nothing_else p.0 (ks ++ j ∷ s) p.2))
+one_last : (v : Version) (i : Item) (m : Mark) (new : List Item) → is_last m ≡ true → Takes i m new → IsLow v i → Last v i m new
+one_last v opening m new l h x = step_by (Last v opening m) opening m new h
+    ((λ w e. apart is_last l e refl), ((λ w e. apart is_last l e refl), ((λ w e. apart is_last l e refl), ((λ w e. apart is_last l e refl), tt))))
+one_last v (heading g) m new l h x = step_by (Last v (heading g) m) (heading g) m new h ((λ w e. apart is_last l e refl), ((λ w e. apart is_last l e refl), tt))
+one_last v (shared_line g) m new l h x = step_by (Last v (shared_line g) m) (shared_line g) m new h ((λ w e. apart is_last l e refl), tt)
+one_last v (shared_count g) m new l h x = step_by (Last v (shared_count g) m) (shared_count g) m new h ((λ w e. apart is_last l e refl), tt)
+one_last v (automata_left n g) m new l h x = step_by (Last v (automata_left n g) m) (automata_left n g) m new h ((λ w e. apart is_last l e refl), tt)
+one_last v (automaton_end n g) m new l h x = step_by (Last v (automaton_end n g) m) (automaton_end n g) m new h ((λ w e. apart is_last l e refl), tt)
+one_last v (simplified g) m new l h x = step_by (Last v (simplified g) m) (simplified g) m new h ((λ w e. apart is_last l e refl), none_body v second_version (simplified g) m g l)
+one_last v (body u g) m new l h x = step_by (Last v (body u g) m) (body u g) m new h (none_body v u (body u g) m g l)
+one_last v (measure first_version) m new l h x = step_by (Last v (measure first_version) m) (measure first_version) m new h ((λ w e. apart is_last l e refl), tt)
+one_last v (measure second_version) m new l h x = step_by (Last v (measure second_version) m) (measure second_version) m new h
+    ((λ w e. apart is_last l e refl), ((λ w e. apart is_last l e refl), tt))
+one_last v (pairs_from u (suc n)) m new l h x = step_by (Last v (pairs_from u (suc n)) m) (pairs_from u (suc n)) m new h
+    ((λ w e. apart is_last l e refl), ((λ w e. (list_pairs v u n x, ap is_line e)), tt))
+one_last v (entries_from u n) m new l h x = step_by (Last v (entries_from u n) m) (entries_from u n) m new h
+    ((λ w e. apart is_last l e refl), ((λ w e. apart is_last l e refl), ((λ w e. apart is_last l e refl), ((λ w e. (list_entries v u n x, ap is_line e)), tt))))
+one_last v (heads_from n) m new l h x = step_by (Last v (heads_from n) m) (heads_from n) m new h (
+  (λ w e. apart is_last l e refl),
+  (
+    (λ w e. apart is_last l e refl),
+    (
+      (λ w e. apart is_last l e refl),
+      ((λ w e. (subst (λ (u : Version). BeginsList u (heads_from n)) (sym x) (inr (inr (n, refl))), ap is_line e)), tt),
+    ),
+  ),
+)
+one_last v _ m new l h x = absurd x
 
 -- one list is left
-pub last_item : (v : Version) (t : List Item) → AreLow v t → Path closing t [] → (item : Item) × (t ≡ item ∷ []) × BeginsList v item
-last_item v [] o p = absurd p
-last_item v (i ∷ []) (inl o) p = (i, refl, list_there v i p.0 p.1 o)
-last_item v (i ∷ j ∷ s) (inl o) p = absurd (two_items v j s p.0 o p.2)
-last_item v (i ∷ []) (inr e) p = absurd (missing i (between line) end_mark p.0 (same_item i (between line) e) p.1 ((λ w q. cc), tt))
-last_item v (i ∷ j ∷ s) (inr e) p = absurd cc
+pub last_list : (v : Version) (t : List Item) → AreAbove (IsLow v) t → Path closing t [] → (item : Item) × (t ≡ item ∷ []) × BeginsList v item
+last_list v t x p =
+    let one = one_left (IsLow v) (λ i new h y. let none : true ≡ false = (one_last v i line_mark new refl h y).1 in absurd cc) t x p in
+    (one.0, one.1, (one_last v one.0 end_mark one.3.0 refl one.3.1 one.2).0)

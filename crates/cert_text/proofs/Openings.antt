@@ -5,16 +5,17 @@ use Rattle.std.proofs.lemmas.List.{append-nil}
 use Rattle.certificates.specs.Prelude.{Automaton, MeasureCertificate, linear_measure, precedence_measure, Simplification, Apartness, Peak, Certificate, peak_certificate}
 use Rattle.cops_names.specs.NameTable.{NameTable}
 use Rattle.cert_grammar.specs.Prelude.{name_of, largest, Version, first_version, second_version, in_full, by_number, HasMeasure, IsUnsimplified, number_in, IsCertificateText, in_range}
-use Rattle.cert_grammar.specs.Prelude.{is_few, simplifications, Mark, fixed, word, answer_marks, heading_marks, measure_marks, peak_marks, simplifications_marks, closing, certificate_marks}
-use Rattle.cert_grammar.specs.Prelude.{Item, pairs_from, Shared, nothing_shared}
+use Rattle.cert_grammar.specs.Prelude.{is_few, simplifications, Naming, Mark, fixed, word, answer_marks, body_marks, heading_marks, measure_marks, peak_marks, simplifications_marks, closing}
+use Rattle.cert_grammar.specs.Prelude.{certificate_marks, Item, pairs_from, Shared, nothing_shared}
 use Rattle.cert_grammar.specs.WordMarks.{numeral}
 use Rattle.cert_grammar.specs.Items as Items
 use Rattle.cert_sharing.proofs.UseMarks.{AreStill, Counts, counts_still, counts_both, counts_body, measure_still}
 use Rattle.cert_sharing.proofs.Whole.{never_both}
-use Rattle.cert_openings.specs.Laws.{IsReadTo}
 use Rattle.cert_openings.specs.Openings.{Opening, ortho_opening, quasi_opening, certificate_for, uses_with, BeginsEntry, IsOpened}
 use Rattle.cert_openings.proofs.Passes.{openings_pass}
+use Rattle.cert_words.specs.declared.error.CertError.{CertError}
 use Rattle.cert_words.specs.declared.reading.Reading as words
+use Rattle.cert_words.specs.CertRefusals.{IsRefusedAs}
 use Rattle.cert_words.specs.Walks.{Run, Reads}
 use Rattle.cert_words.proofs.Walking.{open_before}
 use Rattle.cert_reading.specs.Headings.{behind_measure, behind_version, first_marks, kind_mark, item_by}
@@ -25,16 +26,17 @@ use Rattle.cert_reading.specs.Shared.{shared_marks, IsKnown, ArePlainAutomata}
 use Rattle.cert_reading.specs.Stops.{Place, ReadsWhere, WithinOpening, BeforeEntries, Anywhere}
 use Rattle.cert_reading.specs.Uses.{AreShared}
 use Rattle.cert_reading.specs.Whole.{CanShare}
+use Rattle.cert_reading.proofs.Opening.{other_below}
 use Rattle.cert_reading.proofs.KindMarks.{kind_still, first_still}
-use Rattle.cert_reading.proofs.Stopping.{then_where, as_marks_where, low_where, low_unopened, open_before_where}
+use Rattle.cert_reading.proofs.Stopping.{then_where, as_marks_where, low_where, open_before_where}
 use Rattle.cert_reading.proofs.UseReads.{known_behind, known_where}
 use Rattle.cert_reading.proofs.Found.{found_by}
 use Rattle.cert_text.specs.Reading.{Reading}
 use Rattle.cert_text.specs.ReadingView.{place_of, EndsMeasure, IsNext, read_marks, IsUpTo}
-use Rattle.cert_text.specs.OpenedText.{OpenedText, at_entries, whole, IsOpenedAs, IsRefusedBehind}
+use Rattle.cert_text.specs.OpenedText.{OpenedText, at_entries, whole, IsOpenedAs, IsRefusedBehind, IsToldBefore}
 use Rattle.cert_text.specs.Front.{steps_marks, opening_behind, opened_behind, CanStep, IsBegun}
 use Rattle.cert_text.proofs.Runs.{run_read}
-use Rattle.cert_text.proofs.Fronts.{begun_on, certificate_behind, read_behind, whole_behind, run_of}
+use Rattle.cert_text.proofs.Fronts.{begun_on, certificate_behind, read_behind, whole_behind, run_of, refused_behind_it, none_behind, told_before}
 
 -- ---- what follows for each text that is opened
 
@@ -93,109 +95,121 @@ measure_end first_version m h = (_, refl)
 measure_end second_version (linear_measure es) h = inl (_, refl)
 measure_end second_version (precedence_measure order) h = inr (_, refl)
 
-module _ {names : NameTable} {bytes : List ℕ} {v : Version} {shared : List Automaton} {given : Option Bool} {steps : Option (List Simplification)} {further : List Mark}
-    {items : List Item} {s : words.Reading} (b : IsBegun names bytes v shared given steps further items s) where
-  -- an opening that is read up to an item, with nothing refused
-  module _ {t : words.Reading} (o : Opening) (item : Item) (none : t.refused ≡ None) (was : s.refused ≡ None) (known : AreShared v names shared (length bytes) t)
-      (simple : IsUnsimplified (certificate_for o [])) (plain : IsPlainBy v shared (certificate_for o []))
-      (h : ReadsWhere (WithinOpening v) names (length bytes) (Items.opening ∷ [])
-      (λ u. read_marks u (uses_with v names shared) shared given (opening_behind steps o) []) (item ∷ []) b.start t) where
-    read_there : IsReadTo names bytes (opening_behind steps o) [] (place_of bytes t.left.now) v (drop t.shares.used shared) t.left.now
-    read_there = run_read v shared names bytes t.left.now given (opening_behind steps o) [] (item ∷ []) b.can_share (plain_opening v shared steps o simple (b.can_step was) plain)
-        (b.plain_shared was) (run_of b none h)
-
-    pub up_to : IsNext v item 1 t.left.now → IsUpTo v shared names bytes t.left.now 0 t.shares
-    up_to next = record {
-      opening = opening_behind steps o;
-      entries = [];
-      given = given;
-      item = item;
-      read = read_there;
-      counted = refl;
-      can_share = b.can_share;
-      known = known_then v shared names bytes given (opening_behind steps o) (item ∷ []) t b.can_share known none (run_of b none h);
-      plain = plain_opening v shared steps o simple (b.can_step was) plain;
-      plain_shared = b.plain_shared was;
-      run = run_of b none h;
-      next = next;
-    }
-
-    pub opened_there : (q : Reading) → BeginsEntry t.left.now → q ≡ record { names = names; bytes = bytes; place = place_of bytes t.left.now }
-        → IsOpenedAs names bytes (opened_behind steps (at_entries o q))
-    opened_there q begins e =
-        subst (λ (r : Reading). IsOpenedAs names bytes (opened_behind steps (at_entries o r))) (sym e)
-        (ready names bytes t.left.now steps o (record { read = read_there.read; begins = subst BeginsEntry (sym read_there.is_rest) begins }))
-
-  -- a peak that is read to the end
-  pub peak_there : {t : words.Reading} (p : Peak) → t.refused ≡ None → s.refused ≡ None → t.left.now ≡ [] → ApartUses v shared p.apart → {P : Place}
-      → ReadsWhere P names (length bytes) (Items.opening ∷ [])
-      (λ u. certificate_marks u (uses_with v names shared) shared given (certificate_behind steps (peak_certificate p))) [] b.start t
-      → IsOpenedAs names bytes (opened_behind steps (whole (peak_certificate p)))
-  peak_there {t} p none was ends plain h =
-      let c = peak_certificate p in
-      whole_there names bytes steps c
-      (found_by v (certificate_behind steps c) names shared given bytes nothing_shared t.shares refl b.can_share (plain_behind v shared steps c tt (b.can_step was) plain) (b.plain_shared was)
-      (subst (λ (r : List ℕ). Run names (length bytes) (Items.opening ∷ []) (λ u. certificate_marks u (uses_with v names shared) shared given (certificate_behind steps c)) [] bytes
-      r nothing_shared t.shares) ends (run_of b none h)))
-
--- ---- by kinds
-
 abbrev pub line_of_kind : Option Bool → kinds_of.Kind → List Mark
 line_of_kind given kind = kind_mark given kind ∷ fixed (codes "\n") ∷ []
 
+-- an opening that is read up to an item, where an overlap may begin if nothing is refused
+pub record AtEntries (names : NameTable) (bytes : List ℕ) (v : Version) (shared : List Automaton) (given : Option Bool) (steps : Option (List Simplification)) (o : Opening)
+    (t : words.Reading) : Type 0 where
+  pub further : List Mark
+  pub items : List Item
+  pub line : words.Reading
+  pub begun : IsBegun names bytes v shared given steps further items line
+  pub item : Item
+  pub marks : Naming → List Mark
+  pub part : ReadsWhere (WithinOpening v) names (length bytes) items marks (item ∷ []) line t
+  pub same : (u : Naming) → further ++ marks u ≡ body_marks u (uses_with v names shared) given (certificate_for o [])
+  pub still : AreStill (marks (name_of names))
+  pub simple : IsUnsimplified (certificate_for o [])
+  pub plain : IsPlainBy v shared (certificate_for o [])
+  pub begins : t.refused ≡ None → BeginsEntry t.left.now
+  pub next : BeginsEntry t.left.now → IsNext v item 1 t.left.now
+
 module _ {names : NameTable} {bytes : List ℕ} {v : Version} {shared : List Automaton} {given : Option Bool} {steps : Option (List Simplification)} {s t : words.Reading} where
-  module _ (b : IsBegun names bytes v shared given steps (line_of_kind given kinds.Ortho) (pairs_from v 1 ∷ []) s)
-      (h : ReadsWhere (WithinOpening v) names (length bytes) (pairs_from v 1 ∷ []) (λ u. []) (pairs_from v 1 ∷ []) s t) where
-    pub ortho_read : ReadsWhere (WithinOpening v) names (length bytes) (Items.opening ∷ [])
-        (λ u. read_marks u (uses_with v names shared) shared given (opening_behind steps ortho_opening) []) (pairs_from v 1 ∷ []) b.start t
-    ortho_read = read_behind b ortho_opening (λ is q p. p v) (λ u. refl) h
+  pub ortho_read : IsBegun names bytes v shared given steps (line_of_kind given kinds.Ortho) (pairs_from v 1 ∷ []) s
+      → ReadsWhere (WithinOpening v) names (length bytes) (pairs_from v 1 ∷ []) (λ u. []) (pairs_from v 1 ∷ []) s t → (t.refused ≡ None → BeginsEntry t.left.now)
+      → AtEntries names bytes v shared given steps ortho_opening t
+  ortho_read b h begins = record {
+    further = line_of_kind given kinds.Ortho;
+    items = pairs_from v 1 ∷ [];
+    line = s;
+    begun = b;
+    item = pairs_from v 1;
+    marks = λ u. [];
+    part = h;
+    same = λ u. refl;
+    still = tt;
+    simple = tt;
+    plain = tt;
+    begins = begins;
+    next = λ x. inl refl;
+  }
 
-    pub ortho_up_to : t.refused ≡ None → IsUpTo v shared names bytes t.left.now 0 t.shares
-    ortho_up_to none = up_to b ortho_opening (pairs_from v 1) none (open_before_where h none) (known_where v shared h [] (counts_still [] tt) b.known) tt tt ortho_read (inl refl)
-
-    pub ortho_there : t.refused ≡ None → (q : Reading) → BeginsEntry t.left.now → q ≡ record { names = names; bytes = bytes; place = place_of bytes t.left.now }
-        → IsOpenedAs names bytes (opened_behind steps (at_entries ortho_opening q))
-    ortho_there none q begins e = opened_there b ortho_opening (pairs_from v 1) none (open_before_where h none) (known_where v shared h [] (counts_still [] tt) b.known) tt tt ortho_read q begins e
-
-  module _ (m : MeasureCertificate) (b : IsBegun names bytes v shared given steps (line_of_kind given kinds.Quasi) (Items.measure v ∷ []) s)
-      (h : ReadsWhere (WithinOpening v) names (length bytes) (Items.measure v ∷ []) (λ u. measure_marks u m) (behind_measure v m ∷ []) s t) where
-    pub quasi_read : ReadsWhere (WithinOpening v) names (length bytes) (Items.opening ∷ [])
-        (λ u. read_marks u (uses_with v names shared) shared given (opening_behind steps (quasi_opening m)) []) (behind_measure v m ∷ []) b.start t
-    quasi_read = read_behind b (quasi_opening m) (λ is q p. p v) (λ u. ap (λ (ms : List Mark). kind_mark given kinds.Quasi ∷ fixed (codes "\n") ∷ ms) (sym (append-nil (measure_marks u m)))) h
-
-    quasi_known : AreShared v names shared (length bytes) t
-    quasi_known = known_where v shared h [] (counts_still (measure_marks (name_of names) m) (measure_still m (name_of names))) b.known
-
-    pub quasi_up_to : HasMeasure v m → t.refused ≡ None → BeginsEntry t.left.now → IsUpTo v shared names bytes t.left.now 0 t.shares
-    quasi_up_to has none begins = up_to b (quasi_opening m) (behind_measure v m) none (open_before_where h none) quasi_known tt (has, tt) quasi_read (inr (measure_end v m has, refl, begins))
-
-    pub quasi_there : HasMeasure v m → t.refused ≡ None → (q : Reading) → BeginsEntry t.left.now → q ≡ record { names = names; bytes = bytes; place = place_of bytes t.left.now }
-        → IsOpenedAs names bytes (opened_behind steps (at_entries (quasi_opening m) q))
-    quasi_there has none q begins e = opened_there b (quasi_opening m) (behind_measure v m) none (open_before_where h none) quasi_known tt (has, tt) quasi_read q begins e
+  pub quasi_read : (m : MeasureCertificate) → IsBegun names bytes v shared given steps (line_of_kind given kinds.Quasi) (Items.measure v ∷ []) s
+      → ReadsWhere (WithinOpening v) names (length bytes) (Items.measure v ∷ []) (λ u. measure_marks u m) (behind_measure v m ∷ []) s t → (t.refused ≡ None → BeginsEntry t.left.now)
+      → HasMeasure v m → AtEntries names bytes v shared given steps (quasi_opening m) t
+  quasi_read m b h begins has = record {
+    further = line_of_kind given kinds.Quasi;
+    items = Items.measure v ∷ [];
+    line = s;
+    begun = b;
+    item = behind_measure v m;
+    marks = λ u. measure_marks u m;
+    part = h;
+    same = λ u. ap (λ (ms : List Mark). kind_mark given kinds.Quasi ∷ fixed (codes "\n") ∷ ms) (sym (append-nil (measure_marks u m)));
+    still = measure_still m (name_of names);
+    simple = tt;
+    plain = (has, tt);
+    begins = begins;
+    next = λ x. inr (measure_end v m has, refl, x);
+  }
 
   pub peak_read : (p : Peak) → (b : IsBegun names bytes v shared given steps (line_of_kind given kinds.Peak) (Items.start_line v ∷ []) s)
       → Reads names (length bytes) (Items.start_line v ∷ []) (λ u. peak_marks u (uses_with v names shared) p ++ closing) [] s t
       → ReadsWhere Anywhere names (length bytes) (Items.opening ∷ []) (λ u. certificate_marks u (uses_with v names shared) shared given (certificate_behind steps (peak_certificate p))) [] b.start t
   peak_read p b h = whole_behind b (peak_certificate p) (λ u. refl) h
 
--- how uses are written
-pub measure_by : {names : NameTable} {end : ℕ} {s t : words.Reading} (m : MeasureCertificate) (w v : Version) → w ≡ v
-    → ReadsWhere (WithinOpening w) names end (Items.measure w ∷ []) (λ u. measure_marks u m) (behind_measure w m ∷ []) s t
-    → ReadsWhere (WithinOpening v) names end (Items.measure v ∷ []) (λ u. measure_marks u m) (behind_measure v m ∷ []) s t
-measure_by {names} {end} {s} {t} m w v e h = subst (λ (x : Version). ReadsWhere (WithinOpening x) names end (Items.measure x ∷ []) (λ u. measure_marks u m) (behind_measure x m ∷ []) s t) e h
+  -- a peak that is read to the end
+  pub peak_there : (p : Peak) → IsBegun names bytes v shared given steps (line_of_kind given kinds.Peak) (Items.start_line v ∷ []) s → t.refused ≡ None → t.left.now ≡ []
+      → ApartUses v shared p.apart → Reads names (length bytes) (Items.start_line v ∷ []) (λ u. peak_marks u (uses_with v names shared) p ++ closing) [] s t
+      → IsOpenedAs names bytes (opened_behind steps (whole (peak_certificate p)))
+  peak_there p b none ends plain h =
+      let c = peak_certificate p in
+      let was = open_before h none in
+      whole_there names bytes steps c
+      (found_by v (certificate_behind steps c) names shared given bytes nothing_shared t.shares refl b.can_share (plain_behind v shared steps c tt (b.can_step was) plain) (b.plain_shared was)
+      (subst (λ (r : List ℕ). Run names (length bytes) (Items.opening ∷ []) (λ u. certificate_marks u (uses_with v names shared) shared given (certificate_behind steps c)) [] bytes
+      r nothing_shared t.shares) ends (run_of b none (peak_read p b h))))
 
-pub peak_by : {names : NameTable} {end : ℕ} {s t : words.Reading} (p : Peak) (w v : Version) (all shared : List Automaton) → w ≡ v → all ≡ shared
-    → Reads names end (Items.start_line w ∷ []) (λ u. peak_marks u (uses_with w names all) p ++ closing) [] s t
-    → Reads names end (Items.start_line v ∷ []) (λ u. peak_marks u (uses_with v names shared) p ++ closing) [] s t
-peak_by {names} {end} {s} {t} p w v all shared e q h =
-    subst (λ (x : List Automaton). Reads names end (Items.start_line v ∷ []) (λ u. peak_marks u (uses_with v names x) p ++ closing) [] s t) q
-    (subst (λ (x : Version). Reads names end (Items.start_line x ∷ []) (λ u. peak_marks u (uses_with x names all) p ++ closing) [] s t) e h)
+module _ {names : NameTable} {bytes : List ℕ} {v : Version} {shared : List Automaton} {given : Option Bool} {steps : Option (List Simplification)} {o : Opening} {t : words.Reading}
+    (a : AtEntries names bytes v shared given steps o t) where
+  read_here : ReadsWhere (WithinOpening v) names (length bytes) (Items.opening ∷ []) (λ u. read_marks u (uses_with v names shared) shared given (opening_behind steps o) [])
+      (a.item ∷ []) a.begun.start t
+  read_here = read_behind a.begun o (λ is q p. p v) a.same a.part
 
-pub known_by : (names : NameTable) (end : ℕ) (s : words.Reading) (w v : Version) (all shared : List Automaton) → w ≡ v → all ≡ shared → AreShared v names shared end s → AreShared w names all end s
-known_by names end s w v all shared e q h = subst (λ (x : List Automaton). AreShared w names x end s) (sym q) (subst (λ (x : Version). AreShared x names shared end s) (sym e) h)
+  pub up_to : t.refused ≡ None → IsUpTo v shared names bytes t.left.now 0 t.shares
+  up_to none =
+      let b = a.begun in
+      let was = open_before_where a.part none in
+      let run = run_of b none read_here in
+      let plain = plain_opening v shared steps o a.simple (b.can_step was) a.plain in
+      record {
+        opening = opening_behind steps o;
+        entries = [];
+        given = given;
+        item = a.item;
+        read = run_read v shared names bytes t.left.now given (opening_behind steps o) [] (a.item ∷ []) b.can_share plain (b.plain_shared was) run;
+        counted = refl;
+        can_share = b.can_share;
+        known = known_then v shared names bytes given (opening_behind steps o) (a.item ∷ []) t b.can_share (known_where v shared a.part [] (counts_still _ a.still) b.known) none run;
+        plain = plain;
+        plain_shared = b.plain_shared was;
+        run = run;
+        next = a.next (a.begins none);
+      }
 
-pub apart_by : (a : Apartness) (w v : Version) (all shared : List Automaton) → w ≡ v → all ≡ shared → ApartUses w all a → ApartUses v shared a
-apart_by a w v all shared e q h = subst (λ (x : List Automaton). ApartUses v x a) q (subst (λ (x : Version). ApartUses x all a) e h)
+  pub opened_there : t.refused ≡ None → (q : Reading) → q ≡ record { names = names; bytes = bytes; place = place_of bytes t.left.now } → IsOpenedAs names bytes (opened_behind steps (at_entries o q))
+  unfolding up_to
+  opened_there none q e =
+      let read = (up_to none).read in
+      subst (λ (r : Reading). IsOpenedAs names bytes (opened_behind steps (at_entries o r))) (sym e)
+      (ready names bytes t.left.now steps o (record { read = read.read; begins = subst BeginsEntry (sym read.is_rest) (a.begins none) }))
+
+  pub refused_there : (e : CertError) → t.refused ≡ Some e → IsRefusedAs names bytes e
+  refused_there e q = refused_behind_it a.begun e q read_here
+
+  pub told_there : (e : CertError) → t.refused ≡ Some e → IsToldBefore bytes e
+  told_there e q = told_before names bytes e (none_behind a.begun e q a.part) (refused_there e q)
 
 -- ---- from the first line on
 
@@ -264,39 +278,8 @@ steps_front a h s k =
 abbrev pub count_marks : ℕ → List Mark
 count_marks n = word (numeral n) (in_range 0 1 (suc largest) n ∷ is_few simplifications n ∷ []) ∷ fixed (codes "\n") ∷ []
 
-body_low : (given : Option Bool) (i : Item) (m : List Item) (q : List ℕ) → BeforeEntries (i ∷ (m ++ Items.body second_version given ∷ [])) q
-body_low given i m q = λ w. low_unopened w (Items.body second_version given) (λ h. let e = h.1 in cc) i m q
-
-pub steps_begin : {names : NameTable} {bytes : List ℕ} {shared : List Automaton} {given : Option Bool} {s s1 s2 s3 t : words.Reading} (n : ℕ) (ss : List Simplification)
-    (kind : kinds_of.Kind) → IsBegun names bytes second_version shared given None [] (Items.simplified given ∷ []) s
-    → ReadsWhere BeforeEntries names (length bytes) (Items.simplified given ∷ []) (λ u. fixed (codes "simplify ") ∷ []) (Items.simplification_count ∷ Items.body second_version given ∷ []) s s1
-    → Reads names (length bytes) (Items.simplification_count ∷ []) (λ u. count_marks n) (Items.simplifications_of n) s1 s2
-    → Reads names (length bytes) (Items.simplifications_of n) (λ u. simplifications_marks u (by_number (number_in names shared)) ss) [] s2 s3
-    → (s3.refused ≡ None → length ss ≡ n) → (s3.refused ≡ None → StepsUse second_version shared ss) → AreShared second_version names shared (length bytes) s3
-    → ReadsWhere BeforeEntries names (length bytes) (Items.body second_version given ∷ []) (λ u. kind_mark given kind ∷ []) (Items.between Items.line ∷ item_by second_version kind ∷ []) s3 t
-    → IsBegun names bytes second_version shared given (Some ss) (kind_mark given kind ∷ []) (Items.between Items.line ∷ item_by second_version kind ∷ []) t
-steps_begin {names} {bytes} {shared} {given} {s} {s1} {s2} {s3} {t} n ss kind b first count steps counted plain known next =
-    let low = Items.body second_version given in
-    let was : t.refused ≡ None → s.refused ≡ None = λ none. open_before_where first (open_before count (open_before steps (open_before_where next none))) in
-    record {
-      can_share = tt;
-      start = b.start;
-      all_left = b.all_left;
-      fresh = b.fresh;
-      not_refused = b.not_refused;
-      read = as_marks_where (λ none u.
-          ap (λ (k : ℕ). ((answer_marks given ++ (heading_marks u (by_number (number_in names shared)) shared ++ [])) ++ [])
-          ++ (fixed (codes "simplify ") ∷ (count_marks k ++ (simplifications_marks u (by_number (number_in names shared)) ss ++ (kind_mark given kind ∷ [])))))
-          (sym (counted (open_before_where next none)))
-          ∙ steps_front (answer_marks given) (heading_marks u (by_number (number_in names shared)) shared) (steps_marks u (by_number (number_in names shared)) (Some ss)) (kind_mark given kind ∷ []))
-          (then_where b.read (then_where first (then_where (low_where low (body_low given) count) (then_where (low_where low (body_low given) steps) next))));
-      known = known_where second_version shared next [] (counts_still (kind_mark given kind ∷ []) (kind_still given kind)) known;
-      plain_shared = λ none. b.plain_shared (was none);
-      can_step = λ none. (refl, plain (open_before_where next none));
-    }
-
--- the same of automata that are the shared ones
-pub steps_begin_by : {names : NameTable} {bytes : List ℕ} {shared : List Automaton} {given : Option Bool} {s s1 s2 s3 t : words.Reading} (all : List Automaton) (n : ℕ)
+-- of automata that are the shared ones
+pub steps_begin : {names : NameTable} {bytes : List ℕ} {shared : List Automaton} {given : Option Bool} {s s1 s2 s3 t : words.Reading} (all : List Automaton) (n : ℕ)
     (ss : List Simplification) (kind : kinds_of.Kind) → all ≡ shared → IsBegun names bytes second_version shared given None [] (Items.simplified given ∷ []) s
     → ReadsWhere BeforeEntries names (length bytes) (Items.simplified given ∷ []) (λ u. fixed (codes "simplify ") ∷ []) (Items.simplification_count ∷ Items.body second_version given ∷ []) s s1
     → Reads names (length bytes) (Items.simplification_count ∷ []) (λ u. count_marks n) (Items.simplifications_of n) s1 s2
@@ -304,10 +287,26 @@ pub steps_begin_by : {names : NameTable} {bytes : List ℕ} {shared : List Autom
     → (s3.refused ≡ None → length ss ≡ n) → (s3.refused ≡ None → StepsUse second_version all ss) → AreShared second_version names all (length bytes) s3
     → ReadsWhere BeforeEntries names (length bytes) (Items.body second_version given ∷ []) (λ u. kind_mark given kind ∷ []) (Items.between Items.line ∷ item_by second_version kind ∷ []) s3 t
     → IsBegun names bytes second_version shared given (Some ss) (kind_mark given kind ∷ []) (Items.between Items.line ∷ item_by second_version kind ∷ []) t
-steps_begin_by {names} {bytes} {shared} {given} {s} {s1} {s2} {s3} {t} all n ss kind e b first count steps counted plain known next =
-    steps_begin n ss kind b first count
-    (subst (λ (x : List Automaton). Reads names (length bytes) (Items.simplifications_of n) (λ u. simplifications_marks u (by_number (number_in names x)) ss) [] s2 s3) e steps)
-    counted (subst (λ (x : List Automaton). s3.refused ≡ None → StepsUse second_version x ss) e plain) (subst (λ (x : List Automaton). AreShared second_version names x (length bytes) s3) e known) next
+steps_begin {names} {bytes} {shared} {given} {s} {s1} {s2} {s3} {t} all n ss kind e begun first count steps counted plain known next =
+    let low = Items.body second_version given in
+    let b = subst (λ (l : List Automaton). IsBegun names bytes second_version l given None [] (Items.simplified given ∷ []) s) (sym e) begun in
+    let was : t.refused ≡ None → s.refused ≡ None = λ none. open_before_where first (open_before count (open_before steps (open_before_where next none))) in
+    subst (λ (l : List Automaton). IsBegun names bytes second_version l given (Some ss) (kind_mark given kind ∷ []) (Items.between Items.line ∷ item_by second_version kind ∷ []) t) e (record {
+      can_share = tt;
+      start = b.start;
+      all_left = b.all_left;
+      fresh = b.fresh;
+      not_refused = b.not_refused;
+      read = as_marks_where (λ none u.
+          ap (λ (k : ℕ). ((answer_marks given ++ (heading_marks u (by_number (number_in names all)) all ++ [])) ++ [])
+          ++ (fixed (codes "simplify ") ∷ (count_marks k ++ (simplifications_marks u (by_number (number_in names all)) ss ++ (kind_mark given kind ∷ [])))))
+          (sym (counted (open_before_where next none)))
+          ∙ steps_front (answer_marks given) (heading_marks u (by_number (number_in names all)) all) (steps_marks u (by_number (number_in names all)) (Some ss)) (kind_mark given kind ∷ []))
+          (then_where b.read (then_where first (then_where (low_where low (other_below low tt) count) (then_where (low_where low (other_below low tt) steps) next))));
+      known = known_where second_version all next [] (counts_still (kind_mark given kind ∷ []) (kind_still given kind)) known;
+      plain_shared = λ none. b.plain_shared (was none);
+      can_step = λ none. (refl, plain (open_before_where next none));
+    })
 
 -- the shared automata are known where the steps begin
 pub known_at_steps : {names : NameTable} {bytes : List ℕ} {shared : List Automaton} {given : Option Bool} {s s1 s2 : words.Reading} (n : ℕ)

@@ -1,6 +1,7 @@
 -- The marks of an opening and of entries are no front of such marks with the same opening and entries, whatever automata are
 -- shared: behind the shared automata there are as many.
-use Rattle.std.proofs.Common.{◌≡◌, ◌+◌, ◌==◌, ℕ, suc, Bool, true, false, List, [], ◌∷◌, ◌++◌, length, Option, Some, None, codes, refl, sym, ap, ◌∙◌, subst, arith, append_assoc, length-append}
+use Rattle.std.proofs.Common.{◌≡◌, ◌+◌, ◌==◌, ℕ, suc, Bool, true, false, cond, List, [], ◌∷◌, ◌++◌, length, get_or, Option, Some, None, codes, refl, sym, ap, ◌∙◌, subst, arith, append_assoc}
+use Rattle.std.proofs.Common.{length-append}
 use Rattle.std.proofs.lemmas.List.{append_cancel_left}
 use Rattle.certificates.specs.Prelude.{Automaton, InfeasibilityEvidence, by_caps, by_automaton, PairEvidence, trivial_pair, infeasible_pair, conflicting_pair, joined_pair, unfeasible_pair}
 use Rattle.certificates.specs.Prelude.{PairEntry, Simplification, dropped, inlined}
@@ -82,10 +83,7 @@ automata_rest (p ∷ all) (q ∷ bs) x a b n e =
     automata_rest all bs x a b (let k : suc (length all) ≡ suc (length bs) = n in omega arith)
     (sealed (behind_states x p) (behind_states x q) (automata_marks x all ++ a) (automata_marks x bs ++ b) (behind_states_still p x) (behind_states_still q x) tails)
 
-marks_apart : (b c : ℕ) (t v : List ℕ) → (b == c) ≡ false → fixed (b ∷ t) ≡ fixed (c ∷ v) → ⊥
-marks_apart b c t v n e = bytes_apart b c t v n (ap mark_text e)
-
-pub lines_apart : fixed (codes "concon 1\n") ≡ fixed (codes "concon 2\n") → ⊥
+lines_apart : fixed (codes "concon 1\n") ≡ fixed (codes "concon 2\n") → ⊥
 lines_apart e = bytes_apart 49 50 _ _ refl (append_cancel_left (codes "concon ") (codes "1\n") (codes "2\n") (ap mark_text e))
 
 same_count : (n m : ℕ) → number_for marks.shared_automata n ≡ number_for marks.shared_automata m → n ≡ m
@@ -103,28 +101,16 @@ heading_rest (by_number f) (by_number h) all bs x a b e =
     let tails : automata_marks x all ++ a ≡ automata_marks x bs ++ b = cc in
     (refl, automata_rest all bs x a b (same_count (length all) (length bs) count) tails)
 
-heading_first : (u : Uses) (all : List Automaton) (x : Naming) (a : List Mark) → (t : List ℕ) × (r : List Mark) × (heading_marks x u all ++ a ≡ fixed (99 ∷ t) ∷ r)
-heading_first in_full all x a = (codes "oncon 1\n", a, refl)
-heading_first (by_number f) all x a = (codes "oncon 2\n", _, refl)
+-- behind an answer line, if there is one
+abbrev behind_answer : List Mark → List Mark
+behind_answer (fixed bytes ∷ ms) = cond (get_or bytes 0 0 == 99) (fixed bytes ∷ ms) ms
+behind_answer ms = ms
 
-no_answer : (u : Uses) (all : List Automaton) (x : Naming) (a : List Mark) (c : ℕ) (v : List ℕ) (r : List Mark) → (99 == c) ≡ false → heading_marks x u all ++ a ≡ fixed (c ∷ v) ∷ r → ⊥
-no_answer u all x a c v r n e =
-    let h = heading_first u all x a in
-    let whole : fixed (99 ∷ h.0) ∷ h.1 ≡ fixed (c ∷ v) ∷ r = sym h.2 ∙ e in
-    let first : fixed (99 ∷ h.0) ≡ fixed (c ∷ v) = cc in
-    marks_apart 99 c h.0 v n first
-
-answer_rest : (g h : Option Bool) (u w : Uses) (all bs : List Automaton) (x : Naming) (a b : List Mark)
-    → answer_marks g ++ (heading_marks x u all ++ a) ≡ answer_marks h ++ (heading_marks x w bs ++ b) → heading_marks x u all ++ a ≡ heading_marks x w bs ++ b
-answer_rest None None u w all bs x a b e = e
-answer_rest None (Some true) u w all bs x a b e = absurd (no_answer u all x a 89 _ _ refl e)
-answer_rest None (Some false) u w all bs x a b e = absurd (no_answer u all x a 78 _ _ refl e)
-answer_rest (Some true) None u w all bs x a b e = absurd (no_answer w bs x b 89 _ _ refl (sym e))
-answer_rest (Some false) None u w all bs x a b e = absurd (no_answer w bs x b 78 _ _ refl (sym e))
-answer_rest (Some true) (Some true) u w all bs x a b e = append_cancel_left (fixed (codes "YES\n") ∷ []) _ _ e
-answer_rest (Some false) (Some false) u w all bs x a b e = append_cancel_left (fixed (codes "NO\n") ∷ []) _ _ e
-answer_rest (Some true) (Some false) u w all bs x a b e = let first : fixed (codes "YES\n") ≡ fixed (codes "NO\n") = cc in absurd (marks_apart 89 78 _ _ refl first)
-answer_rest (Some false) (Some true) u w all bs x a b e = let first : fixed (codes "NO\n") ≡ fixed (codes "YES\n") = cc in absurd (marks_apart 78 89 _ _ refl first)
+behind_it : (g : Option Bool) (u : Uses) (all : List Automaton) (x : Naming) (a : List Mark) → behind_answer (answer_marks g ++ (heading_marks x u all ++ a)) ≡ heading_marks x u all ++ a
+behind_it None in_full all x a = refl
+behind_it None (by_number f) all x a = refl
+behind_it (Some true) u all x a = refl
+behind_it (Some false) u all x a = refl
 
 pub no_front : (x : Naming) (u w : Uses) (all bs : List Automaton) (g h : Option Bool) (o : Opening) (es : List PairEntry) (m : Mark) (ms : List Mark)
     → read_marks x u all g o es ≡ read_marks x w bs h o es ++ m ∷ ms → ⊥
@@ -134,7 +120,7 @@ no_front x u w all bs g h o es m ms e =
     let lines = heading_marks x w bs in
     let whole : answer_marks g ++ (heading_marks x u all ++ one) ≡ answer_marks h ++ (lines ++ (other ++ m ∷ ms)) =
     e ∙ append_assoc (answer_marks h) (lines ++ other) (m ∷ ms) ∙ ap (λ (l : List Mark). answer_marks h ++ l) (append_assoc lines other (m ∷ ms)) in
-    let rest = heading_rest u w all bs x one (other ++ m ∷ ms) (answer_rest g h u w all bs x one (other ++ m ∷ ms) whole) in
+    let rest = heading_rest u w all bs x one (other ++ m ∷ ms) (sym (behind_it g u all x one) ∙ ap behind_answer whole ∙ behind_it h w bs x (other ++ m ∷ ms)) in
     let long = ap length rest.1 ∙ length-append other (m ∷ ms) in
     let same = body_long o es x u w g h rest.0 in
     let sum : length one ≡ length other + suc (length ms) = long in

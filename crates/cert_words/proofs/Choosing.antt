@@ -1,5 +1,5 @@
 -- Which of some texts comes next.
-use Rattle.std.proofs.Common.{subst, ◌≡◌, ◌<◌, ◌≤◌, ℕ, zero, suc, false, List, [], ◌∷◌, length, map, get_or, max, Some, None, refl, ap, arith}
+use Rattle.std.proofs.Common.{◌≡◌, ◌<◌, ◌≤◌, ℕ, zero, suc, false, List, [], ◌∷◌, length, map, get_or, max, Some, None, refl, ap, arith}
 use Rattle.std.proofs.lemmas.List.{length-map}
 use Rattle.cops_names.specs.NameTable.{NameTable}
 use Rattle.cert_grammar.specs.Prelude.{fixed, spelling, scan, Item, is_there, first_there, longest}
@@ -48,6 +48,3 @@ missed_bare bytes (a ∷ ls) (suc k) d lt m e = (m.0, missed_bare bytes ls k d (
 
 pub same_number : (texts : List code.Lead) (cs : List Choice) → map bare texts ≡ map bare_of cs → length cs ≤ length texts
 same_number texts cs e = let n = ap length e in omega (arith, n, length-map texts bare, length-map cs bare_of)
-
-pub chosen_at : (names : NameTable) (end : ℕ) (i : Item) (cs : List Choice) (k r : ℕ) (s t : Reading) → r ≡ k → Chosen names end i cs r s t → Chosen names end i cs k s t
-chosen_at names end i cs k r s t e h = subst (λ (n : ℕ). Chosen names end i cs n s t) e h

@@ -2,7 +2,6 @@ use Rattle.std.proofs.Common.{[], ◌∷◌, codes, refl, arith}
 use Rattle.cert_grammar.specs.Prelude.{fixed, number, space, line, between, any_number, derivations_left, evidence}
 use Rattle.cert_sharing.proofs.UseMarks.{counts_still}
 use Rattle.cert_words.proofs.Walking.{then_reads, framed}
-use Rattle.cert_words.proofs.Choosing.{chosen_at}
 use Rattle.cert_reading.specs.Uses.{version_by, automata_by, use_between, use_item}
 use Rattle.cert_reading.proofs.Chosen.{past}
 use Rattle.cert_reading.proofs.EvidenceKinds.{kinds, are_kinds}
@@ -12,13 +11,13 @@ use Rattle.cert_reading.proofs.evidence.evidence.Goals as goal
 pub returns-in-0-clause-read : goal.returns-in-0-clause-read
 returns-in-0-clause-read c =
     let v = version_by c.args.uses in
-    chosen_at c.args.names.now c.args.end (evidence v) (kinds v) 0 _ _ _ c.in-0.is (c.choose.ensures.chosen c.args.names.now (evidence v) (kinds v) (are_kinds v) refl)
+    rw c.in-0.is at (c.choose.ensures.chosen c.args.names.now (evidence v) (kinds v) (are_kinds v) refl)
 
 pub returns-in-1-clause-read : goal.returns-in-1-clause-read
 returns-in-1-clause-read c =
     let names = c.args.names.now in
     let v = version_by c.args.uses in
-    then_reads (chosen_at names c.args.end (evidence v) (kinds v) 1 _ _ _ c.in-1.is (c.choose.ensures.chosen names (evidence v) (kinds v) (are_kinds v) refl))
+    then_reads (rw c.in-1.is at (c.choose.ensures.chosen names (evidence v) (kinds v) (are_kinds v) refl))
     (then_reads (framed (any_number line ∷ []) (c.number-inner.ensures.read names (any_number space) (λ k. between space ∷ []) refl))
     (then_reads (framed (any_number line ∷ []) (c.text.ensures.read names (between space) [] refl))
     (then_reads (c.number-outer.ensures.read names (any_number line) (λ k. between line ∷ []) refl) (c.text-in-1.ensures.read names (between line) [] refl))))
@@ -27,14 +26,14 @@ pub returns-in-2-clause-read : goal.returns-in-2-clause-read
 returns-in-2-clause-read c =
     let names = c.args.names.now in
     let v = version_by c.args.uses in
-    then_reads (chosen_at names c.args.end (evidence v) (kinds v) 2 _ _ _ c.in-2.is (c.choose.ensures.chosen names (evidence v) (kinds v) (are_kinds v) refl))
+    then_reads (rw c.in-2.is at (c.choose.ensures.chosen names (evidence v) (kinds v) (are_kinds v) refl))
     (then_reads (framed (derivations_left 1 0 ∷ []) (c.derivation-left.ensures names 0)) (c.derivation-right.ensures names 0))
 
 pub returns-in-3-clause-read : goal.returns-in-3-clause-read
 returns-in-3-clause-read c =
     let names = c.args.names.now in
     let v = version_by c.args.uses in
-    then_reads (chosen_at names c.args.end (evidence v) (kinds v) 3 _ _ _ c.in-3.is (c.choose.ensures.chosen names (evidence v) (kinds v) (are_kinds v) refl))
+    then_reads (rw c.in-3.is at (c.choose.ensures.chosen names (evidence v) (kinds v) (are_kinds v) refl))
     (then_reads (framed (derivations_left 1 0 ∷ derivations_left 1 0 ∷ []) (c.number-cond.ensures.read names (any_number line) (λ k. between line ∷ []) refl))
     (then_reads (framed (derivations_left 1 0 ∷ derivations_left 1 0 ∷ []) (c.text-in-3.ensures.read names (between line) [] refl))
     (then_reads (framed (derivations_left 1 0 ∷ []) (c.derivation-first.ensures names 0)) (c.derivation-second.ensures names 0))))
@@ -42,13 +41,13 @@ returns-in-3-clause-read c =
 pub returns-in-4-clause-read : goal.returns-in-4-clause-read
 returns-in-4-clause-read c =
     let v = version_by c.args.uses in
-    chosen_at c.args.names.now c.args.end (evidence v) (kinds v) 4 _ _ _ c.in-4.is (c.choose.ensures.chosen c.args.names.now (evidence v) (kinds v) (are_kinds v) refl)
+    rw c.in-4.is at (c.choose.ensures.chosen c.args.names.now (evidence v) (kinds v) (are_kinds v) refl)
 
 pub used_automaton-automaton-requires : goal.used_automaton-automaton-requires
 used_automaton-automaton-requires c =
     let names = c.args.names.now in
     let v = version_by c.args.uses in
-    let front = then_reads (chosen_at names c.args.end (evidence v) (kinds v) 5 _ _ _ c.in-5.is (c.choose.ensures.chosen names (evidence v) (kinds v) (are_kinds v) refl))
+    let front = then_reads (rw c.in-5.is at (c.choose.ensures.chosen names (evidence v) (kinds v) (are_kinds v) refl))
     (framed (use_item v ∷ []) (c.number-cond-in-5.ensures.read names (any_number (use_between v)) (λ k. between (use_between v) ∷ []) refl)) in
     known_behind v (automata_by c.args.uses) front [] (counts_still (fixed (codes "auto ") ∷ number c.number-cond-in-5.result ∷ []) (tt, (tt, tt))) c.requires
 
@@ -56,7 +55,7 @@ pub returns-in-5-clause-read : goal.returns-in-5-clause-read
 returns-in-5-clause-read c =
     let names = c.args.names.now in
     let v = version_by c.args.uses in
-    then_reads (chosen_at names c.args.end (evidence v) (kinds v) 5 _ _ _ c.in-5.is (c.choose.ensures.chosen names (evidence v) (kinds v) (are_kinds v) refl))
+    then_reads (rw c.in-5.is at (c.choose.ensures.chosen names (evidence v) (kinds v) (are_kinds v) refl))
     (then_reads (framed (use_item v ∷ []) (c.number-cond-in-5.ensures.read names (any_number (use_between v)) (λ k. between (use_between v) ∷ []) refl)) c.used_automaton-automaton.ensures.read)
 
 pub returns-in_default-clause-read : goal.returns-in_default-clause-read

@@ -1,33 +1,31 @@
 use Rattle.std.proofs.Common.{true, false, Some, refl, arith}
 use Rattle.cert_grammar.specs.Items.{opening}
-use Rattle.cert_words.proofs.Choosing.{chosen_at}
 use Rattle.cert_reading.proofs.Stopping.{then_where, word_where}
 use Rattle.cert_reading.proofs.Chosen.{past}
-use Rattle.cert_reading.proofs.Opening.{first_lines}
-use Rattle.cert_reading.proofs.FirstPlaces.{opening_place}
+use Rattle.cert_reading.proofs.Opening.{other_place, first_lines}
 use Rattle.cert_reading.proofs.headings.first_line.Goals as goal
 
 pub returns-in-0 : goal.returns-in-0
 returns-in-0 c = λ names.
-    then_where (word_where (λ s. opening_place c.args.at.now.left.now) (λ here. c.choose.ensures.here here names opening first_lines refl refl)
-    (chosen_at names c.args.end opening first_lines 0 _ _ _ c.in-0.is (c.choose.ensures.chosen names opening first_lines refl refl)))
+    then_where (word_where (λ s. other_place opening _ tt) (λ here. c.choose.ensures.here here names opening first_lines refl refl)
+    (rw c.in-0.is at (c.choose.ensures.chosen names opening first_lines refl refl)))
     (c.version_line-second.ensures names (Some true))
 
 pub returns-in-1 : goal.returns-in-1
 returns-in-1 c = λ names.
-    then_where (word_where (λ s. opening_place c.args.at.now.left.now) (λ here. c.choose.ensures.here here names opening first_lines refl refl)
-    (chosen_at names c.args.end opening first_lines 1 _ _ _ c.in-1.is (c.choose.ensures.chosen names opening first_lines refl refl)))
+    then_where (word_where (λ s. other_place opening _ tt) (λ here. c.choose.ensures.here here names opening first_lines refl refl)
+    (rw c.in-1.is at (c.choose.ensures.chosen names opening first_lines refl refl)))
     (c.version_line-second-in-1.ensures names (Some false))
 
 pub returns-in-2 : goal.returns-in-2
-returns-in-2 c = λ names. word_where (λ s. opening_place c.args.at.now.left.now) (λ here. c.choose.ensures.here here names opening first_lines refl refl)
-    (chosen_at names c.args.end opening first_lines 2 _ _ _ c.in-2.is (c.choose.ensures.chosen names opening first_lines refl refl))
+returns-in-2 c = λ names. word_where (λ s. other_place opening _ tt) (λ here. c.choose.ensures.here here names opening first_lines refl refl)
+    (rw c.in-2.is at (c.choose.ensures.chosen names opening first_lines refl refl))
 
 pub returns-in-3 : goal.returns-in-3
-returns-in-3 c = λ names. word_where (λ s. opening_place c.args.at.now.left.now) (λ here. c.choose.ensures.here here names opening first_lines refl refl)
-    (chosen_at names c.args.end opening first_lines 3 _ _ _ c.in-3.is (c.choose.ensures.chosen names opening first_lines refl refl))
+returns-in-3 c = λ names. word_where (λ s. other_place opening _ tt) (λ here. c.choose.ensures.here here names opening first_lines refl refl)
+    (rw c.in-3.is at (c.choose.ensures.chosen names opening first_lines refl refl))
 
 pub returns-in_default : goal.returns-in_default
 returns-in_default c = λ names.
-    word_where (λ s. opening_place c.args.at.now.left.now) (λ here. c.choose.ensures.here here names opening first_lines refl refl)
+    word_where (λ s. other_place opening _ tt) (λ here. c.choose.ensures.here here names opening first_lines refl refl)
     (past names c.args.end opening first_lines _ _ _ _ _ (let other = c.in_default in omega (arith, other)) (c.choose.ensures.chosen names opening first_lines refl refl))

@@ -4,8 +4,7 @@ use Rattle.cert_words.specs.Words.{told}
 use Rattle.cert_words.proofs.Walking.{front_same, stopped}
 use Rattle.cert_words.proofs.Stepping.{none_now, first_one, text_run, stuck_among, stuck_stops, go}
 use Rattle.cert_reading.proofs.Stopping.{word_where}
-use Rattle.cert_reading.proofs.Opening.{none_refused}
-use Rattle.cert_reading.proofs.FirstPlaces.{simplified_place}
+use Rattle.cert_reading.proofs.Opening.{other_place, none_refused}
 use Rattle.cert_reading.proofs.headings.simplified_word.Goals as goal
 
 -- the first lead is not there
@@ -17,7 +16,7 @@ returns-in-Some-clause-steps c = λ names.
     let s = c.args.at.now in
     let i = simplified c.args.given in
     let none = none_now _ _ c.is_some.ensures c.if-is_some.false in
-    word_where (λ x. simplified_place c.args.given s.left.now) (λ x. none_refused s _ none)
+    word_where (λ x. other_place i _ tt) (λ x. none_refused s _ none)
     (go c.in-Some.rest none (text_run names c.args.end s.left.now s.shares i (codes "simplify ") _ _ (simplification_count ∷ body second_version c.args.given ∷ [])
     (first_one i s.left.now _ _ refl c.in-Some.ensures.there) c.in-Some.ensures))
 
@@ -28,7 +27,7 @@ pub returns-in-Some-kind_there-clause-kind : goal.returns-in-Some-kind_there-cla
 returns-in-Some-kind_there-clause-kind c = λ names.
     let left = c.args.at.now.left.now in
     let i = simplified c.args.given in
-    c.in-Some-kind_there.ensures.there names c.args.end second_version i (missed i left _ _ refl c.in_default.ensures) (simplified_place c.args.given left)
+    c.in-Some-kind_there.ensures.there names c.args.end second_version i (missed i left _ _ refl c.in_default.ensures) (other_place i left tt)
 
 pub returns-clause-kind : goal.returns-clause-kind
 returns-clause-kind c = λ names.
@@ -37,6 +36,6 @@ returns-clause-kind c = λ names.
     let none = none_now _ _ c.is_some.ensures c.if-is_some.false in
     let stuck = stuck_among names c.args.end s.left.now s.shares i c.stuck.result (leads i) (leads i) refl (missed i s.left.now _ _ refl c.in_default.ensures
     ∙ c.in_default-kind_there.ensures.none second_version) refl c.stuck.ensures in
-    word_where (λ x. simplified_place c.args.given s.left.now) (λ x. stuck)
+    word_where (λ x. other_place i _ tt) (λ x. stuck)
     (stopped c.stuck.result none refl (front_same _ _ (ap (λ (z : Shared). z.texts) c.in_default-kind_there.ensures.kept))
     (stuck_stops names c.args.end i s.left.now s.shares (told c.stuck.result) stuck))

@@ -1,21 +1,19 @@
 use Rattle.std.proofs.Common.{refl, arith}
 use Rattle.cert_grammar.specs.Items.{heading}
-use Rattle.cert_words.proofs.Choosing.{chosen_at}
 use Rattle.cert_reading.proofs.Stopping.{word_where}
 use Rattle.cert_reading.proofs.Chosen.{past}
-use Rattle.cert_reading.proofs.Opening.{versions}
-use Rattle.cert_reading.proofs.FirstPlaces.{heading_place}
+use Rattle.cert_reading.proofs.Opening.{other_place, versions}
 use Rattle.cert_reading.proofs.headings.version_line.Goals as goal
 
 pub returns-in-0 : goal.returns-in-0
-returns-in-0 c = λ names given. word_where (λ s. heading_place given c.args.at.now.left.now) (λ here. c.choose.ensures.here here names (heading given) (versions given) refl refl)
-    (chosen_at names c.args.end (heading given) (versions given) 0 _ _ _ c.in-0.is (c.choose.ensures.chosen names (heading given) (versions given) refl refl))
+returns-in-0 c = λ names given. word_where (λ s. other_place (heading given) _ tt) (λ here. c.choose.ensures.here here names (heading given) (versions given) refl refl)
+    (rw c.in-0.is at (c.choose.ensures.chosen names (heading given) (versions given) refl refl))
 
 pub returns-in-1 : goal.returns-in-1
-returns-in-1 c = λ names given. word_where (λ s. heading_place given c.args.at.now.left.now) (λ here. c.choose.ensures.here here names (heading given) (versions given) refl refl)
-    (chosen_at names c.args.end (heading given) (versions given) 1 _ _ _ c.in-1.is (c.choose.ensures.chosen names (heading given) (versions given) refl refl))
+returns-in-1 c = λ names given. word_where (λ s. other_place (heading given) _ tt) (λ here. c.choose.ensures.here here names (heading given) (versions given) refl refl)
+    (rw c.in-1.is at (c.choose.ensures.chosen names (heading given) (versions given) refl refl))
 
 pub returns-in_default : goal.returns-in_default
 returns-in_default c = λ names given.
-    word_where (λ s. heading_place given c.args.at.now.left.now) (λ here. c.choose.ensures.here here names (heading given) (versions given) refl refl)
+    word_where (λ s. other_place (heading given) _ tt) (λ here. c.choose.ensures.here here names (heading given) (versions given) refl refl)
     (past names c.args.end (heading given) (versions given) _ _ _ _ _ (let other = c.in_default in omega (arith, other)) (c.choose.ensures.chosen names (heading given) (versions given) refl refl))

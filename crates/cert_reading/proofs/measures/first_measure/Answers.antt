@@ -1,7 +1,7 @@
 use Rattle.std.proofs.Common.{[], ◌∷◌, refl}
 use Rattle.cert_grammar.specs.Prelude.{first_version, measure}
 use Rattle.cert_reading.proofs.Stopping.{then_where, word_where}
-use Rattle.cert_reading.proofs.Opening.{other_item, linear_line}
+use Rattle.cert_reading.proofs.Opening.{other_place, linear_line}
 use Rattle.cert_reading.proofs.Chosen.{one_choice}
 use Rattle.cert_reading.proofs.measures.first_measure.Goals as goal
 
@@ -10,5 +10,5 @@ returns-clause-read c =
     let names = c.args.names.now in
     let i = measure first_version in
     let line = linear_line first_version in
-    then_where (word_where (λ s. other_item first_version i c.args.at.now.left.now (λ e. cc) (λ m e. cc) (λ m e. cc) (λ m e. cc)) (λ none. c.choose.ensures.here none names i (line ∷ []) refl refl)
+    then_where (word_where (λ s. other_place i _ tt first_version) (λ none. c.choose.ensures.here none names i (line ∷ []) refl refl)
     (one_choice names c.args.end i line _ _ _ (c.choose.ensures.chosen names i (line ∷ []) refl refl))) (c.entries-entries.ensures.read first_version)

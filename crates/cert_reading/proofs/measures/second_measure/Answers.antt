@@ -5,9 +5,8 @@ use Rattle.cert_words.specs.declared.reading.Reading.{Reading}
 use Rattle.cert_words.specs.Choices.{Choice, Chosen}
 use Rattle.cert_words.specs.Walks.{Reads}
 use Rattle.cert_words.proofs.Walking.{already}
-use Rattle.cert_words.proofs.Choosing.{chosen_at}
 use Rattle.cert_reading.proofs.Stopping.{then_where, word_where}
-use Rattle.cert_reading.proofs.Opening.{other_item, linear_line, order_line}
+use Rattle.cert_reading.proofs.Opening.{other_place, linear_line, order_line}
 use Rattle.cert_reading.proofs.measures.second_measure.Goals as goal
 
 abbrev kinds : List Choice
@@ -24,14 +23,14 @@ pub returns-then-choose-eq1-clause-read : goal.returns-then-choose-eq1-clause-re
 returns-then-choose-eq1-clause-read c =
     let names = c.args.names.now in
     let i = measure second_version in
-    then_where (word_where (λ s. other_item second_version i c.args.at.now.left.now (λ e. cc) (λ m e. cc) (λ m e. cc) (λ m e. cc))
+    then_where (word_where (λ s. other_place i _ tt second_version)
     (λ none. c.choose.ensures.here none names i kinds refl refl)
-    (chosen_at names c.args.end i kinds 1 _ _ _ c.if-choose-eq1.true (c.choose.ensures.chosen names i kinds refl refl))) c.precedence-order.ensures.read
+    (rw c.if-choose-eq1.true at (c.choose.ensures.chosen names i kinds refl refl))) c.precedence-order.ensures.read
 
 pub returns-clause-read : goal.returns-clause-read
 returns-clause-read c =
     let names = c.args.names.now in
     let i = measure second_version in
-    then_where (word_where (λ s. other_item second_version i c.args.at.now.left.now (λ e. cc) (λ m e. cc) (λ m e. cc) (λ m e. cc))
+    then_where (word_where (λ s. other_place i _ tt second_version)
     (λ none. c.choose.ensures.here none names i kinds refl refl) (first_of_two names c.args.end _ _ _ c.if-choose-eq1.false (c.choose.ensures.chosen names i kinds refl refl)))
     (c.entries-entries.ensures.read second_version)

@@ -5,7 +5,7 @@ use Rattle.cert_grammar.specs.Prelude.{automata_marks, behind_automata}
 use Rattle.cert_words.proofs.Walking.{open_before}
 use Rattle.cert_words.proofs.Stepping.{some_now}
 use Rattle.cert_reading.proofs.Stopping.{then_where, then_nothing_where, as_where, as_marks_where, already_where, open_before_where, low_where}
-use Rattle.cert_reading.proofs.SharedPlaces.{above_automata}
+use Rattle.cert_reading.proofs.Opening.{other_below, automata_other}
 use Rattle.cert_reading.proofs.AutomataMarks.{plain_automata, automata_push}
 use Rattle.cert_reading.proofs.DerivationMarks.{left_next, left_end}
 use Rattle.cert_reading.proofs.shared.automata.Goals as goal
@@ -25,7 +25,8 @@ automata-preserved c =
       read = λ given.
           as_marks_where (λ none u. automata_push automaton_view u items next ∙ ap (λ as_items. automata_marks u (map automaton_view as_items)) (sym (c.put.ensures.grown none)))
           (then_where (as_where (λ none. (left_next (λ (m : ℕ). behind_automata m given ∷ []) c.args.count c.automata.counter c.automata-test.true, λ u. refl)) (c.automata.invariant.read given))
-          (then_nothing_where (c.shared_automaton-next.ensures.read k given) (low_where (behind_automata k given) (above_automata k given) (c.put.ensures.read names c.args.end []))));
+          (then_nothing_where (c.shared_automaton-next.ensures.read k given)
+          (low_where (behind_automata k given) (other_below (behind_automata k given) (automata_other k given)) (c.put.ensures.read names c.args.end []))));
       counted = λ none.
           let n = ap length (c.put.ensures.grown none) ∙ length_push items next in
           omega (arith, c.automata.invariant.counted (before none), n, length-map c.put.new.list.items automaton_view, length-map items automaton_view);

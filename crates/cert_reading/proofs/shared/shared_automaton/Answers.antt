@@ -4,7 +4,7 @@ use Rattle.cert_grammar.specs.Prelude.{name_of, automaton_marks, space, between,
 use Rattle.cert_words.proofs.Walking.{then_reads, framed}
 use Rattle.cert_words.proofs.Stepping.{none_now, some_now}
 use Rattle.cert_reading.proofs.Stopping.{then_where, already_where, word_where, low_where, sealed_where}
-use Rattle.cert_reading.proofs.SharedPlaces.{begin_place, end_place, above_end}
+use Rattle.cert_reading.proofs.Opening.{other_place, other_below}
 use Rattle.cert_reading.proofs.AutomataMarks.{automaton_anew}
 use Rattle.cert_reading.proofs.shared.shared_automaton.Goals as goal
 
@@ -16,7 +16,7 @@ returns-clause-read c = λ more given.
     let none = none_now _ _ c.is_some.ensures c.if-is_some.false in
     let read = then_reads (c.begins.ensures.read names (automata_left more given) (between space ∷ state_count ∷ automaton_end more given ∷ []) refl)
     (framed (automaton_end more given ∷ []) c.behind_word-automaton.ensures.read) in
-    sealed_where {f = λ u. automaton_marks u a} (end_place more given c.behind_word-automaton.new.at.left.now) none
+    sealed_where {f = λ u. automaton_marks u a} (other_place (automaton_end more given) _ tt) none
     (c.ended.ensures.here none names (automata_left more given ∷ []) (λ u. automaton_marks u a) (automaton_end more given) (behind_automata more given ∷ []) c.args.at.now refl anew refl read) read
     (c.ended.ensures.read names (automata_left more given ∷ []) (λ u. automaton_marks u a) (automaton_end more given) (behind_automata more given ∷ []) c.args.at.now refl anew refl read)
 
@@ -26,9 +26,9 @@ returns-then-is_some-clause-read c = λ more given.
     let new = between space ∷ state_count ∷ automaton_end more given ∷ [] in
     let e = some_now _ _ c.is_some.ensures c.if-is_some.true in
     already_where e.0 e.1
-    (then_where (word_where (λ x. begin_place more given c.args.at.now.left.now) (λ none. c.begins.ensures.here none names (automata_left more given) new refl)
+    (then_where (word_where (λ x. other_place (automata_left more given) _ tt) (λ none. c.begins.ensures.here none names (automata_left more given) new refl)
     (c.begins.ensures.read names (automata_left more given) new refl))
-    (low_where (automaton_end more given) (above_end more given) c.behind_word-automaton.ensures.read))
+    (low_where (automaton_end more given) (other_below (automaton_end more given) tt) c.behind_word-automaton.ensures.read))
 
 pub returns-clause-plain : goal.returns-clause-plain
 returns-clause-plain c = λ none. c.behind_word-automaton.ensures.plain (none_now _ _ c.is_some.ensures c.if-is_some.false)

@@ -1,29 +1,22 @@
 use Rattle.std.proofs.Common.{◌≡◌, ◌≤◌, ◌-◌, ℕ, [], ◌∷◌, None, Some, slice_get, map, refl, sym, ap, subst}
 use Rattle.std.proofs.lemmas.List.{length-map}
 use Rattle.cert_model.specs.EvidenceView.{automaton_view}
-use Rattle.cert_grammar.specs.Prelude.{use_marks, space, line, between, states_line, shared_use}
-use Rattle.cert_words.specs.Walks.{Reads}
+use Rattle.cert_grammar.specs.Prelude.{space, line, between, states_line, shared_use}
 use Rattle.cert_words.proofs.Walking.{then_reads, then_nothing, as_marks, framed}
-use Rattle.cert_reading.specs.declared.uses.Uses.{Uses}
-use Rattle.cert_reading.specs.Plain.{IsUsed}
-use Rattle.cert_reading.specs.Uses.{version_by, automata_by, uses_by, use_between, use_item, AreKnown}
 use Rattle.cert_reading.proofs.UseReads.{UseFacts, use_facts, number_there, use_line}
 use Rattle.cert_reading.proofs.uses.used_automaton.Goals as goal
 
 pub returns-in-InFull-clause-read : goal.returns-in-InFull-clause-read
 returns-in-InFull-clause-read c =
-    let names = c.args.names.now in
-    subst (λ (w : Uses). Reads names c.args.end (between (use_between (version_by w)) ∷ use_item (version_by w) ∷ [])
-    (λ u. use_marks u (uses_by names w) (automaton_view c.automaton.result)) [] c.args.at.now c.automaton.new.at) (sym c.in-InFull.is)
-    (then_reads (framed (states_line ∷ []) (c.text.ensures.read names (between line) [] refl)) c.automaton.ensures.read)
+    rw c.in-InFull.is (then_reads (framed (states_line ∷ []) (c.text.ensures.read c.args.names.now (between line) [] refl)) c.automaton.ensures.read)
 
 pub returns-in-InFull-clause-plain : goal.returns-in-InFull-clause-plain
-returns-in-InFull-clause-plain c = λ none. subst (λ (w : Uses). IsUsed (version_by w) (automata_by w) (automaton_view c.automaton.result)) (sym c.in-InFull.is) (c.automaton.ensures.plain none)
+returns-in-InFull-clause-plain c = λ none. rw c.in-InFull.is (c.automaton.ensures.plain none)
 
 pub returns-in-ByNumber : goal.returns-in-ByNumber
 returns-in-ByNumber c =
     let names = c.args.names.now in
-    let known = subst (λ (w : Uses). AreKnown names w c.args.end c.args.at.now) c.in-ByNumber.is c.requires in
+    let known = rw c.in-ByNumber.is at c.requires in
     let all = map automaton_view c.in-ByNumber.automata.now in
     let a = automaton_view c.copied.result in
     let n = c.used-number.result in
@@ -34,7 +27,6 @@ returns-in-ByNumber c =
     let stands : c.copied.new.at.refused ≡ None → slice_get all (n - 1) ≡ Some a =
     λ none. c.copied.ensures.copied none (facts none).low (subst (λ (m : ℕ). n ≤ m) (length-map c.in-ByNumber.automata.now automaton_view) (facts none).high) in
     record {
-      read = subst (λ (w : Uses). Reads names c.args.end (between (use_between (version_by w)) ∷ use_item (version_by w) ∷ []) (λ u. use_marks u (uses_by names w) a) []
-          c.args.at.now c.copied.new.at) (sym c.in-ByNumber.is) (as_marks (λ none u. ap use_line (sym (number_there names all a n (facts none) (stands none)))) whole);
-      plain = λ none. subst (λ (w : Uses). IsUsed (version_by w) (automata_by w) a) (sym c.in-ByNumber.is) (n, (facts none).low, (facts none).high, stands none);
+      read = rw c.in-ByNumber.is (as_marks (λ none u. ap use_line (sym (number_there names all a n (facts none) (stands none)))) whole);
+      plain = λ none. rw c.in-ByNumber.is (n, (facts none).low, (facts none).high, stands none);
     }

@@ -24,22 +24,19 @@ open_body-requires c = record {
       (c.first_line-given.ensures c.args.names.now) (c.kind_word-kind.ensures c.args.names.now first_version);
 }
 
-pub returns-clause-opened : goal.returns-clause-opened
-returns-clause-opened c = c.open_body.ensures.opened
-    (record {
-      given = c.first_line-given.result.0;
-      steps = None;
-      begun = first_begun c.kind_word-kind.result refl c.new-shares.ensures refl c.if-second.false
-          (c.first_line-given.ensures c.args.names.now) (c.kind_word-kind.ensures c.args.names.now first_version);
-    })
-
-pub returns-clause-late : goal.returns-clause-late
-returns-clause-late c =
-    if_ok (λ (o : Opened). IsOpenedAs c.args.names.now c.args.bytes.now (opened_view o)) (λ (o : Opened). IsRefusedBehind c.args.names.now c.args.bytes.now (opened_view o))
-    c.open_body.result (λ o h. refused_late c.args.names.now c.args.bytes.now (opened_view o) h)
-    (c.open_body.ensures.opened (record {
+pub returns : goal.returns
+returns c =
+    let opened = c.open_body.ensures.opened (record {
       given = c.first_line-given.result.0;
       steps = None;
       begun = first_begun c.kind_word-kind.result refl c.new-shares.ensures refl
           c.if-second.false (c.first_line-given.ensures c.args.names.now) (c.kind_word-kind.ensures c.args.names.now first_version);
-    }))
+    }) in
+    record {
+      opened = opened;
+      refused = c.open_body.ensures.refused;
+      late = if_ok (λ (o : Opened). IsOpenedAs c.args.names.now c.args.bytes.now (opened_view o)) (λ (o : Opened). IsRefusedBehind c.args.names.now c.args.bytes.now (opened_view o))
+          c.open_body.result (λ o h. refused_late c.args.names.now c.args.bytes.now (opened_view o) h) opened;
+      early = c.open_body.ensures.early;
+      peak = c.open_body.ensures.peak;
+    }

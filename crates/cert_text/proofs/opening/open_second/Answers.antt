@@ -1,13 +1,11 @@
-use Rattle.std.proofs.Common.{map, [], ◌∷◌, ◌∙◌, length, Some, None, refl, sym, ap, subst}
+use Rattle.std.proofs.Common.{map, [], ◌∷◌, length, Some, None, refl, sym, ap, subst}
 use Rattle.cert_model.specs.EvidenceView.{automaton_view}
 use Rattle.cert_model.specs.CertificateView.{simp_view}
 use Rattle.cert_grammar.specs.Prelude.{second_version, between, line, simplification_count, simplifications_of}
 use Rattle.cert_words.proofs.Walking.{then_reads, framed}
 use Rattle.cert_reading.specs.Uses.{AreShared}
-use Rattle.cert_text.specs.declared.opening.Opened.{Opened}
-use Rattle.cert_text.specs.OpenedText.{OpenedText, behind_steps, opened_view, IsOpenedAs}
 use Rattle.cert_text.proofs.OpenedViews.{simplified_opened}
-use Rattle.cert_text.proofs.Openings.{word_begun, steps_begin_by, known_at_steps}
+use Rattle.cert_text.proofs.Openings.{word_begun, steps_begin, known_at_steps}
 use Rattle.cert_text.proofs.opening.open_second.Goals as goal
 
 pub open_body-requires : goal.open_body-requires
@@ -35,7 +33,7 @@ open_body-requires-2 c =
     record {
       given = c.args.given;
       steps = Some (map simp_view c.all_simplifications-steps.result.items);
-      begun = steps_begin_by _ n (map simp_view c.all_simplifications-steps.result.items) c.kind_word-kind.result (ap (map automaton_view) c.deref.ensures.value) c.requires
+      begun = steps_begin _ n (map simp_view c.all_simplifications-steps.result.items) c.kind_word-kind.result (ap (map automaton_view) c.deref.ensures.value) c.requires
           (c.in_default.ensures.steps names) count steps.read steps.counted steps.plain steps.known (c.kind_word-kind.ensures names second_version);
     }
 
@@ -47,11 +45,9 @@ returns-in-Ok-clause-opened c =
     (framed (simplifications_of n) (c.text.ensures.read names (between line) [] refl)) in
     let steps = c.all_simplifications-steps.ensures in
     let ss = map simp_view c.all_simplifications-steps.result.items in
-    subst (λ (t : OpenedText). IsOpenedAs names c.args.bytes.now t) (ap (λ (o : Opened). behind_steps ss (opened_view o)) (sym c.in-Ok.ensures.ok)
-    ∙ sym (simplified_opened c.all_simplifications-steps.result c.in-Ok.body))
-    (c.in_ok-body.ensures.opened (record {
+    rw (simplified_opened, c.in-Ok.ensures.ok) (c.in_ok-body.ensures.opened (record {
       given = c.args.given;
       steps = Some ss;
-      begun = steps_begin_by _ n ss c.kind_word-kind.result (ap (map automaton_view) c.deref.ensures.value) c.requires (c.in_default.ensures.steps names) count steps.read
+      begun = steps_begin _ n ss c.kind_word-kind.result (ap (map automaton_view) c.deref.ensures.value) c.requires (c.in_default.ensures.steps names) count steps.read
           steps.counted steps.plain steps.known (c.kind_word-kind.ensures names second_version);
     }))

@@ -1,5 +1,3 @@
-use Rattle.std.proofs.Common.{◌<◌, ◌+◌, ◌*◌, ℕ, subst}
-use Rattle.cert_grammar.specs.Words.{largest}
 use Rattle.cert_words.proofs.Judging.{value_passes, value_starts}
 use Rattle.cert_words.proofs.demands.value.Goals as goal
 
@@ -8,4 +6,4 @@ digits-init c = value_starts c.args.digits.now
 
 pub returns-then-value-gt-LARGEST : goal.returns-then-value-gt-LARGEST
 returns-then-value-gt-LARGEST c = value_passes c.args.digits.now c.digits.b-index c.digits.value c.digits.invariant c.digits-test.true
-    (subst (λ (k : ℕ). largest < 10 * c.digits.value + k) c.saturating_sub.ensures c.if-value-gt-LARGEST.true)
+    (rw c.saturating_sub.ensures at c.if-value-gt-LARGEST.true)

@@ -1,17 +1,11 @@
-use Rattle.std.proofs.Common.{◌≡◌, [], false, sym, subst}
-use Rattle.cert_grammar.specs.FirstRefusal.{is_there}
-use Rattle.cert_words.specs.declared.leads.Lead.{Lead}
-use Rattle.cert_words.specs.Words.{bare, IsLeadRead}
 use Rattle.cert_words.proofs.Fronts.{text_front, no_text, check_front}
 use Rattle.cert_words.proofs.leads.front.Goals as goal
 
 pub returns-in-Some : goal.returns-in-Some
-returns-in-Some c = subst (λ (a : Lead). IsLeadRead (bare a) c.args.left.now c.in-Text.word.now c.in-Some.rest.now) (sym c.in-Text.is)
-    (text_front c.in-Text.word.now c.args.left.now c.in-Some.rest.now c.in-Some.ensures)
+returns-in-Some c = rw c.in-Text.is (text_front c.in-Text.word.now c.args.left.now c.in-Some.rest.now c.in-Some.ensures)
 
 pub returns-in-None : goal.returns-in-None
-returns-in-None c = subst (λ (a : Lead). is_there (bare a) c.args.left.now ≡ false) (sym c.in-Text.is) (no_text c.in-Text.word.now c.args.left.now c.in-None.ensures)
+returns-in-None c = rw c.in-Text.is (no_text c.in-Text.word.now c.args.left.now c.in-None.ensures)
 
 pub returns-in-Some-behind : goal.returns-in-Some-behind
-returns-in-Some-behind c = subst (λ (a : Lead). IsLeadRead (bare a) c.args.left.now [] c.args.left.now) (sym c.in-Check.is)
-    (check_front c.in-Check.b c.args.left.now c.in-Some-behind.field-0.now c.in-Some-behind.ensures)
+returns-in-Some-behind c = rw c.in-Check.is (check_front c.in-Check.b c.args.left.now c.in-Some-behind.field-0.now c.in-Some-behind.ensures)

@@ -1,12 +1,11 @@
-use Rattle.std.proofs.Common.{◌<◌, ◌+◌, ◌*◌, ℕ, None, Some, subst, arith}
-use Rattle.cert_grammar.specs.Words.{largest}
+use Rattle.std.proofs.Common.{None, Some, arith}
 use Rattle.cert_words.proofs.BadParts.{not_root, found, parts_no_number, parts_great, parts_good, parts_end, places_are, places_read}
 use Rattle.cert_words.proofs.places.places_of.Goals as goal
 
 pub returns-then-value-gt-LARGEST : goal.returns-then-value-gt-LARGEST
 returns-then-value-gt-LARGEST c = λ names. found names c.args.at c.args.word.now (Some c.bytes.begins) (not_root c.args.word.now _ _ c.behind.ensures c.if-is_some.ensures)
     c.requires.spelt (parts_great c.args.word.now c.bytes.place c.bytes.begins c.bytes.value c.bytes-test.true c.bytes.invariant.parts c.if-b-ne46.true
-    (subst (λ (k : ℕ). largest < 10 * c.bytes.value + k) c.saturating_sub.ensures c.if-value-gt-LARGEST.true))
+    (rw c.saturating_sub.ensures at c.if-value-gt-LARGEST.true))
 
 pub returns-else-value-gt0 : goal.returns-else-value-gt0
 returns-else-value-gt0 c = λ names. found names c.args.at c.args.word.now (Some c.bytes.begins) (not_root c.args.word.now _ _ c.behind.ensures c.if-is_some.ensures)

@@ -1,6 +1,3 @@
-use Rattle.std.proofs.Common.{◌≡◌, ℕ, None, subst}
-use Rattle.cert_grammar.specs.Prelude.{are_places, verdict, places}
-use Rattle.cert_words.specs.Words.{told, IsTold}
 use Rattle.cert_words.proofs.Stepping.{none_now, first_one, stuck_one, spelt_place, position_run, position_stop, go, stop}
 use Rattle.cert_words.proofs.places.position.Goals as goal
 
@@ -14,9 +11,9 @@ returns-in_default c = λ names i new e. stop _ (none_now _ _ c.is_some.ensures 
 pub returns-in-Ok : goal.returns-in-Ok
 returns-in-Ok c = λ names i new e. go _ (none_now _ _ c.is_some.ensures c.if-is_some.false)
     (position_run names c.args.end c.args.at.now.left.now c.args.at.now.shares i _ _ new _ (first_one i c.args.at.now.left.now _ _ e c.in-Some.ensures.there) c.in-Some.ensures
-    (c.in-Ok.ensures names).0 (subst (λ (k : ℕ). verdict names k (are_places 0 (places c.in-Some.word.now)) ≡ None) c.saturating_sub.ensures (c.in-Ok.ensures names).1))
+    (c.in-Ok.ensures names).0 (rw c.saturating_sub.ensures at (c.in-Ok.ensures names).1))
 
 pub returns-in-Err : goal.returns-in-Err
 returns-in-Err c = λ names i new e. stop _ (none_now _ _ c.is_some.ensures c.if-is_some.false)
     (position_stop names c.args.end c.args.at.now.left.now c.args.at.now.shares i _ _ new _ (first_one i c.args.at.now.left.now _ _ e c.in-Some.ensures.there) c.in-Some.ensures
-    (subst (λ (k : ℕ). IsTold (verdict names k (are_places 0 (places c.in-Some.word.now))) (told c.in-Err.refused)) c.saturating_sub.ensures (c.in-Err.ensures names)))
+    (rw c.saturating_sub.ensures at (c.in-Err.ensures names)))

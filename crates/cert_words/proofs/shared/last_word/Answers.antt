@@ -1,6 +1,4 @@
-use Rattle.std.proofs.Common.{ℕ, Some, refl, sym, subst}
-use Rattle.cert_grammar.specs.Marks.{bad_share}
-use Rattle.cert_words.specs.Walks.{IsStuckAt}
+use Rattle.std.proofs.Common.{refl}
 use Rattle.cert_words.proofs.Stepping.{none_now, first_one, stuck_one, keyword_keeps, go, stop}
 use Rattle.cert_words.proofs.Sharings.{end_keeps, end_stop}
 use Rattle.cert_words.proofs.shared.last_word.Goals as goal
@@ -11,8 +9,7 @@ returns-in_default c = λ names i new e. stop _ (none_now _ _ c.is_some.ensures 
 
 pub returns-then-not-all_used : goal.returns-then-not-all_used
 returns-then-not-all_used c = λ names i new e. stop _ (none_now _ _ c.is_some.ensures c.if-is_some.false)
-    (subst (λ (k : ℕ). IsStuckAt names c.args.end i c.args.at.now.left.now c.args.at.now.shares (Some (bad_share, k))) (sym c.place.ensures)
-    (end_stop names c.args.end c.args.at.now.left.now c.args.at.now.shares i _ _ _ new _ (first_one i c.args.at.now.left.now _ _ e c.in-Some.ensures.there) c.in-Some.ensures
+    (rw c.place.ensures (end_stop names c.args.end c.args.at.now.left.now c.args.at.now.shares i _ _ _ new _ (first_one i c.args.at.now.left.now _ _ e c.in-Some.ensures.there) c.in-Some.ensures
     c.all_used.ensures c.if-not-all_used.true))
 
 pub returns : goal.returns

@@ -1,6 +1,5 @@
-use Rattle.std.proofs.Common.{ℕ, suc, [], ◌∷◌, Some, refl, sym, ap, subst}
+use Rattle.std.proofs.Common.{suc, [], ◌∷◌, Some, refl, ap}
 use Rattle.cert_grammar.specs.Prelude.{value, Shared, largest, bad_share, too_many, unfolded, is_use, is_light, shares}
-use Rattle.cert_words.specs.Walks.{IsStuckAt}
 use Rattle.cert_words.proofs.Walking.{front_same, stopped}
 use Rattle.cert_words.proofs.Stepping.{none_now, first_one, stuck_one, number_stop, out_of_range, stuck_stops, stop}
 use Rattle.cert_words.proofs.Sharings.{use_read, use_bad, use_heavy}
@@ -29,11 +28,9 @@ returns-in-Good-clause-known c = λ none. c.in-Good.ensures.2
 pub returns-in-Bad-clause-read : goal.returns-in-Bad-clause-read
 returns-in-Bad-clause-read c = λ names i new e. stopped _ (none_now _ _ c.is_some.ensures c.if-is_some.false) refl (front_same _ _ (ap (λ (z : Shared). z.texts) c.in-Bad.ensures.1))
     (stuck_stops names c.args.end i c.args.at.now.left.now c.args.at.now.shares (Some (bad_share, c.place-here.result))
-    (subst (λ (k : ℕ). IsStuckAt names c.args.end i c.args.at.now.left.now c.args.at.now.shares (Some (bad_share, k))) (sym c.place-here.ensures)
-    (use_bad names c.args.end c.args.at.now i c.in-Some.word.now new c.in-Some-within.n _ e c.in-Some.ensures c.in-Some-within.ensures c.in-Bad.ensures.0)))
+    (rw c.place-here.ensures (use_bad names c.args.end c.args.at.now i c.in-Some.word.now new c.in-Some-within.n _ e c.in-Some.ensures c.in-Some-within.ensures c.in-Bad.ensures.0)))
 
 pub returns-in-Heavy-clause-read : goal.returns-in-Heavy-clause-read
 returns-in-Heavy-clause-read c = λ names i new e. stopped _ (none_now _ _ c.is_some.ensures c.if-is_some.false) refl (front_same _ _ (ap (λ (z : Shared). z.texts) c.in-Heavy.ensures.2))
     (stuck_stops names c.args.end i c.args.at.now.left.now c.args.at.now.shares (Some (too_many unfolded, c.place-here.result))
-    (subst (λ (k : ℕ). IsStuckAt names c.args.end i c.args.at.now.left.now c.args.at.now.shares (Some (too_many unfolded, k))) (sym c.place-here.ensures)
-    (use_heavy names c.args.end c.args.at.now i c.in-Some.word.now new c.in-Some-within.n _ e c.in-Some.ensures c.in-Some-within.ensures c.in-Heavy.ensures.0 c.in-Heavy.ensures.1)))
+    (rw c.place-here.ensures (use_heavy names c.args.end c.args.at.now i c.in-Some.word.now new c.in-Some-within.n _ e c.in-Some.ensures c.in-Some-within.ensures c.in-Heavy.ensures.0 c.in-Heavy.ensures.1)))

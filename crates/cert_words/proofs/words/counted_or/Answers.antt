@@ -1,7 +1,5 @@
-use Rattle.std.proofs.Common.{ℕ, Some, refl, sym, subst}
-use Rattle.cert_grammar.specs.Marks.{bad_share}
+use Rattle.std.proofs.Common.{refl}
 use Rattle.cert_words.specs.Words.{counted_view}
-use Rattle.cert_words.specs.Walks.{IsStuckAt}
 use Rattle.cert_words.proofs.Stepping.{none_now, first_one, first_two, stuck_two, keyword_run, keyword_keeps, keyword_stop, counted_there, counted_out, as_counted, word_text, go, stop}
 use Rattle.cert_words.proofs.Sharings.{end_keeps, end_stop}
 use Rattle.cert_words.proofs.words.counted_or.Goals as goal
@@ -28,8 +26,7 @@ returns-in_default-front-clause-other c = λ t names i new other e. stop _ (none
 
 pub returns-then-not-all_used-clause-other : goal.returns-then-not-all_used-clause-other
 returns-then-not-all_used-clause-other c = λ t names i new other e. stop _ (none_now _ _ c.is_some.ensures c.if-is_some.false)
-    (subst (λ (k : ℕ). IsStuckAt names c.args.end i c.args.at.now.left.now c.args.at.now.shares (Some (bad_share, k))) (sym c.place-then-not-all_used.ensures)
-    (end_stop names c.args.end c.args.at.now.left.now c.args.at.now.shares i _ _ _ other _
+    (rw c.place-then-not-all_used.ensures (end_stop names c.args.end c.args.at.now.left.now c.args.at.now.shares i _ _ _ other _
     (first_two i c.args.at.now.left.now _ _ _ e c.in_default.ensures c.in-Some-front.ensures.there) c.in-Some-front.ensures c.all_used.ensures c.if-not-all_used.true))
 
 pub returns-then-n-limit-clause-here : goal.returns-then-n-limit-clause-here
@@ -43,8 +40,7 @@ returns-in_default-front-clause-here c = λ none names i new other e. stuck_two 
 
 pub returns-then-not-all_used-clause-here : goal.returns-then-not-all_used-clause-here
 returns-then-not-all_used-clause-here c = λ none names i new other e.
-    subst (λ (k : ℕ). IsStuckAt names c.args.end i c.args.at.now.left.now c.args.at.now.shares (Some (bad_share, k))) (sym c.place-then-not-all_used.ensures)
-    (end_stop names c.args.end c.args.at.now.left.now c.args.at.now.shares i _ _ _ other _
+    rw c.place-then-not-all_used.ensures (end_stop names c.args.end c.args.at.now.left.now c.args.at.now.shares i _ _ _ other _
     (first_two i c.args.at.now.left.now _ _ _ e c.in_default.ensures c.in-Some-front.ensures.there) c.in-Some-front.ensures c.all_used.ensures c.if-not-all_used.true)
 
 pub returns-clause-text : goal.returns-clause-text

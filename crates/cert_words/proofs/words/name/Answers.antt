@@ -1,6 +1,4 @@
-use Rattle.std.proofs.Common.{refl, ℕ, [], Some, sym, subst}
-use Rattle.cert_grammar.specs.Marks.{unknown_name}
-use Rattle.cert_words.specs.Walks.{IsStuckAt}
+use Rattle.std.proofs.Common.{refl, []}
 use Rattle.cert_words.proofs.Stepping.{none_now, first_one, stuck_one, named, name_run, name_stop, go, stop}
 use Rattle.cert_words.proofs.words.name.Goals as goal
 
@@ -11,8 +9,7 @@ returns-in-Some-symbol c = λ i new e. go _ (none_now _ _ c.is_some.ensures c.if
 
 pub returns-in-None : goal.returns-in-None
 returns-in-None c = λ i new e. stop _ (none_now _ _ c.is_some.ensures c.if-is_some.false)
-    (subst (λ (k : ℕ). IsStuckAt c.args.names.now c.args.end i c.args.at.now.left.now c.args.at.now.shares (Some (unknown_name, k))) (sym c.place.ensures)
-    (name_stop c.args.names.now c.args.end c.args.at.now.left.now c.args.at.now.shares i [] _ _ new (first_one i c.args.at.now.left.now _ _ e c.in-Some.ensures.there)
+    (rw c.place.ensures (name_stop c.args.names.now c.args.end c.args.at.now.left.now c.args.at.now.shares i [] _ _ new (first_one i c.args.at.now.left.now _ _ e c.in-Some.ensures.there)
     c.in-Some.ensures (c.in-None.ensures (named c.args.names.now c.args.end c.args.at.now.left.now c.args.at.now.shares i _ _ c.in-Some.ensures))))
 
 pub returns-in_default : goal.returns-in_default

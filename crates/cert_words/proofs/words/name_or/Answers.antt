@@ -1,6 +1,4 @@
-use Rattle.std.proofs.Common.{refl, ℕ, [], Some, sym, subst}
-use Rattle.cert_grammar.specs.Marks.{unknown_name}
-use Rattle.cert_words.specs.Walks.{IsStuckAt}
+use Rattle.std.proofs.Common.{refl, []}
 use Rattle.cert_words.proofs.Stepping.{none_now, first_one, first_two, stuck_two, text_run, named, name_run, name_found, name_stop, go, stop}
 use Rattle.cert_words.proofs.words.name_or.Goals as goal
 
@@ -14,8 +12,7 @@ returns-in-Some-symbol-clause-found c = name_found c.args.names.now _ _ c.in-Som
 
 pub returns-in-None-clause-other : goal.returns-in-None-clause-other
 returns-in-None-clause-other c = λ i new other e. stop _ (none_now _ _ c.is_some.ensures c.if-is_some.false)
-    (subst (λ (k : ℕ). IsStuckAt c.args.names.now c.args.end i c.args.at.now.left.now c.args.at.now.shares (Some (unknown_name, k))) (sym c.place.ensures)
-    (name_stop c.args.names.now c.args.end c.args.at.now.left.now c.args.at.now.shares i [] _ _ new (first_one i c.args.at.now.left.now _ _ e c.in-Some.ensures.there)
+    (rw c.place.ensures (name_stop c.args.names.now c.args.end c.args.at.now.left.now c.args.at.now.shares i [] _ _ new (first_one i c.args.at.now.left.now _ _ e c.in-Some.ensures.there)
     c.in-Some.ensures (c.in-None.ensures (named c.args.names.now c.args.end c.args.at.now.left.now c.args.at.now.shares i _ _ c.in-Some.ensures))))
 
 pub returns-in-Some-front-clause-other : goal.returns-in-Some-front-clause-other

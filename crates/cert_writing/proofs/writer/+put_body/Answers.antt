@@ -1,31 +1,23 @@
-use Rattle.std.proofs.Common.{◌≡◌, length, map, ap, ◌∙◌, arith}
+use Rattle.std.proofs.Common.{◌≡◌, length, map, arith}
 use Rattle.std.proofs.lemmas.List.{length-map}
 use Rattle.cert_model.proofs.CertificateViews.{ortho_shown, quasi_shown, peak_shown, simplified_shown}
-use Rattle.cert_model.specs.CertificateView.{simp_view, certificate_view}
-use Rattle.cert_grammar.specs.CertificateText.{body_text}
-use Rattle.cert_writing.specs.WrittenUses.{uses_view}
-use Rattle.cert_writing.proofs.Writing.{as_text}
+use Rattle.cert_model.specs.CertificateView.{simp_view}
 use Rattle.cert_writing.proofs.writer.+put_body.Goals as goal
 
 pub returns-in-Ortho : goal.returns-in-Ortho
 returns-in-Ortho g t c =
     let p = g.met.O.Output.parts in
-    as_text g.O.Output.took _ _ _ _ (ap (λ x. body_text c.args.names.now (uses_view c.args.names.now c.args.uses.now) (certificate_view x)) c.in-Ortho.is
-    ∙ ap (body_text c.args.names.now (uses_view c.args.names.now c.args.uses.now)) (ortho_shown _))
-    (p _ _ _ _ _ c.put.ensures (rw c.deref.ensures.value at c.put_pairs.ensures))
+    rw (c.in-Ortho.is, ortho_shown) (p _ _ _ _ _ c.put.ensures (rw c.deref.ensures.value at c.put_pairs.ensures))
 
 pub returns-in-Quasi : goal.returns-in-Quasi
 returns-in-Quasi g t c =
     let p = g.met.O.Output.parts in
-    as_text g.O.Output.took _ _ _ _ (ap (λ x. body_text c.args.names.now (uses_view c.args.names.now c.args.uses.now) (certificate_view x)) c.in-Quasi.is
-    ∙ ap (body_text c.args.names.now (uses_view c.args.names.now c.args.uses.now)) (quasi_shown _ _))
-    (p _ _ _ _ _ c.put-in-Quasi.ensures (p _ _ _ _ _ c.put_measure.ensures (rw c.deref-in-Quasi.ensures.value at c.put_pairs-in-Quasi.ensures)))
+    rw (c.in-Quasi.is, quasi_shown) (p _ _ _ _ _ c.put-in-Quasi.ensures (p _ _ _ _ _ c.put_measure.ensures (rw c.deref-in-Quasi.ensures.value at c.put_pairs-in-Quasi.ensures)))
 
 pub returns-in-Peak : goal.returns-in-Peak
 returns-in-Peak g t c =
     let p = g.met.O.Output.parts in
-    as_text g.O.Output.took _ _ _ _ (ap (λ x. body_text c.args.names.now (uses_view c.args.names.now c.args.uses.now) (certificate_view x)) c.in-Peak.is
-    ∙ ap (body_text c.args.names.now (uses_view c.args.names.now c.args.uses.now)) (peak_shown _)) (p _ _ _ _ _ c.put-in-Peak.ensures c.put_peak.ensures)
+    rw (c.in-Peak.is, peak_shown) (p _ _ _ _ _ c.put-in-Peak.ensures c.put_peak.ensures)
 
 pub returns-in-Simplified : goal.returns-in-Simplified
 returns-in-Simplified g t c =
@@ -34,8 +26,6 @@ returns-in-Simplified g t c =
     let ok = steps.ok.0 in
     let counted = c.len.ensures in
     let many : c.len.result ≡ length (map simp_view steps.items) = omega (arith, ok, counted, length-map steps.items simp_view) in
-    as_text g.O.Output.took _ _ _ _ (ap (λ x. body_text c.args.names.now (uses_view c.args.names.now c.args.uses.now) (certificate_view x)) c.in-Simplified.is
-    ∙ ap (body_text c.args.names.now (uses_view c.args.names.now c.args.uses.now)) (simplified_shown _ _))
-    (p _ _ _ _ _ c.put-in-Simplified.ensures (p _ _ _ _ _ (rw many at c.put_number.ensures)
+    rw (c.in-Simplified.is, simplified_shown) (p _ _ _ _ _ c.put-in-Simplified.ensures (p _ _ _ _ _ (rw many at c.put_number.ensures)
     (p _ _ _ _ _ c.put-in-Simplified-2.ensures
     (p _ _ _ _ _ (rw c.deref-in-Simplified.ensures.value at c.put_steps.ensures) (rw c.deref-in-Simplified-2.ensures at c.put_body.ensures)))))

@@ -1,19 +1,12 @@
-use Rattle.std.proofs.Common.{ap}
-use Rattle.cert_model.specs.CertificateView.{simp_view}
-use Rattle.cert_writing.specs.WrittenParts.{step_text}
-use Rattle.cert_writing.specs.WrittenUses.{uses_view}
-use Rattle.cert_writing.proofs.Writing.{as_text}
 use Rattle.cert_writing.proofs.writer.put_step.Goals as goal
 
 pub returns-in-Drop : goal.returns-in-Drop
 returns-in-Drop g c =
     let p = g.met.O.Output.parts in
-    as_text g.O.Output.took _ _ _ _ (ap (λ x. step_text c.args.names.now (uses_view c.args.names.now c.args.uses.now) (simp_view x)) c.in-Drop.is)
-    (p _ _ _ _ _ c.put.ensures (p _ _ _ _ _ c.put_number.ensures (p _ _ _ _ _ c.put-in-Drop.ensures c.put_infeasibility.ensures)))
+    rw c.in-Drop.is (p _ _ _ _ _ c.put.ensures (p _ _ _ _ _ c.put_number.ensures (p _ _ _ _ _ c.put-in-Drop.ensures c.put_infeasibility.ensures)))
 
 pub returns-in-Inline : goal.returns-in-Inline
 returns-in-Inline g c =
     let p = g.met.O.Output.parts in
-    as_text g.O.Output.took _ _ _ _ (ap (λ x. step_text c.args.names.now (uses_view c.args.names.now c.args.uses.now) (simp_view x)) c.in-Inline.is)
-    (p _ _ _ _ _ c.put-in-Inline.ensures (p _ _ _ _ _ c.put_number-in-Inline.ensures
+    rw c.in-Inline.is (p _ _ _ _ _ c.put-in-Inline.ensures (p _ _ _ _ _ c.put_number-in-Inline.ensures
     (p _ _ _ _ _ c.put-in-Inline-2.ensures (p _ _ _ _ _ c.put_number-in-Inline-2.ensures c.put-in-Inline-3.ensures))))

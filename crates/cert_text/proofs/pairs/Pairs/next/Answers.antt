@@ -4,7 +4,7 @@ use Rattle.general_lemmas.proofs.Lists.{not_nil}
 use Rattle.cert_model.specs.CertificateView.{pair_entry_view}
 use Rattle.cert_reading.specs.Uses.{version_by, automata_by}
 use Rattle.cert_reading.proofs.Stopping.{ran}
-use Rattle.cert_text.proofs.Advancing.{by_uses, from_uses, front_kept, held_back, next_refused, held_on, reads_on, never_whole, at_end, no_entry, not_whole, behind_refused}
+use Rattle.cert_text.proofs.Advancing.{up_to_by, front_kept, held_back, next_refused, held_on, reads_on, never_whole, at_end, no_entry, not_whole, behind_refused}
 use Rattle.cert_text.proofs.Advancing.{refused_there, not_told, not_told_at}
 use Rattle.cert_text.proofs.pairs.Pairs.next.Goals as goal
 
@@ -17,84 +17,76 @@ invariant_of-self c =
           c.next_pair-found.new.at.shares c.go_back.new.self c.so_far-known.result front c.so_far-known.ensures c.go_back.ensures c.self.invariant.1,
     )
 
-pub returns-in-Some-clause-none_exactly : goal.returns-in-Some-clause-none_exactly
-returns-in-Some-clause-none_exactly c =
-    let u = by_uses c.uses_of-uses.result c.uses_of-uses.ensures.version c.uses_of-uses.ensures.automata c.self.invariant.1 in
+pub returns-in-Some : goal.returns-in-Some
+returns-in-Some c =
+    let u = up_to_by (sym c.uses_of-uses.ensures.version) (sym c.uses_of-uses.ensures.automata) c.self.invariant.1 in
+    let e = c.in-Some.refused in
     let stop = next_refused c.self.inside.names.now (version_by c.uses_of-uses.result) (automata_by c.uses_of-uses.result) _ (c.self.inside.count + 1) c.self.inside.at
-    c.next_pair-found.new.at c.next_pair-found.result c.in-Some.refused c.self.invariant.0 (sym c.take.ensures.value ∙ c.in-Some.is) c.next_pair-found.ensures.pair
+    c.next_pair-found.new.at c.next_pair-found.result e c.self.invariant.0 (sym c.take.ensures.value ∙ c.in-Some.is) c.next_pair-found.ensures.pair
     c.next_pair-found.ensures.last in
-    not_told u (c.self.inside.count + 1) (omega arith) c.args.self.now c.self.view_is c.in-Some.refused stop
-
-pub returns-in-Some-clause-ready : goal.returns-in-Some-clause-ready
-returns-in-Some-clause-ready c =
-    let u = by_uses c.uses_of-uses.result c.uses_of-uses.ensures.version c.uses_of-uses.ensures.automata c.self.invariant.1 in
-    let stop = next_refused c.self.inside.names.now (version_by c.uses_of-uses.result) (automata_by c.uses_of-uses.result) _ (c.self.inside.count + 1) c.self.inside.at
-    c.next_pair-found.new.at c.next_pair-found.result c.in-Some.refused c.self.invariant.0 (sym c.take.ensures.value ∙ c.in-Some.is) c.next_pair-found.ensures.pair
-    c.next_pair-found.ensures.last in
-    not_told_at u (c.self.inside.count + 1) (omega arith) c.args.self.now c.self.view_is c.in-Some.refused stop
-
-pub returns-in-Some-clause-refused : goal.returns-in-Some-clause-refused
-returns-in-Some-clause-refused c =
-    let u = by_uses c.uses_of-uses.result c.uses_of-uses.ensures.version c.uses_of-uses.ensures.automata c.self.invariant.1 in
-    let stop = next_refused c.self.inside.names.now (version_by c.uses_of-uses.result) (automata_by c.uses_of-uses.result) _ (c.self.inside.count + 1) c.self.inside.at
-    c.next_pair-found.new.at c.next_pair-found.result c.in-Some.refused c.self.invariant.0 (sym c.take.ensures.value ∙ c.in-Some.is) c.next_pair-found.ensures.pair
-    c.next_pair-found.ensures.last in
-    refused_there u (c.self.inside.count + 1) (omega arith) c.args.self.now c.self.view_is c.in-Some.refused stop
+    record {
+      entry = tt;
+      none = tt;
+      none_exactly = not_told u (c.self.inside.count + 1) (omega arith) c.args.self.now c.self.view_is e stop;
+      ready = not_told_at u (c.self.inside.count + 1) (omega arith) c.args.self.now c.self.view_is e stop;
+      refused = refused_there u (c.self.inside.count + 1) (omega arith) c.args.self.now c.self.view_is e stop;
+      stays = search rules;
+      text = search rules;
+    }
 
 pub invariant_of-self-in-Some-found : goal.invariant_of-self-in-Some-found
 invariant_of-self-in-Some-found c =
-    let u = by_uses c.uses_of-uses.result c.uses_of-uses.ensures.version c.uses_of-uses.ensures.automata c.self.invariant.1 in
-    let run = ran c.self.invariant.0 (sym c.take.ensures.value ∙ c.in_default.is) c.in-Some-found.ensures.pair in
-    let plain = c.in-Some-found.ensures.plain (sym c.take.ensures.value ∙ c.in_default.is) in (
+    let u = up_to_by (sym c.uses_of-uses.ensures.version) (sym c.uses_of-uses.ensures.automata) c.self.invariant.1 in
+    let none = sym c.take.ensures.value ∙ c.in_default.is in (
       c.take.ensures.after,
-      from_uses c.uses_of-uses.result c.uses_of-uses.ensures.version c.uses_of-uses.ensures.automata
-          (held_on u (c.self.inside.count + 1) (omega arith) (pair_entry_view c.in-Some-found.entry) c.next_pair-found.new.at.left.now (c.self.inside.count + 1) plain refl run),
+      up_to_by c.uses_of-uses.ensures.version c.uses_of-uses.ensures.automata
+          (held_on u (c.self.inside.count + 1) (omega arith) (pair_entry_view c.in-Some-found.entry) c.next_pair-found.new.at.left.now (c.self.inside.count + 1)
+          (c.in-Some-found.ensures.plain none) refl (ran c.self.invariant.0 none c.in-Some-found.ensures.pair)),
     )
 
-pub returns-then-more-eq0-clause-none : goal.returns-then-more-eq0-clause-none
-returns-then-more-eq0-clause-none c =
-    let u = by_uses c.uses_of-uses.result c.uses_of-uses.ensures.version c.uses_of-uses.ensures.automata c.self.invariant.1 in
+pub returns-in-Some-found : goal.returns-in-Some-found
+returns-in-Some-found c =
+    let u = up_to_by (sym c.uses_of-uses.ensures.version) (sym c.uses_of-uses.ensures.automata) c.self.invariant.1 in
+    let none = sym c.take.ensures.value ∙ c.in_default.is in
+    let run = ran c.self.invariant.0 none c.in-Some-found.ensures.pair in
+    let p = pair_entry_view c.in-Some-found.entry in
+    record {
+      entry = reads_on u (c.self.inside.count + 1) (omega arith) c.args.self.now c.self.view_is p c.next_pair-found.new.at.left.now (c.in-Some-found.ensures.plain none) run;
+      none = tt;
+      none_exactly = never_whole u (c.self.inside.count + 1) (omega arith) c.args.self.now c.self.view_is p c.next_pair-found.new.at.left.now run;
+      ready = λ o es e place h k. tt;
+      refused = tt;
+      stays = tt;
+      text = search rules;
+    }
+
+pub returns-then-more-eq0 : goal.returns-then-more-eq0
+returns-then-more-eq0 c =
+    let u = up_to_by (sym c.uses_of-uses.ensures.version) (sym c.uses_of-uses.ensures.automata) c.self.invariant.1 in
     let run = ran c.self.invariant.0 (sym c.take.ensures.value ∙ c.in_default.is) c.in-None.ensures.last in
     let zero : length c.next_pair-found.new.at.left.now ≡ 0 = search rules in
-    at_end u (c.self.inside.count + 1) (omega arith) c.args.self.now c.self.view_is c.next_pair-found.new.at.left.now _ run (nil_from_length c.next_pair-found.new.at.left.now zero)
+    record {
+      entry = tt;
+      none = at_end u (c.self.inside.count + 1) (omega arith) c.args.self.now c.self.view_is c.next_pair-found.new.at.left.now _ run (nil_from_length c.next_pair-found.new.at.left.now zero);
+      none_exactly = λ o es h k. tt;
+      ready = no_entry u (c.self.inside.count + 1) (omega arith) c.args.self.now c.self.view_is c.next_pair-found.new.at.left.now _ run;
+      refused = tt;
+      stays = search rules;
+      text = search rules;
+    }
 
-pub returns-then-more-eq0-clause-ready : goal.returns-then-more-eq0-clause-ready
-returns-then-more-eq0-clause-ready c =
-    let u = by_uses c.uses_of-uses.result c.uses_of-uses.ensures.version c.uses_of-uses.ensures.automata c.self.invariant.1 in
+pub returns-else-more-eq0 : goal.returns-else-more-eq0
+returns-else-more-eq0 c =
+    let u = up_to_by (sym c.uses_of-uses.ensures.version) (sym c.uses_of-uses.ensures.automata) c.self.invariant.1 in
     let run = ran c.self.invariant.0 (sym c.take.ensures.value ∙ c.in_default.is) c.in-None.ensures.last in
-    no_entry u (c.self.inside.count + 1) (omega arith) c.args.self.now c.self.view_is c.next_pair-found.new.at.left.now _ run
-
-pub returns-in-Some-found-clause-entry : goal.returns-in-Some-found-clause-entry
-returns-in-Some-found-clause-entry c =
-    let u = by_uses c.uses_of-uses.result c.uses_of-uses.ensures.version c.uses_of-uses.ensures.automata c.self.invariant.1 in
-    let run = ran c.self.invariant.0 (sym c.take.ensures.value ∙ c.in_default.is) c.in-Some-found.ensures.pair in
-    reads_on u (c.self.inside.count + 1) (omega arith) c.args.self.now c.self.view_is (pair_entry_view c.in-Some-found.entry) c.next_pair-found.new.at.left.now
-    (c.in-Some-found.ensures.plain (sym c.take.ensures.value ∙ c.in_default.is)) run
-
-pub returns-in-Some-found-clause-none_exactly : goal.returns-in-Some-found-clause-none_exactly
-returns-in-Some-found-clause-none_exactly c =
-    let u = by_uses c.uses_of-uses.result c.uses_of-uses.ensures.version c.uses_of-uses.ensures.automata c.self.invariant.1 in
-    let run = ran c.self.invariant.0 (sym c.take.ensures.value ∙ c.in_default.is) c.in-Some-found.ensures.pair in
-    never_whole u (c.self.inside.count + 1) (omega arith) c.args.self.now c.self.view_is (pair_entry_view c.in-Some-found.entry) c.next_pair-found.new.at.left.now run
-
-pub returns-else-more-eq0-clause-none_exactly : goal.returns-else-more-eq0-clause-none_exactly
-returns-else-more-eq0-clause-none_exactly c = λ o es h k.
-    let u = by_uses c.uses_of-uses.result c.uses_of-uses.ensures.version c.uses_of-uses.ensures.automata c.self.invariant.1 in
-    let run = ran c.self.invariant.0 (sym c.take.ensures.value ∙ c.in_default.is) c.in-None.ensures.last in
-    let some : 0 < length c.next_pair-found.new.at.left.now = search rules in
-    absurd (not_whole u (c.self.inside.count + 1) (omega arith) c.args.self.now c.self.view_is c.next_pair-found.new.at.left.now _ run
-    (not_nil c.next_pair-found.new.at.left.now some) o es h k)
-
-pub returns-else-more-eq0-clause-ready : goal.returns-else-more-eq0-clause-ready
-returns-else-more-eq0-clause-ready c = λ o es e place h k.
-    let u = by_uses c.uses_of-uses.result c.uses_of-uses.ensures.version c.uses_of-uses.ensures.automata c.self.invariant.1 in
-    let run = ran c.self.invariant.0 (sym c.take.ensures.value ∙ c.in_default.is) c.in-None.ensures.last in
-    absurd (no_entry u (c.self.inside.count + 1) (omega arith) c.args.self.now c.self.view_is c.next_pair-found.new.at.left.now _ run o es e place h k)
-
-pub returns-else-more-eq0-clause-refused : goal.returns-else-more-eq0-clause-refused
-returns-else-more-eq0-clause-refused c =
-    let u = by_uses c.uses_of-uses.result c.uses_of-uses.ensures.version c.uses_of-uses.ensures.automata c.self.invariant.1 in
-    let run = ran c.self.invariant.0 (sym c.take.ensures.value ∙ c.in_default.is) c.in-None.ensures.last in
-    let some : 0 < length c.next_pair-found.new.at.left.now = search rules in
-    behind_refused u (c.self.inside.count + 1) (omega arith) c.args.self.now c.self.view_is c.next_pair-found.new.at.left.now _ run
-    c.saturating_sub.result (not_nil c.next_pair-found.new.at.left.now some) c.saturating_sub.ensures
+    let left : 0 < length c.next_pair-found.new.at.left.now = search rules in
+    let some = not_nil c.next_pair-found.new.at.left.now left in
+    record {
+      entry = tt;
+      none = tt;
+      none_exactly = λ o es h k. absurd (not_whole u (c.self.inside.count + 1) (omega arith) c.args.self.now c.self.view_is c.next_pair-found.new.at.left.now _ run some o es h k);
+      ready = λ o es e place h k. absurd (no_entry u (c.self.inside.count + 1) (omega arith) c.args.self.now c.self.view_is c.next_pair-found.new.at.left.now _ run o es e place h k);
+      refused = behind_refused u (c.self.inside.count + 1) (omega arith) c.args.self.now c.self.view_is c.next_pair-found.new.at.left.now _ run c.saturating_sub.result some c.saturating_sub.ensures;
+      stays = search rules;
+      text = search rules;
+    }
