@@ -1,5 +1,6 @@
 pub mod Arguments
 pub mod Views
+pub mod Sizes
 pub mod Over
 pub mod Maps
 pub mod Instances

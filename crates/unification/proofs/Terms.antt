@@ -58,16 +58,3 @@ pub occurs_inside : (k : ℕ) (t : Term) (f : ℕ) (v : Vec Term Global) (items 
     → u ≡ get_or items i u → occurs k (view u) ≡ true → occurs k (view t) ≡ true
 occurs_inside k t f v items i u is e h q o =
     subst (λ z. occurs k z ≡ true) (sym (ap view is ∙ view-Fun f v)) (subst (λ z. occurs_in k (views z) ≡ true) e (occurs_at k items i u h q o))
-
-pub size_inside : (t : Term) (f : ℕ) (v : Vec Term Global) (items : List Term) (i : ℕ) (u : Term) → t ≡ Fun f v → items ≡ v.items → i < length items → u ≡ get_or items i u
-    → size (view u) < size (view t)
-size_inside t f v items i u is e h q =
-    let whole : size (view t) ≡ suc (size_all (views v.items)) = ap size (ap view is ∙ view-Fun f v) in
-    let same : size_all (views items) ≡ size_all (views v.items) = ap (λ z. size_all (views z)) e in
-    let part = one_size items i u h q in
-    omega (arith, whole, same, part)
-  where
-    one_size : (ts : List Term) (i : ℕ) (t : Term) → i < length ts → t ≡ get_or ts i t → size (view t) ≤ size_all (views ts)
-    one_size [] i t h e = absurd (omega arith)
-    one_size (u ∷ ts) zero t h e = subst (λ z. size (view z) ≤ size_all (views (u ∷ ts))) (sym e) (omega arith)
-    one_size (u ∷ ts) (suc i) t h e = let k = one_size ts i t (omega arith) e in omega (arith, k)

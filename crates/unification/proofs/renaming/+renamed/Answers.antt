@@ -4,7 +4,8 @@ use Rattle.rewriting.specs.Prelude.{size, apply}
 use Rattle.term_core.specs.View.{view}
 use Rattle.term_core.proofs.Instances.{apply-Fun}
 use Rattle.unification.specs.Answers.{renaming}
-use Rattle.unification.proofs.Terms.{occurs_inside, size_inside}
+use Rattle.term_core.proofs.Sizes.{size_inside}
+use Rattle.unification.proofs.Terms.{occurs_inside}
 use Rattle.unification.proofs.renaming.+renamed.Goals as goal
 
 pub renamed-requires : goal.renamed-requires
