@@ -2,7 +2,7 @@
 use Rattle.std.proofs.Common.{◌≡◌, ◌≢◌, ◌↔◌, ◌⊎◌, inl, inr, ⊎_elim, ℕ, zero, suc, ◌+◌, ◌<◌, ◌≤◌, Bool, true, false, nat_eq, if◌then◌else◌, List, [], ◌∷◌, ◌++◌, length, get_or}
 use Rattle.std.proofs.Common.{take, ltb, None, Some, slice_get, Vec, Global, refl, ap, sym, subst, ◌∙◌, arith, eq-eqb}
 use Rattle.std.proofs.lemmas.Bool.{cases_lt, ne_eqb, ltb-true, ltb-false}
-use Rattle.std.proofs.lemmas.List.{take_more, take_all}
+use Rattle.std.proofs.lemmas.List.{length-map, take_more, take_all}
 use Rattle.std.proofs.lemmas.Option.{same_Some, get_or_from_slice_get, slice_get-get_or, slice_get_read, slice_get_within}
 use Rattle.general_lemmas.proofs.Places.{slice_get-append_left, slice_get-append_right, slice_get-map_read, map-take_read}
 use Rattle.automata.specs.Closed.{state_of}
@@ -83,6 +83,13 @@ not_got xs i outside = ltb-false i (length xs) (sym outside)
 -- the list that a vector has, and the first of some lists
 pub list_at : (vs : List (Vec ℕ Global)) (i : ℕ) (v : Vec ℕ Global) → i < length vs → v ≡ get_or vs i v → slice_get (as_lists vs) i ≡ Some v.items
 list_at = slice_get-map_read (λ (u : Vec ℕ Global). u.items)
+
+-- the front where a walk over the fronts stands, and where it ends
+pub front_at : (fs : List (List ℕ)) (vs : List (Vec ℕ Global)) → as_lists vs ≡ fs → (i : ℕ) (v : Vec ℕ Global) → i < length vs → v ≡ get_or vs i v → slice_get fs i ≡ Some v.items
+front_at fs vs are i v inside is = subst (λ (ls : List (List ℕ)). slice_get ls i ≡ Some v.items) are (list_at vs i v inside is)
+
+pub fronts_end : (fs : List (List ℕ)) (vs : List (Vec ℕ Global)) → as_lists vs ≡ fs → (i : ℕ) → length vs ≤ i → length fs ≤ i
+fronts_end fs vs are i past = let many = ap length are in let same = length-map vs (λ v. v.items) in omega (arith, many, same, past)
 
 pub lists_more : (vs : List (Vec ℕ Global)) (i : ℕ) (v : Vec ℕ Global) → i < length vs → v ≡ get_or vs i v → as_lists (take (i + 1) vs) ≡ as_lists (take i vs) ++ v.items ∷ []
 lists_more = map-take_read (λ (u : Vec ℕ Global). u.items)

@@ -1,5 +1,5 @@
 -- A term with its occurrences numbered, argument by argument, and the states that it reaches.
-use Rattle.std.proofs.Common.{◌≡◌, ◌↔◌, ℕ, zero, suc, ◌+◌, ◌<◌, ◌≤◌, List, [], ◌∷◌, ◌++◌, length, get_or, take, drop, Vec, Global, refl, ap, ap₂, sym, subst, ◌∙◌, arith, append_assoc, length-append}
+use Rattle.std.proofs.Common.{◌≡◌, ◌↔◌, ℕ, ◌+◌, ◌<◌, ◌≤◌, List, [], ◌∷◌, ◌++◌, length, get_or, take, drop, Vec, Global, refl, ap, ap₂, sym, subst, ◌∙◌, arith, append_assoc, length-append}
 use Rattle.std.proofs.lemmas.List.{take-append-drop}
 use Rattle.general_lemmas.proofs.Places.{take_read}
 use Rattle.rewriting.specs.Terms as math
@@ -89,16 +89,3 @@ pub numbered_symbol : (n : ℕ) (t : Term) (f : ℕ) (v made : Vec Term Global) 
     → view (Fun f made) ≡ linear n (view t)
 numbered_symbol n t f v made ts is same e =
     view-Fun f made ∙ ap (math.app f) (e ∙ ap (λ (l : List Term). linear_all n (views l)) same) ∙ sym (ap (linear n) (ap view is ∙ view-Fun f v))
-
-size_at : (ts : List Term) (i : ℕ) (u : Term) → i < length ts → u ≡ get_or ts i u → size (view u) ≤ size_all (views ts)
-size_at [] i u h e = absurd (omega arith)
-size_at (t ∷ ts) zero u h e = let same = ap (λ (w : Term). size (view w)) e in omega arith
-size_at (t ∷ ts) (suc i) u h e = let rest = size_at ts i u (omega arith) e in omega arith
-
--- an argument is smaller
-pub size_below : (t : Term) (f : ℕ) (v : Vec Term Global) (ts : List Term) (i : ℕ) (u : Term) → t ≡ Fun f v → ts ≡ v.items → i < length ts → u ≡ get_or ts i u → size (view u) < size (view t)
-size_below t f v ts i u is same inside here =
-    let shown = ap size (ap view is ∙ view-Fun f v) in
-    let all = ap (λ (l : List Term). size_all (views l)) same in
-    let low = size_at ts i u inside here in
-    omega arith

@@ -81,8 +81,3 @@ pub ready_at : (es : Interpretation) (n : ℕ) (args : List Term) (k : ℕ) (t :
 ready_at es n [] k t h lt is = absurd (omega (arith, lt))
 ready_at es n (a ∷ args) zero t h lt is = subst (λ z. IsReady es n (view z)) (sym is) h.0
 ready_at es n (a ∷ args) (suc k) t h lt is = ready_at es n args k t h.1 (omega (arith, lt)) is
-
-pub size_at : (args : List Term) (k : ℕ) (t : Term) → k < length args → t ≡ get_or args k t → math.size (view t) ≤ math.size_all (views args)
-size_at [] k t lt is = absurd (omega (arith, lt))
-size_at (a ∷ args) zero t lt is = let same = ap (λ z. math.size (view z)) is in omega (arith, same)
-size_at (a ∷ args) (suc k) t lt is = let rest = size_at args k t (omega (arith, lt)) is in omega (arith, rest)

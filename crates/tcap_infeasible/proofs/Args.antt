@@ -11,7 +11,8 @@ use Rattle.term_core.specs.Prelude.{view, views}
 use Rattle.term_core.specs.declared.terms.Term.{Term, Var, Fun}
 use Rattle.term_core.specs.declared.terms.NoMemory.{NoMemory}
 use Rattle.term_core.proofs.Views.{view-Fun, view-Var}
-use Rattle.unification.proofs.Terms.{occurs_inside, size_inside}
+use Rattle.term_core.proofs.Sizes.{size_inside}
+use Rattle.unification.proofs.Terms.{occurs_inside}
 use Rattle.tcap_infeasible.specs.declared.Cap.{Cap}
 use Rattle.tcap_infeasible.specs.declared.Cap.TheVariants.{Capped, TooLarge}
 use Rattle.tcap_infeasible.specs.declared.capping.Leaf.{Leaf}

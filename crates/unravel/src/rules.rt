@@ -163,10 +163,8 @@ pub fn rules_of_one(alloc: Global, symbol: u32, rule: &Rule) -> Result<Vec<Rule>
     ensures { OneRuleAnswers (unraveled_rule symbol (rule_view rule.now)) result }
 {
     let mut out = Vec::new(alloc);
-    match push_rules(alloc, symbol, rule, &mut out) {
-        Ok(()) => Ok(out),
-        Err(error) => Err(error),
-    }
+    push_rules(alloc, symbol, rule, &mut out)?;
+    Ok(out)
 }
 
 // The rules that come from some rules, whose first auxiliary symbol has this number.

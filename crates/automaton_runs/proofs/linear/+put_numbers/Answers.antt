@@ -4,7 +4,8 @@ use Rattle.rewriting.specs.Prelude.{size, variable_occurrences, variable_occurre
 use Rattle.term_core.specs.View.{view, views}
 use Rattle.term_core.specs.declared.terms.Term.{Term}
 use Rattle.automaton_runs.specs.Linear.{linear_all}
-use Rattle.automaton_runs.proofs.NumberedTerms.{size_below, count_more, count_within, leaves_shown, numbered_more, numbered_symbol}
+use Rattle.term_core.proofs.Sizes.{size_inside}
+use Rattle.automaton_runs.proofs.NumberedTerms.{count_more, count_within, leaves_shown, numbered_more, numbered_symbol}
 use Rattle.automaton_runs.proofs.linear.+put_numbers.Goals as goal
 
 pub put_numbers-requires : goal.put_numbers-requires
@@ -16,7 +17,7 @@ put_numbers-requires t c =
     let bound : c.loop-arg.next + length (variable_occurrences (view c.arg-item.result)) < 4294967296 =
     omega (arith, count_more ts i c.arg-item.result c.loop-arg-test.true c.arg-item.is, count_within ts (i + 1), c.loop-arg.invariant.next, c.requires) in (
       subst (λ (n : ℕ). size (view c.arg-item.result) < n) c.decreases
-          (size_below c.args.t.now c.in-Fun.f c.in-Fun.args ts i c.arg-item.result c.in-Fun.is c.deref-arg-items.ensures.value c.loop-arg-test.true c.arg-item.is),
+          (size_inside c.args.t.now c.in-Fun.f c.in-Fun.args ts i c.arg-item.result c.in-Fun.is c.deref-arg-items.ensures.value c.loop-arg-test.true c.arg-item.is),
       bound,
     )
 

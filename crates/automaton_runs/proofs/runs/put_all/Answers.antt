@@ -1,10 +1,9 @@
-use Rattle.std.proofs.Common.{◌≡◌, ◌+◌, ◌≤◌, ℕ, List, Some, map, length, slice_get, ap, sym, subst, arith, ◌∙◌}
-use Rattle.std.proofs.lemmas.List.{length-map}
+use Rattle.std.proofs.Common.{◌≡◌, ◌+◌, ℕ, List, map, length, ap, sym, subst, ◌∙◌}
 use Rattle.term_core.specs.View.{view}
 use Rattle.automaton_runs.specs.Arrivals.{arrival_view, AreFrontArrivals}
 use Rattle.automaton_runs.specs.Choices.{Batch, occurrences_of}
 use Rattle.automaton_runs.proofs.Arrived.{Pair, none_of_fronts, fronts_more, arrivals_end}
-use Rattle.automaton_runs.proofs.BatchParts.{list_at}
+use Rattle.automaton_runs.proofs.BatchParts.{front_at, fronts_end}
 use Rattle.rewriting.proofs.Members.{place_among}
 use Rattle.automaton_runs.proofs.runs.put_all.Goals as goal
 
@@ -14,8 +13,7 @@ loop-front-init c = subst (λ (rows : List Pair). AreFrontArrivals c.args.index.
 
 pub put_batch-requires-clause-length : goal.put_batch-requires-clause-length
 put_batch-requires-clause-length c =
-    let at = subst (λ (fs : List (List ℕ)). slice_get fs c.loop-front.front-index ≡ Some c.front-item.result.items) c.fronts-front-items.ensures
-    (list_at c.fronts-front-items.result.now c.loop-front.front-index c.front-item.result c.loop-front-test.true c.front-item.is) in
+    let at = front_at _ c.fronts-front-items.result.now c.fronts-front-items.ensures c.loop-front.front-index c.front-item.result c.loop-front-test.true c.front-item.is in
     let long = c.requires.choices.long c.front-item.result.items (place_among c.args.choices.now.fronts c.loop-front.front-index c.front-item.result.items at) in
     ap occurrences_of c.in_ok-batch.ensures ∙ ap (λ (f : List ℕ). length f + c.args.choices.now.width) c.deref.ensures.value ∙ long
 
@@ -25,8 +23,7 @@ loop-front-preserved c =
     let t = view c.args.t.now in
     let n = c.loop-front.front-index in
     let front = c.front-item.result.items in
-    let at = subst (λ (fs : List (List ℕ)). slice_get fs c.loop-front.front-index ≡ Some c.front-item.result.items) c.fronts-front-items.ensures
-    (list_at c.fronts-front-items.result.now c.loop-front.front-index c.front-item.result c.loop-front-test.true c.front-item.is) in
+    let at = front_at _ c.fronts-front-items.result.now c.fronts-front-items.ensures c.loop-front.front-index c.front-item.result c.loop-front-test.true c.front-item.is in
     let is : c.in_ok-batch.batch ≡ record { front = c.front-item.result.items; width = c.args.choices.now.width; tails = c.args.choices.now.tails } =
     c.in_ok-batch.ensures ∙ ap (λ (f : List ℕ). let b : Batch = record { front = f; width = c.args.choices.now.width; tails = c.args.choices.now.tails } in b) c.deref.ensures.value in
     let (more, put, here) = c.in_ok-put_batch.ensures in
@@ -35,10 +32,5 @@ loop-front-preserved c =
 
 pub returns : goal.returns
 returns c =
-    let past : length c.args.choices.now.fronts ≤ c.loop-front.front-index = omega (
-      arith,
-      c.loop-front-test.false,
-      ap length c.fronts-front-items.ensures,
-      length-map c.fronts-front-items.result.now (λ v. v.items),
-    ) in
+    let past = fronts_end _ c.fronts-front-items.result.now c.fronts-front-items.ensures c.loop-front.front-index c.loop-front-test.false in
     arrivals_end c.args.index.now (view c.args.t.now) c.args.choices.now c.requires.choices c.loop-front.front-index (map arrival_view c.loop-front.rows.items) past c.loop-front.invariant

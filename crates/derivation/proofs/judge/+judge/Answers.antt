@@ -1,4 +1,4 @@
-use Rattle.std.proofs.Common.{◌≡◌, ◌+◌, [], map, refl, sym, ◌∙◌, subst, subst₂, arith}
+use Rattle.std.proofs.Common.{ℕ, ◌≡◌, ◌+◌, [], map, refl, sym, ◌∙◌, subst, subst₂, arith}
 use Rattle.certificates.specs.Prelude.{derivation_of, derivations_of, Derives, StepsTo, StepFails, AreMet, FailsFrom, FailFrom, no_such_rule, no_redex}
 use Rattle.certificates.specs.Prelude.{wrong_count, condition_fails}
 use Rattle.rewriting.specs.Matching.{IsLeastMatch, HasNoMatch}
@@ -12,6 +12,11 @@ use Rattle.derivation.proofs.Progress.{run_begins, next_running, failing_step, s
 use Rattle.derivation.proofs.Contracting.{open_size, contracted_back, uncontracted_back}
 use Rattle.derivation.proofs.OneStep.{absent_rule, unmatched, miscounted, unmet, stepped, uncontracted}
 use Rattle.derivation.proofs.judge.+judge.Goals as goal
+use Rattle.derivation.proofs.judge.+judge.Goals.{after_step-In_ok-found-in-Rule}
+
+-- the match of the rule at the step's position
+matched_here : (t : ℕ) (c : after_step-In_ok-found-in-Rule t) → IsMatch (rule_view c.in-Some.rule.now).left (view c.args.t.term) c.in-Rule.pos.items c.in_ok-found-in-Rule.found
+matched_here t c = subst (λ q. IsMatch (rule_view c.in-Some.rule.now).left (view c.args.t.term) q c.in_ok-found-in-Rule.found) c.deref.ensures.value c.in_ok-found-in-Rule.ensures
 
 pub after_step-returns-in_default : goal.after_step-returns-in_default
 after_step-returns-in_default t c =
@@ -42,7 +47,7 @@ after_step-returns-then-len t c =
     let s = c.args.step.now in
     let term = view c.args.t.term in
     let r = rule_view c.in-Some.rule.now in
-    let m : IsMatch r.left term c.in-Rule.pos.items c.in_ok-found-in-Rule.found = subst (λ q. IsMatch r.left term q c.in_ok-found-in-Rule.found) c.deref.ensures.value c.in_ok-found-in-Rule.ensures in
+    let m = matched_here t (goal.at.after_step-returns-then-len t c).In_ok-found-in-Rule in
     judged_here (λ u. StepsTo sys hyps term (step_view s) (view u.term) × IsCounted u) (StepFails sys hyps term (step_view s)) wrong_count c.here-then-len.result c.here-then-len.ensures
     (miscounted sys hyps term s c.in-Rule.rule c.in-Rule.pos c.in-Rule.conds c.in-Rule.is r c.in-Some.ensures.rule c.in_ok-found-in-Rule.found m
     (λ e. c.if-len.true (c.len.ensures ∙ sym (counted_derivations c.in-Rule.conds) ∙ e ∙ counted_conditions c.in-Some.rule.now.conds ∙ sym c.len-in-Rule.ensures)))
@@ -54,7 +59,7 @@ after_step-returns-in_err-values-in-Rule t c =
     let s = c.args.step.now in
     let term = view c.args.t.term in
     let r = rule_view c.in-Some.rule.now in
-    let m : IsMatch r.left term c.in-Rule.pos.items c.in_ok-found-in-Rule.found = subst (λ q. IsMatch r.left term q c.in_ok-found-in-Rule.found) c.deref.ensures.value c.in_ok-found-in-Rule.ensures in
+    let m = matched_here t (goal.at.after_step-returns-in_err-values-in-Rule t c).In_ok-found-in-Rule in
     let start = c.in_ok-found-in-Rule.found.values in
     judged_passed (λ end. AreMet sys hyps start (map condition_view c.deref-in-Rule-2.result.now) (derivations_of (map derivation_view c.deref-in-Rule.result.now)) end)
     (FailFrom sys hyps 1 start (map condition_view c.deref-in-Rule-2.result.now) (derivations_of (map derivation_view c.deref-in-Rule.result.now)))
@@ -73,7 +78,7 @@ after_step-returns-in_ok-values-in-Rule t c =
     let term = view c.args.t.term in
     let r = rule_view c.in-Some.rule.now in
     let found = c.in_ok-found-in-Rule.found in
-    let m : IsMatch r.left term c.in-Rule.pos.items found = subst (λ q. IsMatch r.left term q found) c.deref.ensures.value c.in_ok-found-in-Rule.ensures in
+    let m = matched_here t (goal.at.after_step-returns-in_ok-values-in-Rule t c).In_ok-found-in-Rule in
     let values = c.in_ok-values-in-Rule.values in
     let met : AreMet sys hyps found.values r.conditions (derivations_of (map derivation_view c.in-Rule.conds.items)) values =
     subst₂ (λ cs xs. AreMet sys hyps found.values (map condition_view cs) (derivations_of (map derivation_view xs)) values) c.deref-in-Rule-2.ensures.value

@@ -1,7 +1,7 @@
 use Rattle.std.proofs.Common.{◌≡◌, ◌<◌, ◌≤◌, subst, length, get_or, Ok}
 use Rattle.rewriting.specs.Terms.{size}
 use Rattle.term_core.specs.View.{view}
-use Rattle.unification.proofs.Terms.{size_inside}
+use Rattle.term_core.proofs.Sizes.{size_inside}
 use Rattle.irreducible.specs.Judging.{RootAnswers, JudgeAnswers}
 use Rattle.irreducible.proofs.Parts.{Judged, judged_none, judged_next, judge_whole, judge_variable, judge_root_other, judge_part_other, argument_fits}
 use Rattle.irreducible.proofs.judging.+judge.Goals as goal

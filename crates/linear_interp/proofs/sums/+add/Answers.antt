@@ -6,7 +6,8 @@ use Rattle.std.specs.List.{slice_index}
 use Rattle.cert_model.specs.CertificateView.{linear_entry_view}
 use Rattle.linear_interp.specs.Parts.{IsReady, AddAnswers, HasAdded, GoesAbove}
 use Rattle.linear_interp.proofs.Adding.{SoFar, begin, advance, fails, next, raised_small}
-use Rattle.linear_interp.proofs.Entries.{call, ready_at, size_at, number-index}
+use Rattle.term_core.proofs.Sizes.{argument_size}
+use Rattle.linear_interp.proofs.Entries.{call, ready_at, number-index}
 use Rattle.linear_interp.proofs.sums.+add.Goals as goal
 
 pub add-add_symbol-requires : goal.add-add_symbol-requires
@@ -38,7 +39,7 @@ add_symbol-loop-k-init t c =
 pub add_symbol-add-requires : goal.add_symbol-add-requires
 add_symbol-add-requires t c =
     let es = map linear_entry_view c.args.entries.now in
-    let smaller = size_at c.args.args.now c.loop-k.k c.index-args-k.result c.loop-k-test.true c.index-args-k.is in
+    let smaller = argument_size c.args.args.now c.loop-k.k c.index-args-k.result c.loop-k-test.true c.index-args-k.is in
     let falls = c.decreases in
     let capped = c.inner_factor.ensures in
     let many = c.loop-k.invariant.as_many in

@@ -2,7 +2,7 @@ use Rattle.std.proofs.Common.{◌≡◌, ◌+◌, ◌<◌, ◌≤◌, ◌∙◌,
 use Rattle.std.proofs.lemmas.Bool.{or_left}
 use Rattle.rewriting.specs.Terms.{size}
 use Rattle.term_core.specs.View.{view, views}
-use Rattle.unification.proofs.Terms.{size_inside}
+use Rattle.term_core.proofs.Sizes.{size_inside}
 use Rattle.tcap_infeasible.specs.Clashes.{do_any_clash}
 use Rattle.tcap_infeasible.proofs.Clashes.{from_place, past_all, other_roots, arguments}
 use Rattle.tcap_infeasible.proofs.capping.+clashes.Goals as goal

@@ -1,7 +1,7 @@
 use Rattle.std.proofs.Common.{◌<◌, ◌+◌, sym, subst, Ok}
 use Rattle.rewriting.specs.Terms.{size}
 use Rattle.term_core.specs.View.{view}
-use Rattle.unification.proofs.Terms.{size_inside}
+use Rattle.term_core.proofs.Sizes.{size_inside}
 use Rattle.caps.specs.Caps.{node}
 use Rattle.tcap_infeasible.specs.Frozen.{FrozenAnswers}
 use Rattle.tcap_infeasible.proofs.Args.{AreCapped, capped_next, start_low, arg_room, arg_fits, arg_constants, arg_large, leaf_constant, args_held, whole_cap}

@@ -2,7 +2,7 @@ use Rattle.std.proofs.Common.{◌<◌, subst}
 use Rattle.rewriting.specs.Terms.{size}
 use Rattle.rewriting.proofs.Lists.{front_refl}
 use Rattle.term_core.specs.View.{view}
-use Rattle.unification.proofs.Terms.{size_inside}
+use Rattle.term_core.proofs.Sizes.{size_inside}
 use Rattle.tcap_infeasible.proofs.Places.{variable_grown, one_place, place_room, whole_grown, whole_keyed}
 use Rattle.tcap_infeasible.proofs.keys.+keyed.Goals as goal
 

@@ -1,7 +1,7 @@
 use Rattle.std.proofs.Common.{◌<◌, ◌≤◌, ◌∙◌, length, subst, refl}
 use Rattle.rewriting.specs.Terms.{size}
 use Rattle.term_core.specs.View.{view}
-use Rattle.unification.proofs.Terms.{size_inside}
+use Rattle.term_core.proofs.Sizes.{size_inside}
 use Rattle.tcap_infeasible.proofs.Thawed.{place_below, one_lies, one_thawed, whole_thawed}
 use Rattle.tcap_infeasible.proofs.thawing.+thawed.Goals as goal
 

@@ -1,6 +1,5 @@
-use Rattle.std.proofs.Common.{◌≡◌, ◌+◌, ◌≤◌, ◌∙◌, ℕ, List, Some, length, slice_get, refl, ap, sym, subst, arith}
+use Rattle.std.proofs.Common.{◌≡◌, ◌+◌, ◌∙◌, ℕ, List, length, refl, ap, sym, subst}
 use Rattle.std.proofs.lemmas.Bool.{false≢true}
-use Rattle.std.proofs.lemmas.List.{length-map}
 use Rattle.certificates.specs.Evidence.{Automaton}
 use Rattle.automata.specs.Runs.{ReachBy}
 use Rattle.automata.specs.Closed.{Excludes}
@@ -8,7 +7,7 @@ use Rattle.term_core.specs.View.{view}
 use Rattle.automaton_runs.specs.Counted.{Finds}
 use Rattle.automaton_runs.specs.Choices.{Batch, occurrences_of}
 use Rattle.automaton_runs.specs.Reached.{AreWhere}
-use Rattle.automaton_runs.proofs.BatchParts.{list_at}
+use Rattle.automaton_runs.proofs.BatchParts.{front_at, fronts_end}
 use Rattle.rewriting.proofs.Members.{place_among}
 use Rattle.tree_automata.specs.Accepts.{IsOneAccepting}
 use Rattle.tree_automata.specs.Batches.{batch_at}
@@ -17,8 +16,7 @@ use Rattle.tree_automata.proofs.exclusion.is_excluded.Goals as goal
 
 pub reached_by_occurrences-requires-clause-length : goal.reached_by_occurrences-requires-clause-length
 reached_by_occurrences-requires-clause-length c =
-    let at = subst (λ (fs : List (List ℕ)). slice_get fs c.loop-front.front-index ≡ Some c.front-item.result.items) c.fronts-front-items.ensures
-    (list_at c.fronts-front-items.result.now c.loop-front.front-index c.front-item.result c.loop-front-test.true c.front-item.is) in
+    let at = front_at _ c.fronts-front-items.result.now c.fronts-front-items.ensures c.loop-front.front-index c.front-item.result c.loop-front-test.true c.front-item.is in
     let long = c.requires.choices.long c.front-item.result.items (place_among c.args.choices.now.fronts c.loop-front.front-index c.front-item.result.items at) in
     ap occurrences_of c.in_ok-batch.ensures ∙ ap (λ (f : List ℕ). length f + c.args.choices.now.width) c.deref.ensures.value ∙ long
 
@@ -27,8 +25,7 @@ returns-then-is_one_accepting c =
     let a = c.args.index.now in
     let t = view c.args.t.now in
     let front = c.front-item.result.items in
-    let at = subst (λ (fs : List (List ℕ)). slice_get fs c.loop-front.front-index ≡ Some c.front-item.result.items) c.fronts-front-items.ensures
-    (list_at c.fronts-front-items.result.now c.loop-front.front-index c.front-item.result c.loop-front-test.true c.front-item.is) in
+    let at = front_at _ c.fronts-front-items.result.now c.fronts-front-items.ensures c.loop-front.front-index c.front-item.result c.loop-front-test.true c.front-item.is in
     let is : c.in_ok-batch.batch ≡ batch_at c.args.choices.now c.front-item.result.items = c.in_ok-batch.ensures ∙ ap (batch_at c.args.choices.now) c.deref.ensures.value in (
       λ h. absurd (false≢true h),
       λ ex.
@@ -44,8 +41,7 @@ loop-front-preserved c =
     let a = c.args.index.now in
     let t = view c.args.t.now in
     let front = c.front-item.result.items in
-    let at = subst (λ (fs : List (List ℕ)). slice_get fs c.loop-front.front-index ≡ Some c.front-item.result.items) c.fronts-front-items.ensures
-    (list_at c.fronts-front-items.result.now c.loop-front.front-index c.front-item.result c.loop-front-test.true c.front-item.is) in
+    let at = front_at _ c.fronts-front-items.result.now c.fronts-front-items.ensures c.loop-front.front-index c.front-item.result c.loop-front-test.true c.front-item.is in
     let is : c.in_ok-batch.batch ≡ batch_at c.args.choices.now c.front-item.result.items = c.in_ok-batch.ensures ∙ ap (batch_at c.args.choices.now) c.deref.ensures.value in
     below_more a t (IsNot a t) c.args.choices.now c.requires.choices c.loop-front.front-index front at c.loop-front.invariant
     (none_in a t c.args.choices.now c.requires.choices front (place_among c.args.choices.now.fronts c.loop-front.front-index front at) c.in_ok-reached.reached
@@ -56,12 +52,7 @@ pub returns : goal.returns
 returns c =
     let a = c.args.index.now in
     let t = view c.args.t.now in
-    let past : length c.args.choices.now.fronts ≤ c.loop-front.front-index = omega (
-      arith,
-      c.loop-front-test.false,
-      ap length c.fronts-front-items.ensures,
-      length-map c.fronts-front-items.result.now (λ v. v.items),
-    ) in (
+    let past = fronts_end _ c.fronts-front-items.result.now c.fronts-front-items.ensures c.loop-front.front-index c.loop-front-test.false in (
       λ _.
           subst (λ (x : Automaton). Excludes a.symbols x t) c.requires.index
           (excluded a t (throughout a t (IsNot a t) c.args.choices.now c.requires.choices c.loop-front.front-index past c.loop-front.invariant)),
