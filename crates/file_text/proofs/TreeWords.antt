@@ -1,5 +1,8 @@
 -- What holds of each identifier and of the place of each bar in the words of a tree holds of those in the tree.
-use Rattle.std.proofs.Common.{◌≡◌, ℕ, List, [], ◌∷◌, ◌++◌, Option, None, Some, subst}
+use Rattle.std.proofs.Common.{◌≡◌, ℕ, List, [], ◌∷◌, ◌++◌, Option, None, Some, refl, subst}
+use Rattle.file_text.specs.declared.Kind.{Kind}
+use Rattle.file_text.specs.declared.Kind.TheVariants.{Id, LeftParen, RightParen, Comma, Bar, Arrow, Equal}
+use Rattle.file_text.specs.Texts.{word_of_kind}
 use Rattle.file_text.specs.Syntax.{Name, Phrase, Phrases, word, call, none, more, ConditionTree, Guard, RuleTree, FileTree}
 use Rattle.file_text.specs.Grammar.{Word, id, left_paren, right_paren, comma, bar, arrow, equal, spelled, spelled_arguments, spelled_further, spelled_condition, spelled_others}
 use Rattle.file_text.specs.Grammar.{spelled_guard, spelled_rule, spelled_rules, Block, condition_type, variables, rules, spelled_block, spelled_blocks, rules_in, SpellTree}
@@ -38,6 +41,16 @@ module _ (P : Name → Type 0) (Q : ℕ → Type 0) where
   abbrev pub OfRules : List RuleTree → Type 0
   OfRules [] = Unit {0}
   OfRules (r ∷ rs) = OfPhrase r.left × OfPhrase r.right × OfGuard r.guard × OfRules rs
+
+  -- the word of a token is an identifier, a bar or neither
+  pub of_kind : (k : Kind) (n : Name) → (k ≡ Id → P n) → (k ≡ Bar → Q n.at) → OfWord (word_of_kind k n)
+  of_kind Id n name place = name refl
+  of_kind LeftParen n name place = tt
+  of_kind RightParen n name place = tt
+  of_kind Comma n name place = tt
+  of_kind Bar n name place = place refl
+  of_kind Arrow n name place = tt
+  of_kind Equal n name place = tt
 
   parted : (xs ys : List Word) → OfWords (xs ++ ys) → OfWords xs × OfWords ys
   parted [] ys h = (tt, h)

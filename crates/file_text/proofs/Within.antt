@@ -3,14 +3,14 @@ use Rattle.std.proofs.Common.{◌≡◌, ℕ, zero, suc, ◌<◌, ◌≤◌, Lis
 use Rattle.std.specs.Prelude.{slice_range}
 use Rattle.std.proofs.lemmas.List.{length-drop}
 use Rattle.file_text.specs.declared.Kind.{Kind}
-use Rattle.file_text.specs.declared.Kind.TheVariants.{Id, LeftParen, RightParen, Comma, Bar, Arrow, Equal}
+use Rattle.file_text.specs.declared.Kind.TheVariants.{Id}
 use Rattle.file_text.specs.declared.Token.{Token}
 use Rattle.file_text.specs.Syntax.{Name, FileTree}
 use Rattle.file_text.specs.Refusals.{SyntaxCause}
 use Rattle.file_text.specs.Tokens.{kind_at, open_after, Piece, token, comment, tokens_of, StandInTurn, TokenCause, bad_byte, long_id, open_comment, HasNoTokens}
-use Rattle.file_text.specs.Texts.{word_of_kind, words_of, place_of_token, IsText, IsNoText}
+use Rattle.file_text.specs.Texts.{words_of, place_of_token, IsText, IsNoText}
 use Rattle.file_text.proofs.Fronts.{kind_fits}
-use Rattle.file_text.proofs.TreeWords.{OfWord, OfWords, OfRules, of_file}
+use Rattle.file_text.proofs.TreeWords.{OfWords, OfRules, of_kind, of_file}
 
 module _ (bytes : List ℕ) where
   -- a token begins before the end
@@ -26,7 +26,7 @@ module _ (bytes : List ℕ) where
   no_tokens_within open_comment at h = omega (arith, h.5)
 
   -- the token with a number, or the end
-  token_within : (at count : ℕ) (ps : List Piece) (end number : ℕ) → StandInTurn bytes at count ps end → place_of_token bytes (tokens_of ps) number ≤ length bytes
+  pub token_within : (at count : ℕ) (ps : List Piece) (end number : ℕ) → StandInTurn bytes at count ps end → place_of_token bytes (tokens_of ps) number ≤ length bytes
   token_within at count [] end number l = omega arith
   token_within at count (token t ∷ ps) end zero l = omega (arith, begins_within t.from t.kind l.0.kind)
   token_within at count (token t ∷ ps) end (suc n) l = token_within t.to (open_after count t.kind) ps end n l.1
@@ -46,20 +46,11 @@ module _ (bytes : List ℕ) where
   abbrev pub PlaceWithin : ℕ → Type 0
   PlaceWithin at = at ≤ length bytes
 
-  kind_within : (k : Kind) (n : Name) → NameWithin n → OfWord NameWithin PlaceWithin (word_of_kind k n)
-  kind_within Id n h = h
-  kind_within LeftParen n h = tt
-  kind_within RightParen n h = tt
-  kind_within Comma n h = tt
-  kind_within Bar n h = h
-  kind_within Arrow n h = tt
-  kind_within Equal n h = tt
-
-  words_within : (at count : ℕ) (ps : List Piece) (end : ℕ) → StandInTurn bytes at count ps end → OfWords NameWithin PlaceWithin (words_of bytes (tokens_of ps))
+  pub words_within : (at count : ℕ) (ps : List Piece) (end : ℕ) → StandInTurn bytes at count ps end → OfWords NameWithin PlaceWithin (words_of bytes (tokens_of ps))
   words_within at count [] end l = tt
   words_within at count (token t ∷ ps) end l =
-      let here = begins_within t.from t.kind l.0.kind in
-      (kind_within t.kind (record { at = t.from; text = slice_range bytes t.from t.to }) (omega (arith, here)), words_within t.to (open_after count t.kind) ps end l.1)
+      let here : t.from ≤ length bytes = omega (arith, begins_within t.from t.kind l.0.kind) in
+      (of_kind NameWithin PlaceWithin t.kind (record { at = t.from; text = slice_range bytes t.from t.to }) (λ _. here) (λ _. here), words_within t.to (open_after count t.kind) ps end l.1)
   words_within at count (comment to ∷ ps) end l = words_within to count ps end l.1
 
   pub tree_within : (file : FileTree) → IsText bytes file → OfRules NameWithin PlaceWithin file.rules

@@ -1,17 +1,12 @@
 -- The place of a refusal is within the text.
-use Rattle.std.proofs.Common.{◌≡◌, ℕ, zero, suc, ◌<◌, ◌≤◌, List, [], ◌∷◌, ◌++◌, length, drop, Option, Some, None, refl, sym, ap, subst, ◌∙◌, arith, codes}
-use Rattle.std.specs.Prelude.{slice_range}
-use Rattle.std.proofs.lemmas.List.{length-drop, append-nil}
-use Rattle.file_text.specs.declared.Kind.{Kind}
-use Rattle.file_text.specs.declared.Kind.TheVariants.{Id, LeftParen, RightParen, Comma, Bar, Arrow, Equal}
+use Rattle.std.proofs.Common.{◌≡◌, ℕ, ◌≤◌, List, [], ◌∷◌, ◌++◌, length, Option, Some, None, refl, sym, ap, subst, ◌∙◌, arith, codes}
+use Rattle.std.proofs.lemmas.List.{append-nil}
 use Rattle.file_text.specs.declared.Token.{Token}
-use Rattle.file_text.specs.Syntax.{Name, RuleTree, FileTree}
-use Rattle.file_text.specs.Tokens.{kind_at, open_after, Piece, token, comment, tokens_of, StandInTurn}
-use Rattle.file_text.specs.Texts.{word_of_kind, words_of, place_of_token}
+use Rattle.file_text.specs.Syntax.{RuleTree, FileTree}
+use Rattle.file_text.specs.Texts.{words_of, place_of_token}
 use Rattle.file_text.specs.Grammar.{Word, left_paren, right_paren, id_at, rules, spelled_blocks}
-use Rattle.file_text.proofs.Fronts.{kind_fits}
-use Rattle.file_text.proofs.TreeWords.{OfWord, OfWords, OfConditions, of_file}
-use Rattle.file_text.proofs.Within.{NameWithin, PlaceWithin}
+use Rattle.file_text.proofs.TreeWords.{OfWords, OfConditions, of_file}
+use Rattle.file_text.proofs.Within.{token_within, NameWithin, PlaceWithin, words_within}
 use Rattle.cops_read.specs.Uses.{Event, place}
 use Rattle.cops_read.proofs.Places.{EventsWithin, conditions_within}
 use Rattle.query_text.specs.Grammar.{QueryTree, QueryParts, conditions_of, spelled_block, spelled_conditions, spelled_query}
@@ -22,41 +17,16 @@ use Rattle.query_text.specs.Query.{MeansNothing}
 use Rattle.query_text.proofs.Machine.{dummy, header}
 
 module _ (bytes : List ℕ) where
-  begins_within : (place : ℕ) (k : Kind) → kind_at (drop place bytes) ≡ Some k → place < length bytes
-  begins_within place k e = let fits = kind_fits (drop place bytes) k e in let left = length-drop place bytes in omega (arith, fits.0, fits.1)
-
-  token_within : (at count : ℕ) (ps : List Piece) (end number : ℕ) → StandInTurn bytes at count ps end → place_of_token bytes (tokens_of ps) number ≤ length bytes
-  token_within at count [] end number l = omega arith
-  token_within at count (token t ∷ ps) end zero l = omega (arith, begins_within t.from t.kind l.0.kind)
-  token_within at count (token t ∷ ps) end (suc n) l = token_within t.to (open_after count t.kind) ps end n l.1
-  token_within at count (comment to ∷ ps) end number l = token_within to count ps end number l.1
-
   pub syntax_within : (at : ℕ) → IsNoQueryText bytes at → at ≤ length bytes
   syntax_within at h =
       let s = h.spelled in
-      let there = subst (λ (ts : List Token). place_of_token bytes ts h.number ≤ length bytes) s.tokens (token_within 0 0 s.pieces s.end h.number s.leads) in
+      let there = subst (λ (ts : List Token). place_of_token bytes ts h.number ≤ length bytes) s.tokens (token_within bytes 0 0 s.pieces s.end h.number s.leads) in
       omega (arith, there, h.place)
 
   -- ---- the words of the text
 
   abbrev Inside : List Word → Type 0
   Inside = OfWords (NameWithin bytes) (PlaceWithin bytes)
-
-  kind_within : (k : Kind) (n : Name) → NameWithin bytes n → OfWord (NameWithin bytes) (PlaceWithin bytes) (word_of_kind k n)
-  kind_within Id n h = h
-  kind_within LeftParen n h = tt
-  kind_within RightParen n h = tt
-  kind_within Comma n h = tt
-  kind_within Bar n h = h
-  kind_within Arrow n h = tt
-  kind_within Equal n h = tt
-
-  words_within : (at count : ℕ) (ps : List Piece) (end : ℕ) → StandInTurn bytes at count ps end → Inside (words_of bytes (tokens_of ps))
-  words_within at count [] end l = tt
-  words_within at count (token t ∷ ps) end l =
-      let here = begins_within t.from t.kind l.0.kind in
-      (kind_within t.kind (record { at = t.from; text = slice_range bytes t.from t.to }) (omega (arith, here)), words_within t.to (open_after count t.kind) ps end l.1)
-  words_within at count (comment to ∷ ps) end l = words_within to count ps end l.1
 
   behind : (xs ys : List Word) → Inside (xs ++ ys) → Inside ys
   behind [] ys h = h
@@ -81,7 +51,7 @@ module _ (bytes : List ℕ) where
   tree_within : (tree : QueryTree) → IsQueryText bytes tree → OfConditions (NameWithin bytes) (PlaceWithin bytes) (conditions_of tree)
   tree_within tree h =
       let s = h.spelled in
-      let ws = subst (λ (ts : List Token). Inside (words_of bytes ts)) s.tokens (words_within 0 0 s.pieces s.end s.leads) in
+      let ws = subst (λ (ts : List Token). Inside (words_of bytes ts)) s.tokens (words_within bytes 0 0 s.pieces s.end s.leads) in
       let w = h.whole in
       subst (λ (t : QueryTree). OfConditions (NameWithin bytes) (PlaceWithin bytes) (conditions_of t)) (sym w.2) (of_query w.0 (subst Inside w.1 ws))
 
