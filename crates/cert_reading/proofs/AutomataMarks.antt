@@ -1,5 +1,5 @@
 -- The marks of shared automata, one behind another.
-use Rattle.std.proofs.Common.{◌≡◌, ◌+◌, ◌-◌, List, [], ◌∷◌, ◌++◌, map, sym, ap, ◌∙◌, subst, append_assoc}
+use Rattle.std.proofs.Common.{◌≡◌, List, [], ◌∷◌, ◌++◌, map, sym, ap, ◌∙◌, subst, append_assoc}
 use Rattle.std.proofs.lemmas.List.{append-nil}
 use Rattle.certificates.specs.Evidence.{Automaton}
 use Rattle.cert_grammar.specs.Prelude.{Naming, Mark, automata_marks, Shared, automaton_marks}

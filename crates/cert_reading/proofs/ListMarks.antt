@@ -3,7 +3,7 @@ use Rattle.std.proofs.Common.{◌≡◌, ◌+◌, ℕ, suc, List, [], ◌∷◌,
 use Rattle.std.proofs.lemmas.List.{append-nil}
 use Rattle.rewriting.specs.Unraveling.{Head}
 use Rattle.certificates.specs.Prelude.{PairEntry, LinearEntry, Redex, Simplification, dropped, inlined, Automaton}
-use Rattle.cert_grammar.specs.Prelude.{largest, Version, Uses, Naming, Mark, fixed, word, numbers, pairs, redexes, in_range, is_few, number, position, coefficients_marks, entries_marks}
+use Rattle.cert_grammar.specs.Prelude.{largest, Version, Uses, Naming, Mark, fixed, word, numbers, pairs, redexes, in_range, is_few, number, coefficients_marks, entries_marks}
 use Rattle.cert_grammar.specs.Prelude.{heads_marks, simplifications_marks, infeasibility_marks, evidence_marks, pairs_marks, redexes_marks}
 use Rattle.cert_grammar.proofs.Views.{seen_push}
 use Rattle.cert_reading.specs.Lines.{line_marks}

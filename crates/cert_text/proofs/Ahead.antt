@@ -5,8 +5,8 @@ use Rattle.std.proofs.lemmas.List.{append-nil, append_cancel_left}
 use Rattle.certificates.specs.Prelude.{PairEntry}
 use Rattle.cops_names.specs.NameTable.{NameTable}
 use Rattle.cert_grammar.specs.Prelude.{name_of, all_used, shares, CertificateCause, Demand, Mark, fixed, word, mark_text, marks_text, demands_of, verdict, Pass, Item, opening, between, line}
-use Rattle.cert_grammar.specs.Prelude.{pairs_from, entries_from, answer_marks, heading_marks, body_marks, certificate_marks, closing, Skeleton, HaveNames}
-use Rattle.cert_grammar.specs.Prelude.{heads_from, Lead, text, check, at_once, keyword, numeral_lead, position_lead, variable_lead, name_lead, leads, Version, first_version, second_version}
+use Rattle.cert_grammar.specs.Prelude.{pairs_from, answer_marks, heading_marks, body_marks, certificate_marks, closing, Skeleton, HaveNames}
+use Rattle.cert_grammar.specs.Prelude.{Lead, text, check, at_once, keyword, numeral_lead, position_lead, variable_lead, name_lead, leads, Version, first_version, second_version}
 use Rattle.cert_grammar.specs.Prelude.{mode_of, first_there, taken, mark_of, items_of, Left, behind_lead, judged, step_lead, Reading as Answer, Shared, share_verdict, behind_mark}
 use Rattle.cert_grammar.specs.Prelude.{behind_marks, PassShares, ends, further}
 use Rattle.cert_grammar.specs.FirstRefusal as machine

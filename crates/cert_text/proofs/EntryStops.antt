@@ -1,12 +1,11 @@
 -- Where an entry stands, no reader stops within it.
 use Rattle.std.proofs.Common.{◌≡◌, ◌⊎◌, inl, inr, ◌<◌, ◌≤◌, ℕ, suc, List, [], ◌∷◌, ◌++◌, length, drop, codes, refl, sym, ap, ◌∙◌, subst, arith}
 use Rattle.std.proofs.lemmas.Bool.{cases_lt}
-use Rattle.std.proofs.lemmas.List.{append-nil}
 use Rattle.certificates.specs.Prelude.{Automaton, PairEntry}
 use Rattle.cops_names.specs.NameTable.{NameTable}
-use Rattle.cert_grammar.specs.Prelude.{name_of, Version, first_version, second_version, CertificateCause, Mark, mark_text, pairs_marks, closing, Item, leads, opening}
+use Rattle.cert_grammar.specs.Prelude.{name_of, Version, first_version, second_version, CertificateCause, Mark, mark_text, pairs_marks, Item, leads, opening}
 use Rattle.cert_grammar.specs.Prelude.{pairs_from, taken, items_of, Left, Shared, nothing_shared, behind_marks}
-use Rattle.cert_laws.proofs.Paths.{Path, first_sound}
+use Rattle.cert_laws.proofs.Paths.{first_sound}
 use Rattle.cert_laws.proofs.Reached.{Move, Moves}
 use Rattle.cert_laws.proofs.FirstRefusals.{read_of, lead_move}
 use Rattle.cert_sharing.proofs.UseMarks.{behind_both}

@@ -1,7 +1,7 @@
 -- The item below the others, up to the end of an opening.
-use Rattle.std.proofs.Common.{◌≡◌, ◌⊎◌, inl, inr, ℕ, zero, suc, Bool, true, false, not, cond, List, [], ◌∷◌, ◌++◌, Option, codes, refl, sym, ap, ◌∙◌, subst}
+use Rattle.std.proofs.Common.{◌≡◌, inl, inr, ℕ, zero, suc, Bool, true, false, not, cond, List, [], ◌∷◌, ◌++◌, Option, codes, refl, sym, ap, ◌∙◌, subst}
 use Rattle.cert_grammar.specs.Prelude.{Version, first_version, second_version, Demand, all_used, fits_answer, shares, Mark, fixed, word, closing, value, same_bytes, Item, opening, heading}
-use Rattle.cert_grammar.specs.Prelude.{shared_line, shared_count, automata_left, automaton_end, simplified, body, pairs_from, entries_from, heads_from, measure, leads, behind_automata, body_leads}
+use Rattle.cert_grammar.specs.Prelude.{shared_line, shared_count, automata_left, automaton_end, simplified, body, pairs_from, entries_from, heads_from, measure, behind_automata, body_leads}
 use Rattle.cert_laws.proofs.Paths.{Takes, Path}
 use Rattle.cert_reading.specs.Stops.{AreAbove, BeginsList}
 use Rattle.cert_text.proofs.Ahead.{Each, step_by, end_mark, line_mark, all_fit, above_path, one_left}

@@ -1,8 +1,8 @@
 -- A text that is read up to its entries, or a whole peak.
-use Rattle.std.proofs.Common.{◌≡◌, inl, inr, ℕ, suc, Bool, true, false, List, [], ◌∷◌, ◌++◌, length, drop, Option, Some, None, Result, Ok, Err, IfOk, codes, refl, sym, ap, ◌∙◌}
+use Rattle.std.proofs.Common.{◌≡◌, inl, inr, ℕ, suc, Bool, true, false, List, [], ◌∷◌, ◌++◌, length, Option, Some, None, Result, Ok, Err, IfOk, codes, refl, sym, ap, ◌∙◌}
 use Rattle.std.proofs.Common.{subst, arith, append_assoc}
 use Rattle.std.proofs.lemmas.List.{append-nil}
-use Rattle.certificates.specs.Prelude.{Automaton, MeasureCertificate, linear_measure, precedence_measure, Simplification, Apartness, Peak, Certificate, peak_certificate}
+use Rattle.certificates.specs.Prelude.{Automaton, MeasureCertificate, linear_measure, precedence_measure, Simplification, Peak, Certificate, peak_certificate}
 use Rattle.cops_names.specs.NameTable.{NameTable}
 use Rattle.cert_grammar.specs.Prelude.{name_of, largest, Version, first_version, second_version, in_full, by_number, HasMeasure, IsUnsimplified, number_in, IsCertificateText, in_range}
 use Rattle.cert_grammar.specs.Prelude.{is_few, simplifications, Naming, Mark, fixed, word, answer_marks, body_marks, heading_marks, measure_marks, peak_marks, simplifications_marks, closing}
@@ -23,7 +23,7 @@ use Rattle.cert_reading.specs.declared.headings.Kind as kinds_of
 use Rattle.cert_reading.specs.declared.headings.Kind.TheVariants as kinds
 use Rattle.cert_reading.specs.Plain.{StepsUse, ApartUses, IsPlainBy}
 use Rattle.cert_reading.specs.Shared.{shared_marks, IsKnown, ArePlainAutomata}
-use Rattle.cert_reading.specs.Stops.{Place, ReadsWhere, WithinOpening, BeforeEntries, Anywhere}
+use Rattle.cert_reading.specs.Stops.{ReadsWhere, WithinOpening, BeforeEntries, Anywhere}
 use Rattle.cert_reading.specs.Uses.{AreShared}
 use Rattle.cert_reading.specs.Whole.{CanShare}
 use Rattle.cert_reading.proofs.Opening.{other_below}

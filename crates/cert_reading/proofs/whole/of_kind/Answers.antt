@@ -1,4 +1,4 @@
-use Rattle.std.proofs.Common.{map, [], ◌∷◌, ◌++◌, codes, refl, sym, ap, append_assoc, List}
+use Rattle.std.proofs.Common.{map, [], ◌∷◌, codes, refl, sym, ap, append_assoc, List}
 use Rattle.cert_model.specs.CertificateView.{pair_entry_view, measure_view}
 use Rattle.cert_grammar.specs.Prelude.{name_of, Mark, fixed, measure_marks, pairs_marks, closing, between, line, pairs_from, measure, start_line}
 use Rattle.cert_model.proofs.CertificateViews.{ortho_shown, quasi_shown, peak_shown}
