@@ -1,12 +1,10 @@
-use Rattle.std.proofs.Common.{◌<◌, ◌^◌, map, length, None, Some, subst, arith}
+use Rattle.std.proofs.Common.{map, length, None, Some, subst, arith}
 use Rattle.interpretations.proofs.Bound.{few_heads}
 use Rattle.rewriting.proofs.Laws.{well_formed}
 use Rattle.cert_model.specs.CertificateView.{linear_entry_view}
-use Rattle.interpretations.specs.Linear.{HasShape, AreAllNumbersGood}
 use Rattle.linear_interp.specs.Entries.{BadAnswers}
 use Rattle.linear_interp.proofs.Final.{misshapen, shape, bad, all_good_numbers, few_entries, rules_ready, judged}
 use Rattle.linear_interp.proofs.judge.Goals as goal
-use Rattle.linear_interp.proofs.judge.Goals.{In_default, In-Some-first_bad, In_default-first_bad}
 
 pub returns-in-Some : goal.returns-in-Some
 returns-in-Some c =
@@ -19,37 +17,30 @@ returns-in-Some c =
       ),
     )
 
--- the entries have the shape
-shaped : (c : In_default) → HasShape c.args.sys.now (map linear_entry_view c.args.entries.now)
-shaped c = shape c.args.sys.now (map linear_entry_view c.args.entries.now) _ _ _ _ c.deref.ensures.value c.requires.heads c.arities-arities.ensures c.requires.system c.in_default.ensures
-
--- the first entry with a bad number has a small one
-small : (c : In-Some-first_bad) → c.in-Some-first_bad.k < 2 ^ 31
-small c =
+pub overflow_cast-result-in-Some-first_bad : goal.overflow_cast-result-in-Some-first_bad
+overflow_cast-result-in-Some-first_bad c =
     let sys = c.args.sys.now in
     let es = map linear_entry_view c.args.entries.now in
     let s = shape sys es _ _ _ _ c.deref.ensures.value c.requires.heads c.arities-arities.ensures c.requires.system c.in_default.ensures in
-    few_entries sys es s (few_heads sys c.args.unraveled.now.system c.requires.system c.rules-rules.ensures.sound) c.in-Some-first_bad.k
-    (subst (λ xs. BadAnswers (length xs) es (Some c.in-Some-first_bad.k)) c.arities.ensures c.in-Some-first_bad.ensures)
-
--- where there is none, all numbers are good
-good_numbers : (c : In_default-first_bad) → AreAllNumbersGood c.args.sys.now (map linear_entry_view c.args.entries.now)
-good_numbers c =
-    let es = map linear_entry_view c.args.entries.now in
-    all_good_numbers c.args.sys.now es (subst (λ xs. BadAnswers (length xs) es None) c.arities.ensures c.in_default-first_bad.ensures)
-
-pub overflow_cast-result-in-Some-first_bad : goal.overflow_cast-result-in-Some-first_bad
-overflow_cast-result-in-Some-first_bad c = let few = small (goal.at.overflow_cast-result-in-Some-first_bad c).In-Some-first_bad in omega (arith, few)
+    let few = few_entries sys es s (few_heads sys c.args.unraveled.now.system c.requires.system c.rules-rules.ensures.sound) c.in-Some-first_bad.k
+    (subst (λ xs. BadAnswers (length xs) es (Some c.in-Some-first_bad.k)) c.arities.ensures c.in-Some-first_bad.ensures) in
+    omega (arith, few)
 
 pub overflow_add-result-in-Some-first_bad : goal.overflow_add-result-in-Some-first_bad
-overflow_add-result-in-Some-first_bad c = let few = small (goal.at.overflow_add-result-in-Some-first_bad c).In-Some-first_bad in omega (arith, few)
+overflow_add-result-in-Some-first_bad c =
+    let sys = c.args.sys.now in
+    let es = map linear_entry_view c.args.entries.now in
+    let s = shape sys es _ _ _ _ c.deref.ensures.value c.requires.heads c.arities-arities.ensures c.requires.system c.in_default.ensures in
+    let few = few_entries sys es s (few_heads sys c.args.unraveled.now.system c.requires.system c.rules-rules.ensures.sound) c.in-Some-first_bad.k
+    (subst (λ xs. BadAnswers (length xs) es (Some c.in-Some-first_bad.k)) c.arities.ensures c.in-Some-first_bad.ensures) in
+    omega (arith, few)
 
 pub returns-in-Some-first_bad : goal.returns-in-Some-first_bad
 returns-in-Some-first_bad c =
     let sys = c.args.sys.now in
     let es = map linear_entry_view c.args.entries.now in (
       c.requires.fits,
-      shaped (goal.at.returns-in-Some-first_bad c).In_default,
+      shape sys es _ _ _ _ c.deref.ensures.value c.requires.heads c.arities-arities.ensures c.requires.system c.in_default.ensures,
       (
         c.in-Some-first_bad.k,
         omega arith,
@@ -62,8 +53,8 @@ pub judge_rules-requires-clause-ready : goal.judge_rules-requires-clause-ready
 judge_rules-requires-clause-ready c =
     let sys = c.args.sys.now in
     let es = map linear_entry_view c.args.entries.now in
-    let s = shaped (goal.at.judge_rules-requires-clause-ready c).In_default in
-    let numbers = good_numbers (goal.at.judge_rules-requires-clause-ready c).In_default-first_bad in
+    let s = shape sys es _ _ _ _ c.deref.ensures.value c.requires.heads c.arities-arities.ensures c.requires.system c.in_default.ensures in
+    let numbers = all_good_numbers sys es (subst (λ xs. BadAnswers (length xs) es None) c.arities.ensures c.in_default-first_bad.ensures) in
     rules_ready sys c.args.unraveled.now.system es c.rules-rules.result.now c.requires.system (well_formed sys c.rules-own_rules.ensures.sound) s numbers
     c.rules-rules.ensures.rules c.rules-rules.ensures.counted c.rules-rules.ensures.sound
 
@@ -71,6 +62,6 @@ pub returns : goal.returns
 returns c =
     let sys = c.args.sys.now in
     let es = map linear_entry_view c.args.entries.now in
-    let s = shaped (goal.at.returns c).In_default in
-    let numbers = good_numbers (goal.at.returns c).In_default-first_bad in
+    let s = shape sys es _ _ _ _ c.deref.ensures.value c.requires.heads c.arities-arities.ensures c.requires.system c.in_default.ensures in
+    let numbers = all_good_numbers sys es (subst (λ xs. BadAnswers (length xs) es None) c.arities.ensures c.in_default-first_bad.ensures) in
     judged sys es c.args.unraveled.now.system _ c.requires.system c.rules-rules.ensures.rules c.requires.fits s numbers c.judge_rules.result c.judge_rules.ensures
