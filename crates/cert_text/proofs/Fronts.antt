@@ -4,7 +4,7 @@ use Rattle.std.proofs.lemmas.List.{append-nil}
 use Rattle.certificates.specs.Prelude.{Automaton, PairEntry, Simplification, Certificate, simplified_certificate}
 use Rattle.cops_names.specs.NameTable.{NameTable}
 use Rattle.cert_grammar.specs.Prelude.{name_of, Version, first_version, second_version, Uses, number_in, CertificateCause, Naming, Mark, fixed, marks_text, answer_marks, heading_marks}
-use Rattle.cert_grammar.specs.Prelude.{body_marks, closing, certificate_marks, HaveNames, Item, opening, between, line, Shared, nothing_shared}
+use Rattle.cert_grammar.specs.Prelude.{body_marks, closing, certificate_marks, HaveNames, Item, opening, between, line, nothing_shared}
 use Rattle.cert_laws.proofs.Along.{have_append}
 use Rattle.cert_laws.proofs.Spelt.{text_both}
 use Rattle.cert_sharing.proofs.UseMarks.{AreStill, counts_still}
