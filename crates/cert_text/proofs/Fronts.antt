@@ -168,15 +168,11 @@ module _ {names : NameTable} {bytes : List ℕ} {v : Version} {shared : List Aut
 
   pub run_of : {P : Place} {f : Naming → List Mark} {to : List Item} {t : Reading} → t.refused ≡ None → ReadsWhere P names (length bytes) (opening ∷ []) f to b.start t
       → Run names (length bytes) (opening ∷ []) f to bytes t.left.now nothing_shared t.shares
-  run_of {P} {f} {to} {t} none h =
-      subst (λ (x : List ℕ). Run names (length bytes) (opening ∷ []) f to x t.left.now nothing_shared t.shares) b.all_left
-      (subst (λ (z : Shared). Run names (length bytes) (opening ∷ []) f to b.start.left.now t.left.now z t.shares) b.fresh (ran b.not_refused none h))
+  run_of none h = rw (b.all_left, b.fresh) at (ran b.not_refused none h)
 
   pub stop_of : {P : Place} {f : Naming → List Mark} {to : List Item} {t : Reading} (e : CertError) → t.refused ≡ Some e
       → ReadsWhere P names (length bytes) (opening ∷ []) f to b.start t → IsStoppedWhere P names (length bytes) (opening ∷ []) bytes nothing_shared (told e)
-  stop_of {P} {f} {to} {t} e q h =
-      subst (λ (x : List ℕ). IsStoppedWhere P names (length bytes) (opening ∷ []) x nothing_shared (told e)) b.all_left
-      (subst (λ (z : Shared). IsStoppedWhere P names (length bytes) (opening ∷ []) b.start.left.now z (told e)) b.fresh (stopped_where e b.not_refused q h))
+  stop_of e q h = rw (b.all_left, b.fresh) at (stopped_where e b.not_refused q h)
 
   -- what is refused is the refusal of the text
   pub refused_behind_it : {P : Place} {f : Naming → List Mark} {to : List Item} {t : Reading} (e : CertError) → t.refused ≡ Some e

@@ -213,11 +213,6 @@ module _ {names : NameTable} {bytes : List ℕ} {v : Version} {shared : List Aut
 
 -- ---- from the first line on
 
-line_here : (second : Bool) (a : Bool) (given : Option Bool) {names : NameTable} {end : ℕ} {s t : words.Reading} → second ≡ a
-    → ReadsWhere BeforeEntries names end (Items.opening ∷ []) (λ u. first_marks given second) (behind_version second given ∷ []) s t
-    → ReadsWhere BeforeEntries names end (Items.opening ∷ []) (λ u. first_marks given a) (behind_version a given ∷ []) s t
-line_here second a given {names} {end} {s} {t} e h = subst (λ (x : Bool). ReadsWhere BeforeEntries names end (Items.opening ∷ []) (λ u. first_marks given x) (behind_version x given ∷ []) s t) e h
-
 -- a text of the first version, behind the word of its kind
 pub first_begun : {names : NameTable} {bytes : List ℕ} {given : Option Bool} {second : Bool} {s t u : words.Reading} (kind : kinds_of.Kind) → s.left.now ≡ bytes
     → s.shares ≡ nothing_shared → s.refused ≡ None → second ≡ false
@@ -231,7 +226,7 @@ first_begun {given = given} {second = second} {s = s} kind all fresh none is fir
       all_left = all;
       fresh = fresh;
       not_refused = none;
-      read = then_where (line_here second false given is first) next;
+      read = then_where (rw is at first) next;
       known = tt;
       plain_shared = λ x. tt;
       can_step = λ x. tt;
@@ -256,7 +251,7 @@ second_begun {names} {bytes} {given} {second} {s} {t} {u} all begins fresh none 
       fresh = fresh;
       not_refused = none;
       read = as_marks_where (λ r x. shared_front (answer_marks given) (heading_marks x (uses_with second_version names all) all) (shared_marks x all) (fixed (codes "concon 2\n"))
-          refl) (then_where (line_here second true given is line) shared);
+          refl) (then_where (rw is at line) shared);
       known = known (known_where second_version [] line [] (counts_still (first_marks given second) (first_still given second)) before);
       plain_shared = plain;
       can_step = λ r. tt;

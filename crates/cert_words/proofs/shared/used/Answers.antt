@@ -33,4 +33,5 @@ returns-in-Bad-clause-read c = λ names i new e. stopped _ (none_now _ _ c.is_so
 pub returns-in-Heavy-clause-read : goal.returns-in-Heavy-clause-read
 returns-in-Heavy-clause-read c = λ names i new e. stopped _ (none_now _ _ c.is_some.ensures c.if-is_some.false) refl (front_same _ _ (ap (λ (z : Shared). z.texts) c.in-Heavy.ensures.2))
     (stuck_stops names c.args.end i c.args.at.now.left.now c.args.at.now.shares (Some (too_many unfolded, c.place-here.result))
-    (rw c.place-here.ensures (use_heavy names c.args.end c.args.at.now i c.in-Some.word.now new c.in-Some-within.n _ e c.in-Some.ensures c.in-Some-within.ensures c.in-Heavy.ensures.0 c.in-Heavy.ensures.1)))
+    (rw c.place-here.ensures
+    (use_heavy names c.args.end c.args.at.now i c.in-Some.word.now new c.in-Some-within.n _ e c.in-Some.ensures c.in-Some-within.ensures c.in-Heavy.ensures.0 c.in-Heavy.ensures.1)))
