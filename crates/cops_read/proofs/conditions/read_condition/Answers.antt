@@ -16,7 +16,8 @@ returns-in_err-left-clause-condition g c tree h =
     handed (ConditionAnswers (H.cause (H.kept c.args.reader.now)) (H.block (H.kept c.args.reader.now)) H.tells (H.symbols c.args.reader.now) (H.variables c.args.reader.now) c.args.rule c.args.number
     tree (H.symbols c.read_side.new.reader) (H.variables c.read_side.new.reader)) c.in_err-left.field-0.0 c.from_residual.result c.from_residual.ensures.1
     (tells_here c.in_err-left.ensures.told
-    (side_refusal (H.cause (H.kept c.args.reader.now)) (H.block (H.kept c.args.reader.now)) (H.symbols c.args.reader.now) (H.variables c.args.reader.now) (side_of c.args.rule c.args.number false) tree.left)
+    (side_refusal (H.cause (H.kept c.args.reader.now)) (H.block (H.kept c.args.reader.now)) (H.symbols c.args.reader.now) (H.variables c.args.reader.now)
+    (side_of c.args.rule c.args.number false) tree.left)
     _ c.in_err-left.field-0.0 (first left))
 
 pub returns-in_err-right-clause-condition : goal.returns-in_err-right-clause-condition

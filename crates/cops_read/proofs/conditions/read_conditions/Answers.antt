@@ -27,7 +27,8 @@ conditions-preserved g c = record {
   read = λ cs h.
       let n = next_condition c.args.texts.now cs c.conditions.i c.index-texts-i.result h c.conditions-test.true c.index-texts-i.is in
       let read = rw c.conditions.invariant.kept at (c.in_ok-cond.ensures.condition n.item n.is) in
-      let next = conditions_step (c.conditions.invariant.read cs h) n (g.H.HeadReader.symbols c.read_condition.new.reader) (g.H.HeadReader.variables c.read_condition.new.reader) c.in_ok-cond.cond read in
+      let next = conditions_step (c.conditions.invariant.read cs h) n (g.H.HeadReader.symbols c.read_condition.new.reader) (g.H.HeadReader.variables c.read_condition.new.reader)
+      c.in_ok-cond.cond read in
       rw (add-one, c.push.ensures.items, c.if-is_err.ensures.negation) next;
   kept = c.in_ok-cond.ensures.kept ∙ c.conditions.invariant.kept;
   few = c.in_ok-cond.ensures.few;

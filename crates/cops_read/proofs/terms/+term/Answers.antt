@@ -17,7 +17,8 @@ read_term-returns-in_err-number-clause-term g t c p rest h =
     handed (TermAnswers (H.cause (H.kept c.args.reader.now)) (H.block (H.kept c.args.reader.now)) H.tells (H.symbols c.args.reader.now) (H.variables c.args.reader.now)
     (side_at place) place.depth place.argument place.before p (H.symbols c.read_head.new.self) (H.variables c.read_head.new.self))
     c.in_err-number.field-0.0 c.from_residual.result c.from_residual.ensures.1
-    (head_fails (H.cause (H.kept c.args.reader.now)) (H.block (H.kept c.args.reader.now)) (H.symbols c.args.reader.now) (H.variables c.args.reader.now) (side_at place) place.depth place.argument place.before g.met.H.HeadReader.goes_on
+    (head_fails (H.cause (H.kept c.args.reader.now)) (H.block (H.kept c.args.reader.now)) (H.symbols c.args.reader.now) (H.variables c.args.reader.now)
+    (side_at place) place.depth place.argument place.before g.met.H.HeadReader.goes_on
     p (H.node_of c.in-Some.node.now) c.in_err-number.field-0.0 (here H.node_of c.args.nodes.now place.before c.in-Some.node.now p rest x.3.0 x.1 h)
     c.in_err-number.ensures.head)
 
@@ -27,8 +28,10 @@ read_term-returns-in-Variable-clause-term g t c p rest h =
     let x = c.in-Some.ensures.lookup in
     let place = c.args.place in
     let is = rw c.in-Variable.is at c.in_ok-number.ensures.head in
-    whole_variable (H.cause (H.kept c.args.reader.now)) (H.block (H.kept c.args.reader.now)) (H.symbols c.args.reader.now) (H.variables c.args.reader.now) (side_at place) place.depth place.argument place.before
-    p (H.node_of c.in-Some.node.now) (H.symbols c.read_head.new.self) (H.variables c.read_head.new.self) c.in-Variable.number (here H.node_of c.args.nodes.now place.before c.in-Some.node.now p rest x.3.0 x.1 h) is
+    whole_variable (H.cause (H.kept c.args.reader.now)) (H.block (H.kept c.args.reader.now)) (H.symbols c.args.reader.now) (H.variables c.args.reader.now)
+    (side_at place) place.depth place.argument place.before
+    p (H.node_of c.in-Some.node.now) (H.symbols c.read_head.new.self) (H.variables c.read_head.new.self) c.in-Variable.number
+    (here H.node_of c.args.nodes.now place.before c.in-Some.node.now p rest x.3.0 x.1 h) is
 
 pub read_term-returns-in_err-terms-in-Symbol-clause-term : goal.read_term-returns-in_err-terms-in-Symbol-clause-term
 read_term-returns-in_err-terms-in-Symbol-clause-term g t c p rest h =
@@ -43,7 +46,8 @@ read_term-returns-in_err-terms-in-Symbol-clause-term g t c p rest h =
     handed (TermAnswers (H.cause (H.kept c.args.reader.now)) (H.block (H.kept c.args.reader.now)) H.tells (H.symbols c.args.reader.now) (H.variables c.args.reader.now)
     (side_at place) place.depth place.argument place.before p (H.symbols c.read_arguments.new.reader) (H.variables c.read_arguments.new.reader))
     c.in_err-terms-in-Symbol.field-0.0 c.from_residual-in_err-terms-in-Symbol.result c.from_residual-in_err-terms-in-Symbol.ensures.1
-    (arguments_fail (H.cause (H.kept c.args.reader.now)) (H.block (H.kept c.args.reader.now)) (H.symbols c.args.reader.now) (H.variables c.args.reader.now) (side_at place) place.depth place.argument place.before
+    (arguments_fail (H.cause (H.kept c.args.reader.now)) (H.block (H.kept c.args.reader.now)) (H.symbols c.args.reader.now) (H.variables c.args.reader.now)
+    (side_at place) place.depth place.argument place.before
     g.met.H.HeadReader.goes_on p (H.node_of c.in-Some.node.now) (H.symbols c.read_head.new.self) (H.variables c.read_head.new.self) c.in-Symbol.number c.in_err-terms-in-Symbol.field-0.0 same is read')
 
 pub read_term-returns-in_ok-terms-in-Symbol-clause-term : goal.read_term-returns-in_ok-terms-in-Symbol-clause-term
@@ -56,8 +60,10 @@ read_term-returns-in_ok-terms-in-Symbol-clause-term g t c p rest h =
     let many : c.arguments-count.result ≡ count (arguments_of p) = c.arguments-count.ensures ∙ ap (λ (n : Node). n.arguments) same ∙ count_is p in
     let read = c.in_ok-terms-in-Symbol.ensures.terms (arguments_of p) rest many (later H.node_of c.args.nodes.now place.before p rest h) in
     let read' = rw c.in_ok-number.ensures.kept at read in
-    whole_symbol (H.cause (H.kept c.args.reader.now)) (H.block (H.kept c.args.reader.now)) (H.symbols c.args.reader.now) (H.variables c.args.reader.now) (side_at place) place.depth place.argument place.before
-    p (H.node_of c.in-Some.node.now) (H.symbols c.read_head.new.self) (H.symbols c.read_arguments.new.reader) (H.variables c.read_head.new.self) (H.variables c.read_arguments.new.reader) c.in-Symbol.number c.in_ok-terms-in-Symbol.terms c.in_ok-terms-in-Symbol.next same is read'
+    whole_symbol (H.cause (H.kept c.args.reader.now)) (H.block (H.kept c.args.reader.now)) (H.symbols c.args.reader.now) (H.variables c.args.reader.now)
+    (side_at place) place.depth place.argument place.before
+    p (H.node_of c.in-Some.node.now) (H.symbols c.read_head.new.self) (H.symbols c.read_arguments.new.reader) (H.variables c.read_head.new.self)
+    (H.variables c.read_arguments.new.reader) c.in-Symbol.number c.in_ok-terms-in-Symbol.terms c.in_ok-terms-in-Symbol.next same is read'
 
 pub read_term-unreachable-requires : goal.read_term-unreachable-requires
 read_term-unreachable-requires g t c =
