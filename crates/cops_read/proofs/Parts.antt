@@ -1,10 +1,8 @@
 -- Reading conditions and rules: from the parts to the whole.
-use Rattle.std.proofs.Common.{◌≡◌, ℕ, Bool, false, true, List, [], ◌++◌, map, length, Option, None, Vec, Global, sym, ap, ap₂, subst, ◌∙◌, append-nil}
+use Rattle.std.proofs.Common.{◌≡◌, ℕ, Bool, false, true, List, [], map, length, Option, None, Vec, Global, sym, ap, ap₂, subst, ◌∙◌}
 use Rattle.std.specs.Prelude.{option_map}
 use Rattle.std.specs.Option.{option_or}
-use Rattle.file_text.specs.Syntax.{Phrase, ConditionTree, Guard, RuleTree, conditions_of, flat}
-use Rattle.cops_syntax.specs.View.{nodes_view, IsTerm}
-use Rattle.cops_syntax.specs.declared.tree.Node as program
+use Rattle.file_text.specs.Syntax.{Phrase, ConditionTree, Guard, RuleTree, conditions_of}
 use Rattle.rewriting.specs.Terms as math
 use Rattle.term_core.specs.Prelude.{view, condition_view}
 use Rattle.term_core.specs.declared.terms.Term.{Term}
@@ -12,14 +10,11 @@ use Rattle.term_core.specs.declared.systems.Cond.{Cond}
 use Rattle.cops_read.specs.Meaning.{sides, with_symbols, with_all_symbols, with_variables, with_all_variables, rule_variables, IsTermOf, AreConditionsOf}
 use Rattle.cops_read.specs.Uses.{Side, side_of, Use}
 use Rattle.cops_read.specs.Refusals.{MeaningCause, cause_at}
-use Rattle.cops_read.specs.Walks.{side_refusal, conditions_refusal, IsRead, IsSideRead, IsConditionRead, AreConditionsRead}
+use Rattle.cops_read.specs.Walks.{side_refusal, condition_refusal, conditions_refusal, IsRead, IsSideRead, IsConditionRead, AreConditionsRead}
 use Rattle.cops_read.specs.RuleSteps.{bar_refusal, IsRuleRead}
 use Rattle.cops_names.proofs.Lists.{Extends, extends_trans}
 use Rattle.cops_read.proofs.Firsts.{none_of_both}
 use Rattle.cops_read.proofs.Growth.{symbols_extend, all_symbols_extend, variables_extend, all_variables_extend, term_grows}
-
-pub whole_list : (ns : List program.Node) (p : Phrase) → IsTerm ns p → nodes_view ns ≡ flat p ++ []
-whole_list ns p h = h ∙ sym (append-nil (flat p))
 
 module _ {C : Type 0} {cause : List (List ℕ × ℕ) → List (List ℕ) → Use → Option C} {block : List (List ℕ)} {table : List (List ℕ × ℕ)} {names : List (List ℕ)} where
   pub side_read : {side : Side} {p : Phrase} {after : List (List ℕ × ℕ)} {later : List (List ℕ)} {t : math.Term} {next : ℕ}
@@ -31,6 +26,13 @@ module _ {C : Type 0} {cause : List (List ℕ × ℕ) → List (List ℕ) → Us
     moved : side_refusal cause block middle between (side_of rule number false) c.right
         ≡ side_refusal cause block (with_symbols block table c.left) (with_variables block names c.left) (side_of rule number false) c.right
     moved = ap₂ (λ (x : List (List ℕ × ℕ)) (v : List (List ℕ)). side_refusal cause block x v (side_of rule number false) c.right) h.symbols h.variables
+
+    -- the right side is refused
+    pub right_fails : {E : Type 0} (T : E → Option (C × ℕ) → Type 0) (e : E) → T e (side_refusal cause block middle between (side_of rule number false) c.right)
+        → T e (condition_refusal cause block table names rule number c)
+    right_fails T e t =
+        let right = side_refusal cause block (with_symbols block table c.left) (with_variables block names c.left) (side_of rule number false) c.right in
+        subst (T e) (sym (ap (λ (o : Option (C × ℕ)). option_or o right) h.accepted)) (subst (T e) moved t)
 
     pub both_read : {after : List (List ℕ × ℕ)} {later : List (List ℕ)} {r : math.Term} → IsSideRead cause block middle between (side_of rule number false) c.right after later r
         → IsConditionRead cause block table names rule number c after later (record { left = l; right = r })

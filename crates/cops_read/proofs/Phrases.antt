@@ -1,10 +1,8 @@
 -- Lists of phrases from a place on and up to it, and their identifiers.
-use Rattle.std.proofs.Common.{◌≡◌, ℕ, zero, suc, ◌+◌, ◌<◌, ◌≤◌, true, false, List, [], ◌∷◌, ◌++◌, length, drop, get_or, Some, refl, sym, ap, ◌∙◌, arith, add-one, length-append}
+use Rattle.std.proofs.Common.{◌≡◌, ℕ, zero, suc, ◌+◌, ◌<◌, ◌≤◌, true, false, List, [], ◌∷◌, ◌++◌, length, drop, map, get_or, Some, refl, sym, ap, ◌∙◌, arith, add-one, length-append}
 use Rattle.std.proofs.lemmas.Option.{slice_get_read}
 use Rattle.std.specs.Prelude.{slice_get}
 use Rattle.file_text.specs.Syntax.{Phrase, Phrases, word, call, none, more, with_last, count, Node, flat, flat_all}
-use Rattle.cops_syntax.specs.View.{node_view, nodes_view}
-use Rattle.cops_syntax.specs.declared.tree.Node as program
 use Rattle.cops_read.specs.Walks.{nodes, all_nodes}
 
 -- the first identifier of a phrase, and its arguments
@@ -69,45 +67,46 @@ taken_all (more t ts) zero l = absurd (omega arith)
 taken_all (more t ts) (suc i) l = ap (more t) (taken_all ts i (omega arith))
 
 -- identifiers of the program, from a place on
-head_is : (ns : List program.Node) (i : ℕ) (n : program.Node) (p : Phrase) (rest : List Node) → slice_get ns i ≡ Some n → nodes_view (drop i ns) ≡ flat p ++ rest → node_view n ≡ head_of p
-head_is [] i n p rest e h = cc
-head_is (m ∷ ns) zero n p rest e h =
-    let h' : node_view m ∷ nodes_view ns ≡ head_of p ∷ (flat_all (arguments_of p) ++ rest) = h ∙ ap (λ (xs : List Node). xs ++ rest) (flat_is p) in
-    let same : m ≡ n = cc in
-    ap node_view (sym same) ∙ (let first : node_view m ≡ head_of p = cc in first)
-head_is (m ∷ ns) (suc i) n p rest e h = head_is ns i n p rest e h
+module _ {N : Type 0} (node : N → Node) where
+  head_is : (ns : List N) (i : ℕ) (n : N) (p : Phrase) (rest : List Node) → slice_get ns i ≡ Some n → map node (drop i ns) ≡ flat p ++ rest → node n ≡ head_of p
+  head_is [] i n p rest e h = cc
+  head_is (m ∷ ns) zero n p rest e h =
+      let h' : node m ∷ map node ns ≡ head_of p ∷ (flat_all (arguments_of p) ++ rest) = h ∙ ap (λ (xs : List Node). xs ++ rest) (flat_is p) in
+      let same : m ≡ n = cc in
+      ap node (sym same) ∙ (let first : node m ≡ head_of p = cc in first)
+  head_is (m ∷ ns) (suc i) n p rest e h = head_is ns i n p rest e h
 
-behind_head : (ns : List program.Node) (i : ℕ) (p : Phrase) (rest : List Node) → nodes_view (drop i ns) ≡ flat p ++ rest → nodes_view (drop (suc i) ns) ≡ flat_all (arguments_of p) ++ rest
-behind_head [] zero p rest h = absurd (let h' : [] ≡ head_of p ∷ (flat_all (arguments_of p) ++ rest) = h ∙ ap (λ (xs : List Node). xs ++ rest) (flat_is p) in cc)
-behind_head [] (suc i) p rest h = absurd (let h' : [] ≡ head_of p ∷ (flat_all (arguments_of p) ++ rest) = h ∙ ap (λ (xs : List Node). xs ++ rest) (flat_is p) in cc)
-behind_head (m ∷ ns) zero p rest h =
-    let h' : node_view m ∷ nodes_view ns ≡ head_of p ∷ (flat_all (arguments_of p) ++ rest) = h ∙ ap (λ (xs : List Node). xs ++ rest) (flat_is p) in
-    let behind_it : nodes_view ns ≡ flat_all (arguments_of p) ++ rest = cc in behind_it
-behind_head (m ∷ ns) (suc i) p rest h = behind_head ns i p rest h
+  behind_head : (ns : List N) (i : ℕ) (p : Phrase) (rest : List Node) → map node (drop i ns) ≡ flat p ++ rest → map node (drop (suc i) ns) ≡ flat_all (arguments_of p) ++ rest
+  behind_head [] zero p rest h = absurd (let h' : [] ≡ head_of p ∷ (flat_all (arguments_of p) ++ rest) = h ∙ ap (λ (xs : List Node). xs ++ rest) (flat_is p) in cc)
+  behind_head [] (suc i) p rest h = absurd (let h' : [] ≡ head_of p ∷ (flat_all (arguments_of p) ++ rest) = h ∙ ap (λ (xs : List Node). xs ++ rest) (flat_is p) in cc)
+  behind_head (m ∷ ns) zero p rest h =
+      let h' : node m ∷ map node ns ≡ head_of p ∷ (flat_all (arguments_of p) ++ rest) = h ∙ ap (λ (xs : List Node). xs ++ rest) (flat_is p) in
+      let behind_it : map node ns ≡ flat_all (arguments_of p) ++ rest = cc in behind_it
+  behind_head (m ∷ ns) (suc i) p rest h = behind_head ns i p rest h
 
--- the identifier at a place is the first of the phrase
-pub here : (ns : List program.Node) (i : ℕ) (n : program.Node) (p : Phrase) (rest : List Node) → i < length ns → n ≡ get_or ns i n → nodes_view (drop i ns) ≡ flat p ++ rest → node_view n ≡ head_of p
-here ns i n p rest l e h = head_is ns i n p rest (slice_get_read ns (length ns) i n refl l e) h
+  -- the identifier at a place is the first of the phrase
+  pub here : (ns : List N) (i : ℕ) (n : N) (p : Phrase) (rest : List Node) → i < length ns → n ≡ get_or ns i n → map node (drop i ns) ≡ flat p ++ rest → node n ≡ head_of p
+  here ns i n p rest l e h = head_is ns i n p rest (slice_get_read ns (length ns) i n refl l e) h
 
-pub later : (ns : List program.Node) (i : ℕ) (p : Phrase) (rest : List Node) → nodes_view (drop i ns) ≡ flat p ++ rest → nodes_view (drop (i + 1) ns) ≡ flat_all (arguments_of p) ++ rest
-later ns i p rest h = rw add-one (behind_head ns i p rest h)
+  pub later : (ns : List N) (i : ℕ) (p : Phrase) (rest : List Node) → map node (drop i ns) ≡ flat p ++ rest → map node (drop (i + 1) ns) ≡ flat_all (arguments_of p) ++ rest
+  later ns i p rest h = rw add-one (behind_head ns i p rest h)
 
--- behind a list of identifiers the rest follows
-pub behind : (ns : List program.Node) (i : ℕ) (xs rest : List Node) → nodes_view (drop i ns) ≡ xs ++ rest → nodes_view (drop (i + length xs) ns) ≡ rest
-behind ns i [] rest h = rw (let e : i + 0 ≡ i = omega arith in e) h
-behind [] zero (x ∷ xs) rest h = cc
-behind [] (suc i) (x ∷ xs) rest h = cc
-behind (n ∷ ns) zero (x ∷ xs) rest h =
-    let later : nodes_view ns ≡ xs ++ rest = cc in
-    let e : 0 + suc (length xs) ≡ suc (0 + length xs) = omega arith in
-    rw e (behind ns 0 xs rest later)
-behind (n ∷ ns) (suc i) (x ∷ xs) rest h =
-    let e : suc i + suc (length xs) ≡ suc (i + suc (length xs)) = omega arith in
-    rw e (behind ns i (x ∷ xs) rest h)
+  -- behind a list of identifiers the rest follows
+  pub behind : (ns : List N) (i : ℕ) (xs rest : List Node) → map node (drop i ns) ≡ xs ++ rest → map node (drop (i + length xs) ns) ≡ rest
+  behind ns i [] rest h = rw (let e : i + 0 ≡ i = omega arith in e) h
+  behind [] zero (x ∷ xs) rest h = cc
+  behind [] (suc i) (x ∷ xs) rest h = cc
+  behind (n ∷ ns) zero (x ∷ xs) rest h =
+      let later : map node ns ≡ xs ++ rest = cc in
+      let e : 0 + suc (length xs) ≡ suc (0 + length xs) = omega arith in
+      rw e (behind ns 0 xs rest later)
+  behind (n ∷ ns) (suc i) (x ∷ xs) rest h =
+      let e : suc i + suc (length xs) ≡ suc (i + suc (length xs)) = omega arith in
+      rw e (behind ns i (x ∷ xs) rest h)
 
--- a phrase has a first identifier
-pub stands_within : (ns : List program.Node) (i : ℕ) (p : Phrase) (rest : List Node) → nodes_view (drop i ns) ≡ flat p ++ rest → i < length ns
-stands_within [] zero p rest h = absurd (let h' : [] ≡ head_of p ∷ (flat_all (arguments_of p) ++ rest) = h ∙ ap (λ (xs : List Node). xs ++ rest) (flat_is p) in cc)
-stands_within [] (suc i) p rest h = absurd (let h' : [] ≡ head_of p ∷ (flat_all (arguments_of p) ++ rest) = h ∙ ap (λ (xs : List Node). xs ++ rest) (flat_is p) in cc)
-stands_within (n ∷ ns) zero p rest h = omega arith
-stands_within (n ∷ ns) (suc i) p rest h = let l = stands_within ns i p rest h in omega (arith, l)
+  -- a phrase has a first identifier
+  pub stands_within : (ns : List N) (i : ℕ) (p : Phrase) (rest : List Node) → map node (drop i ns) ≡ flat p ++ rest → i < length ns
+  stands_within [] zero p rest h = absurd (let h' : [] ≡ head_of p ∷ (flat_all (arguments_of p) ++ rest) = h ∙ ap (λ (xs : List Node). xs ++ rest) (flat_is p) in cc)
+  stands_within [] (suc i) p rest h = absurd (let h' : [] ≡ head_of p ∷ (flat_all (arguments_of p) ++ rest) = h ∙ ap (λ (xs : List Node). xs ++ rest) (flat_is p) in cc)
+  stands_within (n ∷ ns) zero p rest h = omega arith
+  stands_within (n ∷ ns) (suc i) p rest h = let l = stands_within ns i p rest h in omega (arith, l)

@@ -13,13 +13,14 @@ use Rattle.cops_read.specs.Meaning.{sides, phrases_of_rule, with_symbols, with_a
 use Rattle.cops_read.specs.Meaning.{IsRuleOf, AreRulesOf}
 use Rattle.cops_read.specs.Refusals.{MeaningCause}
 use Rattle.cops_read.specs.Steps.{Tells}
+use Rattle.cops_read.specs.Told.{told}
 use Rattle.cops_read.specs.Uses.{Use}
-use Rattle.cops_read.specs.Walks.{condition_refusal, conditions_refusal, IsConditionRead, AreConditionsRead}
+use Rattle.cops_read.specs.Walks.{condition_refusal, conditions_refusal, IsConditionRead, AreConditionsRead, GoesOn}
 use Rattle.cops_read.specs.RuleSteps.{rule_refusal, rules_refusal, IsRuleRead, AreNumbersOf, AreRulesRead}
 use Rattle.cops_read.specs.declared.errors.ReadError.{ReadError}
 use Rattle.cops_names.proofs.Lists.{Extends, extends_trans}
 use Rattle.cops_read.proofs.Growth.{symbols_extend, all_symbols_extend, variables_extend, conditions_grow, rules_grow}
-use Rattle.cops_read.proofs.Tells.{GoesOn, tells_here, told}
+use Rattle.cops_read.proofs.Tells.{tells_here}
 
 -- the part of a list at a place
 pub record IsNext {A : Type 0} (P : A → Type 0) (xs : List A) (i : ℕ) : Type 0 where

@@ -1,45 +1,20 @@
 -- Reading a term, whatever is refused: from an identifier and its arguments to the whole.
-use Rattle.std.proofs.Common.{◌≡◌, ℕ, suc, ◌+◌, ◌≤◌, true, false, List, [], ◌∷◌, ◌++◌, drop, Option, Some, None, Vec, Global, refl, sym, ap, ap₂, subst, ◌∙◌, arith, append_assoc}
-use Rattle.std.specs.Prelude.{option_map, slice_get}
+use Rattle.std.proofs.Common.{◌≡◌, ℕ, suc, ◌+◌, ◌≤◌, List, [], ◌∷◌, ◌++◌, drop, map, Option, None, Vec, Global, refl, sym, ap, ap₂, subst, ◌∙◌, arith, append_assoc}
 use Rattle.std.specs.Option.{option_or}
 use Rattle.file_text.specs.Syntax.{Phrase, Phrases, word, call, none, more, with_last, count, Node, flat, flat_all}
-use Rattle.cops_syntax.specs.View.{nodes_view}
-use Rattle.cops_syntax.specs.declared.tree.Node as program
 use Rattle.rewriting.specs.Terms as math
 use Rattle.rewriting.specs.Terms.{var, app, nil, cons}
 use Rattle.term_core.specs.View.{view, views}
 use Rattle.term_core.specs.declared.terms.Term.{Term, Var, Fun}
 use Rattle.term_core.proofs.Views.{view-Var, view-Fun}
-use Rattle.cops_names.specs.NameTable.{number_of}
-use Rattle.cops_names.specs.NameLists.{is_among, name_index, with_name}
 use Rattle.cops_read.specs.Meaning.{with_symbol, with_symbols, with_all_symbols, with_variables, with_all_variables, IsTermOf, AreTermsOf}
 use Rattle.cops_read.specs.Uses.{Side, Use}
 use Rattle.cops_read.specs.Refusals.{first_or}
-use Rattle.cops_read.specs.Walks.{nodes, all_nodes, use_at, term_refusal, terms_refusal, IsRead, AreRead}
+use Rattle.cops_read.specs.Walks.{nodes, all_nodes, use_at, term_refusal, terms_refusal, IsVariable, IsSymbol, IsRead, AreRead, GoesOn}
 use Rattle.cops_names.proofs.Lists.{Extends}
 use Rattle.cops_read.proofs.Growth.{symbols_extend, all_symbols_extend, variables_extend, symbol_grows, terms_grow}
-use Rattle.cops_read.proofs.Tells.{GoesOn, tells_at, tells_behind, tells_here}
+use Rattle.cops_read.proofs.Tells.{tells_at, tells_behind, tells_here}
 use Rattle.cops_read.proofs.Phrases.{head_of, arguments_of, flat_length, drop_phrases, take_phrases, IsNext, dropped_all, taken_all, behind}
-
--- an identifier that is not refused is a variable, with its number
-pub record IsVariable {C : Type 0} (cause : List (List ℕ × ℕ) → List (List ℕ) → Use → Option C) (block : List (List ℕ)) (table : List (List ℕ × ℕ)) (names : List (List ℕ)) (u : Use)
-    (after : List (List ℕ × ℕ)) (later : List (List ℕ)) (x : ℕ) : Type 0 where
-  pub accepted : cause table names u ≡ None
-  pub known : is_among block u.spot.node.name.text ≡ true
-  pub bare : u.spot.node.brackets ≡ false
-  pub symbols : after ≡ table
-  pub variables : later ≡ with_name names u.spot.node.name.text
-  pub number : name_index later u.spot.node.name.text ≡ Some x
-
--- or a symbol, with its number and its arity
-pub record IsSymbol {C : Type 0} (cause : List (List ℕ × ℕ) → List (List ℕ) → Use → Option C) (block : List (List ℕ)) (table : List (List ℕ × ℕ)) (names : List (List ℕ)) (u : Use)
-    (after : List (List ℕ × ℕ)) (later : List (List ℕ)) (f : ℕ) : Type 0 where
-  pub accepted : cause table names u ≡ None
-  pub known : is_among block u.spot.node.name.text ≡ false
-  pub symbols : after ≡ with_symbol table u.spot.node.name.text u.spot.node.arguments
-  pub variables : later ≡ names
-  pub number : number_of after u.spot.node.name.text ≡ Some f
-  pub arity : option_map (λ s. s.1) (slice_get after f) ≡ Some u.spot.node.arguments
 
 pub terms_end : (block : List (List ℕ)) (table : List (List ℕ × ℕ)) (names : List (List ℕ)) (ps : Phrases) (ts : List Term) (p : Phrase) (t : Term) → AreTermsOf block table names ps (views ts)
     → IsTermOf block table names p (view t) → AreTermsOf block table names (with_last ps p) (views (ts ++ t ∷ []))
@@ -141,20 +116,20 @@ module _ {C : Type 0} (cause : List (List ℕ × ℕ) → List (List ℕ) → Us
         (symbol_read p middle after later f (views terms.items) next h'' r')
 
   -- what a loop over phrases keeps
-  pub record Loop (table : List (List ℕ × ℕ)) (names : List (List ℕ)) (side : Side) (depth start : ℕ) (ns : List program.Node) (ps : Phrases) (rest : List Node) (i : ℕ)
+  pub record Loop (table : List (List ℕ × ℕ)) (names : List (List ℕ)) (side : Side) (depth start : ℕ) {N : Type 0} (node : N → Node) (ns : List N) (ps : Phrases) (rest : List Node) (i : ℕ)
       (now : List (List ℕ × ℕ)) (later : List (List ℕ)) (terms : List Term) (before : ℕ) : Type 0 where
     pub refusal : terms_refusal cause block now later side depth (i + 1) before (drop_phrases i ps) ≡ terms_refusal cause block table names side depth 1 start ps
     pub symbols : with_all_symbols block now (drop_phrases i ps) ≡ with_all_symbols block table ps
     pub variables : with_all_variables block later (drop_phrases i ps) ≡ with_all_variables block names ps
     pub mean : AreTermsOf block now later (take_phrases i ps) (views terms)
     pub end : before + all_nodes (drop_phrases i ps) ≡ start + all_nodes ps
-    pub nodes_left : nodes_view (drop before ns) ≡ flat_all (drop_phrases i ps) ++ rest
+    pub nodes_left : map node (drop before ns) ≡ flat_all (drop_phrases i ps) ++ rest
 
 module _ {C : Type 0} {cause : List (List ℕ × ℕ) → List (List ℕ) → Use → Option C} {block : List (List ℕ)} {table : List (List ℕ × ℕ)} {names : List (List ℕ)} {side : Side} {depth start : ℕ}
-    {ns : List program.Node} {ps : Phrases} {rest : List Node} {i : ℕ} {now : List (List ℕ × ℕ)} {later : List (List ℕ)} {terms : List Term} {before : ℕ}
-    (h : Loop cause block table names side depth start ns ps rest i now later terms before) where
+    {N : Type 0} {node : N → Node} {ns : List N} {ps : Phrases} {rest : List Node} {i : ℕ} {now : List (List ℕ × ℕ)} {later : List (List ℕ)} {terms : List Term} {before : ℕ}
+    (h : Loop cause block table names side depth start node ns ps rest i now later terms before) where
   -- where the next phrase stands
-  pub nodes_here : (n : IsNext ps i) → nodes_view (drop before ns) ≡ flat n.phrase ++ (flat_all (drop_phrases (suc i) ps) ++ rest)
+  pub nodes_here : (n : IsNext ps i) → map node (drop before ns) ≡ flat n.phrase ++ (flat_all (drop_phrases (suc i) ps) ++ rest)
   nodes_here n = h.nodes_left ∙ ap (λ (qs : Phrases). flat_all qs ++ rest) n.later ∙ append_assoc (flat n.phrase) (flat_all (drop_phrases (suc i) ps)) rest
 
   pub loop_fails : {E : Type 0} {T : E → Option (C × ℕ) → Type 0} (goes_on : GoesOn T) (n : IsNext ps i) (e : E)
@@ -165,7 +140,7 @@ module _ {C : Type 0} {cause : List (List ℕ × ℕ) → List (List ℕ) → Us
 
   pub loop_step : (n : IsNext ps i) (after : List (List ℕ × ℕ)) (latest : List (List ℕ)) (t : Term) (next : ℕ)
       → IsRead cause block now later side depth (i + 1) before n.phrase after latest (view t) next
-      → Loop cause block table names side depth start ns ps rest (suc i) after latest (terms ++ t ∷ []) next
+      → Loop cause block table names side depth start node ns ps rest (suc i) after latest (terms ++ t ∷ []) next
   loop_step n after latest t next r =
       let left = drop_phrases (suc i) ps in
       let grown : Extends now after = subst (λ (x : List (List ℕ × ℕ)). Extends now x) (sym r.symbols) (symbols_extend block now n.phrase) in
@@ -187,8 +162,8 @@ module _ {C : Type 0} {cause : List (List ℕ × ℕ) → List (List ℕ) → Us
         mean = subst (λ (qs : Phrases). AreTermsOf block after latest qs (views (terms ++ t ∷ []))) (sym n.front)
             (terms_end block after latest (take_phrases i ps) terms n.phrase t (terms_grow block now later after latest (take_phrases i ps) (views terms) grown grown_names h.mean) r.means);
         end = omega arith;
-        nodes_left = subst (λ (k : ℕ). nodes_view (drop k ns) ≡ flat_all left ++ rest) (ap (λ (k : ℕ). before + k) (flat_length n.phrase) ∙ sym r.end)
-            (behind ns before (flat n.phrase) (flat_all left ++ rest) (nodes_here n));
+        nodes_left = subst (λ (k : ℕ). map node (drop k ns) ≡ flat_all left ++ rest) (ap (λ (k : ℕ). before + k) (flat_length n.phrase) ∙ sym r.end)
+            (behind node ns before (flat n.phrase) (flat_all left ++ rest) (nodes_here n));
       }
 
   pub loop_end : count ps ≤ i → AreRead cause block table names side depth 1 start ps now later (views terms) before

@@ -1,17 +1,15 @@
 -- What the reader of one identifier answers.
-use Rattle.std.specs.Prelude.{◌≡◌, ◌<◌, ◌≤◌, ℕ, true, false, List, Option, Some, None, Result, Ok, Err, option_map, slice_get}
+use Rattle.std.specs.Prelude.{◌≡◌, ◌<◌, ◌≤◌, ℕ, List, Option, Some, None, Result, Ok, Err, option_map, slice_get}
 use Rattle.file_text.specs.Syntax.{Node}
 use Rattle.cops_names.specs.NameTable.{number_of}
-use Rattle.cops_names.specs.NameLists.{is_among, name_index, with_name}
+use Rattle.cops_names.specs.NameLists.{name_index, with_name}
 use Rattle.cops_read.specs.Meaning.{with_symbol}
 use Rattle.cops_read.specs.Uses.{Side, side_of, Use}
-use Rattle.cops_read.specs.Refusals.{MeaningCause, limit_cause, variable_cause, symbol_cause, cause_at, first_or}
+use Rattle.cops_read.specs.Refusals.{MeaningCause, variable_cause, symbol_cause, first_or}
 use Rattle.cops_read.specs.Counts.{most_of}
 use Rattle.cops_read.specs.Walks.{use_at}
 use Rattle.cops_read.specs.Steps.{Tells}
 use Rattle.cops_read.specs.declared.heads.NodePlace.{NodePlace}
-use Rattle.cops_read.specs.declared.heads.VariableOrSymbol.{VariableOrSymbol}
-use Rattle.cops_read.specs.declared.heads.VariableOrSymbol.TheVariants.{Variable, Symbol}
 use Rattle.cops_read.specs.declared.errors.Count.{Count}
 use Rattle.cops_read.specs.declared.errors.ReadError.{ReadError}
 use Rattle.cops_read.specs.declared.errors.ReadError.TheVariants.{TooMany}
@@ -57,14 +55,3 @@ pub record IsSymbolUsed (table : List (List ℕ × ℕ)) (u : Use) (after : List
 abbrev pub SymbolAnswers : List (List ℕ × ℕ) → Use → List (List ℕ × ℕ) → Result ℕ ReadError → Type 0
 SymbolAnswers table u after (Ok f) = IsSymbolUsed table u after f
 SymbolAnswers table u after (Err e) = Tells e (first_or (symbol_cause table u) u.spot.node.name.at None)
-
--- Of the identifiers, those of the block are variables.
-module _ (block : List (List ℕ)) where
-  -- a variable or a symbol
-  abbrev pub IsHead : List (List ℕ × ℕ) → List (List ℕ) → Use → List (List ℕ × ℕ) → List (List ℕ) → VariableOrSymbol → Type 0
-  IsHead table names u after later (Variable x) = (is_among block u.spot.node.name.text ≡ true) × (after ≡ table) × IsVariableUsed names u later x
-  IsHead table names u after later (Symbol f) = (is_among block u.spot.node.name.text ≡ false) × (later ≡ names) × IsSymbolUsed table u after f
-
-  abbrev pub HeadAnswers : List (List ℕ × ℕ) → List (List ℕ) → Use → List (List ℕ × ℕ) → List (List ℕ) → Result VariableOrSymbol ReadError → Type 0
-  HeadAnswers table names u after later (Ok head) = (limit_cause u ≡ None) × IsHead table names u after later head
-  HeadAnswers table names u after later (Err e) = Tells e (first_or (cause_at block table names u) u.spot.node.name.at None)

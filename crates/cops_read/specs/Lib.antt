@@ -7,6 +7,7 @@ pub mod File
 pub mod Counts
 pub mod Walks
 pub mod Steps
+pub mod Told
 pub mod RuleSteps
 pub mod Heads
 pub mod Texts

@@ -6,8 +6,6 @@ use Rattle.std.specs.Global.{Vec}
 use Rattle.file_text.specs.Syntax.{Phrase, ConditionTree, RuleTree, conditions_of, FileTree}
 use Rattle.rewriting.specs.Rules as rules
 use Rattle.term_core.specs.Prelude.{rule_view}
-use Rattle.term_core.specs.declared.terms.Term.{Term}
-use Rattle.term_core.specs.declared.systems.Cond.{Cond}
 use Rattle.term_core.specs.declared.systems.Rule.{Rule}
 use Rattle.cops_read.specs.Meaning.{phrases_of_rule, with_symbols, with_all_symbols, with_variables, with_rule_symbols, rule_variables}
 use Rattle.cops_read.specs.Meaning.{IsRuleOf, AreRulesOf}
@@ -53,15 +51,6 @@ module _ (block : List (List ℕ)) where
   rules_refusal typed table number [] = None
   rules_refusal typed table number (r ∷ rs) =
       option_or (rule_refusal typed table number r) (rules_refusal typed (with_all_symbols block table (phrases_of_rule r)) (number + 1) rs)
-
-  abbrev pub SideAnswers : List (List ℕ × ℕ) → List (List ℕ) → Side → Phrase → List (List ℕ × ℕ) → List (List ℕ) → Result Term ReadError → Type 0
-  SideAnswers = walks.SideAnswers (cause_at block) block Tells
-
-  abbrev pub ConditionAnswers : List (List ℕ × ℕ) → List (List ℕ) → ℕ → ℕ → ConditionTree → List (List ℕ × ℕ) → List (List ℕ) → Result Cond ReadError → Type 0
-  ConditionAnswers = walks.ConditionAnswers (cause_at block) block Tells
-
-  abbrev pub ConditionsAnswers : List (List ℕ × ℕ) → List (List ℕ) → ℕ → List ConditionTree → List (List ℕ × ℕ) → List (List ℕ) → Result (Vec Cond) ReadError → Type 0
-  ConditionsAnswers = walks.ConditionsAnswers (cause_at block) block Tells
 
   -- a rule was read: its symbols, the names of its variables, and what it means
   pub record IsRuleRead (typed : Bool) (table : List (List ℕ × ℕ)) (number : ℕ) (tree : RuleTree) (after : List (List ℕ × ℕ)) (later : List (List ℕ)) (r : Rule) : Type 0 where

@@ -1,8 +1,6 @@
 -- What the parts of the reader answer: the first refusal in what they read, or what it adds to the tables and means.
-use Rattle.std.specs.Prelude.{◌≡◌, ℕ, List, Option, Some, Result}
-use Rattle.std.specs.Global.{Vec}
+use Rattle.std.specs.Prelude.{◌≡◌, ℕ, List, Option, Some}
 use Rattle.file_text.specs.Syntax.{Phrase, Phrases}
-use Rattle.term_core.specs.declared.terms.Term.{Term}
 use Rattle.cops_read.specs.Uses.{Side}
 use Rattle.cops_read.specs.Refusals.{MeaningCause, conditions_without_type, too_deep, variable_with_arguments, left_variable, arity_differs, cause_at}
 use Rattle.cops_read.specs.Walks as walks
@@ -40,12 +38,6 @@ module _ (block : List (List ℕ)) where
 
   abbrev pub terms_refusal : List (List ℕ × ℕ) → List (List ℕ) → Side → ℕ → ℕ → ℕ → Phrases → Option (MeaningCause × ℕ)
   terms_refusal = walks.terms_refusal (cause_at block) block
-
-  abbrev pub TermAnswers : List (List ℕ × ℕ) → List (List ℕ) → Side → ℕ → ℕ → ℕ → Phrase → List (List ℕ × ℕ) → List (List ℕ) → Result (Term × ℕ) ReadError → Type 0
-  TermAnswers = walks.TermAnswers (cause_at block) block Tells
-
-  abbrev pub ArgumentsAnswers : List (List ℕ × ℕ) → List (List ℕ) → Side → ℕ → ℕ → Phrases → List (List ℕ × ℕ) → List (List ℕ) → Result (Vec Term × ℕ) ReadError → Type 0
-  ArgumentsAnswers = walks.ArgumentsAnswers (cause_at block) block Tells
 
 -- what the refusal of a text is to the reader of its tree
 abbrev pub refused_at : SyntaxRefusal → ℕ → ReadError

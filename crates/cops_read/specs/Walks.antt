@@ -1,5 +1,5 @@
 -- What the parts of a reader of terms and conditions answer, whatever it refuses: the first refusal in what they read, or what it adds to the tables and means.
-use Rattle.std.specs.Prelude.{◌≡◌, ℕ, suc, ◌+◌, true, false, List, [], ◌∷◌, map, Option, None, Result, Ok, Err}
+use Rattle.std.specs.Prelude.{◌≡◌, ℕ, suc, ◌+◌, true, false, List, [], ◌∷◌, map, Option, Some, None, option_map, slice_get, Result, Ok, Err}
 use Rattle.std.specs.Global.{Vec}
 use Rattle.std.specs.Option.{option_or}
 use Rattle.file_text.specs.Syntax.{Phrase, Phrases, word, call, none, more, count, Node, ConditionTree}
@@ -8,9 +8,13 @@ use Rattle.rewriting.specs.Rules as rules
 use Rattle.term_core.specs.Prelude.{view, views, condition_view}
 use Rattle.term_core.specs.declared.terms.Term.{Term}
 use Rattle.term_core.specs.declared.systems.Cond.{Cond}
+use Rattle.cops_names.specs.NameTable.{number_of}
+use Rattle.cops_names.specs.NameLists.{is_among, name_index, with_name}
 use Rattle.cops_read.specs.Meaning.{with_symbol, with_symbols, with_all_symbols, with_variables, with_all_variables, sides, IsTermOf, AreTermsOf, AreConditionsOf}
 use Rattle.cops_read.specs.Uses.{Side, side_of, Use}
 use Rattle.cops_read.specs.Refusals.{first_or}
+use Rattle.cops_read.specs.declared.heads.VariableOrSymbol.{VariableOrSymbol}
+use Rattle.cops_read.specs.declared.heads.VariableOrSymbol.TheVariants.{Variable, Symbol}
 
 -- the number of identifiers
 abbrev mutual
@@ -60,6 +64,24 @@ module _ {C : Type 0} (cause : List (List ℕ × ℕ) → List (List ℕ) → Us
       option_or (condition_refusal table names rule number c)
       (conditions_refusal (with_symbols block (with_symbols block table c.left) c.right) (with_variables block (with_variables block names c.left) c.right) rule (number + 1) cs)
 
+  -- an identifier that is not refused is a variable, with its number
+  pub record IsVariable (table : List (List ℕ × ℕ)) (names : List (List ℕ)) (u : Use) (after : List (List ℕ × ℕ)) (later : List (List ℕ)) (x : ℕ) : Type 0 where
+    pub accepted : cause table names u ≡ None
+    pub known : is_among block u.spot.node.name.text ≡ true
+    pub bare : u.spot.node.brackets ≡ false
+    pub symbols : after ≡ table
+    pub variables : later ≡ with_name names u.spot.node.name.text
+    pub number : name_index later u.spot.node.name.text ≡ Some x
+
+  -- or a symbol, with its number and its arity
+  pub record IsSymbol (table : List (List ℕ × ℕ)) (names : List (List ℕ)) (u : Use) (after : List (List ℕ × ℕ)) (later : List (List ℕ)) (f : ℕ) : Type 0 where
+    pub accepted : cause table names u ≡ None
+    pub known : is_among block u.spot.node.name.text ≡ false
+    pub symbols : after ≡ with_symbol table u.spot.node.name.text u.spot.node.arguments
+    pub variables : later ≡ names
+    pub number : number_of after u.spot.node.name.text ≡ Some f
+    pub arity : option_map (λ s. s.1) (slice_get after f) ≡ Some u.spot.node.arguments
+
   -- a phrase was read: what it adds to the symbols and the variables, what it means, and the identifiers up to its end
   pub record IsRead (table : List (List ℕ × ℕ)) (names : List (List ℕ)) (side : Side) (depth argument before : ℕ) (p : Phrase) (after : List (List ℕ × ℕ))
       (later : List (List ℕ)) (t : math.Term) (next : ℕ) : Type 0 where
@@ -104,6 +126,11 @@ module _ {C : Type 0} (cause : List (List ℕ × ℕ) → List (List ℕ) → Us
 
   -- What an error tells is a refusal, or none.
   module _ {E : Type 0} (Tells : E → Option (C × ℕ) → Type 0) where
+    abbrev pub HeadAnswers : List (List ℕ × ℕ) → List (List ℕ) → Use → List (List ℕ × ℕ) → List (List ℕ) → Result VariableOrSymbol E → Type 0
+    HeadAnswers table names u after later (Ok (Variable x)) = IsVariable table names u after later x
+    HeadAnswers table names u after later (Ok (Symbol f)) = IsSymbol table names u after later f
+    HeadAnswers table names u after later (Err e) = Tells e (first_or (cause table names u) u.spot.node.name.at None)
+
     abbrev pub TermAnswers : List (List ℕ × ℕ) → List (List ℕ) → Side → ℕ → ℕ → ℕ → Phrase → List (List ℕ × ℕ) → List (List ℕ) → Result (Term × ℕ) E → Type 0
     TermAnswers table names side depth argument before p after later (Ok r) = IsRead table names side depth argument before p after later (view r.0) r.1
     TermAnswers table names side depth argument before p after later (Err e) = Tells e (term_refusal table names side depth argument before p)
@@ -123,3 +150,7 @@ module _ {C : Type 0} (cause : List (List ℕ × ℕ) → List (List ℕ) → Us
     abbrev pub ConditionsAnswers : List (List ℕ × ℕ) → List (List ℕ) → ℕ → List ConditionTree → List (List ℕ × ℕ) → List (List ℕ) → Result (Vec Cond) E → Type 0
     ConditionsAnswers table names rule cs after later (Ok v) = AreConditionsRead table names rule cs after later (map condition_view v.items)
     ConditionsAnswers table names rule cs after later (Err e) = Tells e (conditions_refusal table names rule 1 cs)
+
+-- what is told goes on where the refusal stays
+pub record GoesOn {C E : Type 0} (T : E → Option (C × ℕ) → Type 0) : Type 0 where
+  pub stays : (o others : Option (C × ℕ)) → ((r : C × ℕ) → o ≡ Some r → others ≡ Some r) → (e : E) → T e o → T e others

@@ -1,14 +1,15 @@
 //! The variable or symbol that an identifier of a term means: new names are numbered as they come, within the limits of a file.
-ghost use Rattle.std.specs.Prelude.{◌≡◌, ◌+◌, ◌<◌, ◌≤◌, ◌^◌, OnOk, length};
+ghost use Rattle.std.specs.Prelude.{◌≡◌, ◌+◌, ◌<◌, ◌≤◌, ◌^◌, ℕ, List, Option, OnOk, length};
 ghost use Rattle.cops_syntax.specs.View.{node_view};
 ghost use Rattle.cops_read.specs.Bounds.{most_variables};
 ghost use Rattle.cops_read.specs.Refusals.{limit_cause};
-ghost use Rattle.cops_read.specs.Heads.{used_at, WithinAnswers, RoomAnswers, CauseAnswers, VariableAnswers, SymbolAnswers, HeadAnswers};
+ghost use Rattle.cops_read.specs.Heads.{used_at, WithinAnswers, RoomAnswers, CauseAnswers, VariableAnswers, SymbolAnswers};
 
 use crate::block::Block;
 use crate::errors::{Count, ReadError};
 use crate::limits::MOST_DEPTH;
 use crate::read_names::ReadNames;
+use crate::terms::HeadReader;
 use cops_names::NameSet;
 use cops_syntax::Node;
 use std::alloc::Global;
@@ -131,26 +132,59 @@ fn read_symbol(
     Ok(number)
 }
 
-// The variable or the symbol that stands at a place.
-pub(crate) fn read_head<'a>(
-    alloc: Global,
-    scope: &mut Scope<'a>,
-    node: &Node<'a>,
-    place: NodePlace,
-) -> Result<VariableOrSymbol, ReadError>
-    requires place { place.before + 1 < 2 ^ 64 }
-    requires few { length scope.old.variables ≤ most_variables }
-    ensures head { HeadAnswers scope.old.block scope.old.names.symbols scope.old.variables (used_at place (node_view node.now)) scope.new.names.symbols scope.new.variables result }
-    ensures block { scope.new.block ≡ scope.old.block }
-    ensures rules { scope.new.names.variables ≡ scope.old.names.variables }
-    ensures few { OnOk result (length scope.new.variables ≤ most_variables) }
-{
-    within_limits(node, place)?;
-    let name = node.name.text;
-    if scope.block.has(name) {
-        let number = read_variable(&mut scope.variables, node, place, name)?;
-        return Ok(VariableOrSymbol::Variable(number));
+impl<'a> HeadReader for Scope<'a> {
+    type Node = Node<'a>;
+
+    type Error = ReadError;
+
+    ghost use Rattle.cops_syntax.specs.View.{node_view};
+    ghost use Rattle.cops_read.specs.Refusals.{MeaningCause, cause_at};
+    ghost use Rattle.cops_read.specs.Steps.{Tells};
+    ghost use Rattle.cops_read.specs.Told.{told};
+
+    ghost Cause = { MeaningCause };
+
+    ghost Kept = { List (List ℕ) × List (List (List ℕ)) };
+
+    ghost node_of = { node_view };
+
+    ghost kept = { λ s. (s.block, s.names.variables) };
+
+    ghost block = { λ k. k.0 };
+
+    ghost symbols = { λ s. s.names.symbols };
+
+    ghost variables = { λ s. s.variables };
+
+    ghost cause = { λ k. cause_at k.0 };
+
+    ghost tells = { Tells };
+
+    ghost goes_on = { told };
+
+    fn read_head(
+        &mut self,
+        alloc: Global,
+        node: &Node<'a>,
+        place: NodePlace,
+    ) -> Result<VariableOrSymbol, ReadError> {
+        within_limits(node, place)?;
+        let name = node.name.text;
+        if self.block.has(name) {
+            let number = read_variable(&mut self.variables, node, place, name)?;
+            return Ok(VariableOrSymbol::Variable(number));
+        }
+        let number = read_symbol(alloc, &mut self.names, node, place, name)?;
+        Ok(VariableOrSymbol::Symbol(number))
     }
-    let number = read_symbol(alloc, &mut scope.names, node, place, name)?;
-    Ok(VariableOrSymbol::Symbol(number))
+
+    fn arguments(node: &Node<'a>) -> usize {
+        node.arguments
+    }
+
+    fn no_memory() -> ReadError
+        ensures { (refusal : Option (MeaningCause × ℕ)) → Tells result refusal }
+    {
+        ReadError::NoMemory
+    }
 }

@@ -4,6 +4,7 @@
 ghost use Rattle.cops_read.specs.Answers.{ReadAnswers, OneSystem, SystemsAreSound, SystemsAreWithinLimits, SymbolsAreNamed, SystemsTellTheirFile, OneRefusal, RefusalsAreWithin, NeverSystemAndRefusal, SystemOrRefusal};
 
 mod block;
+mod conditions;
 mod errors;
 mod files;
 mod heads;
@@ -12,6 +13,7 @@ mod read_names;
 mod rules;
 mod terms;
 
+pub use conditions::read_conditions;
 pub use cops_names::{NameSet, Names};
 use cops_syntax::parse;
 pub use errors::{Count, ReadError};
@@ -20,6 +22,7 @@ pub use heads::{NodePlace, VariableOrSymbol};
 pub use limits::{MOST_CONDITIONS, MOST_DEPTH, MOST_NODES, MOST_VARIABLES};
 use std::alloc::Global;
 use term_core::System;
+pub use terms::HeadReader;
 
 /// The system that the bytes spell, with its names.
 pub fn read_system(alloc: Global, bytes: &[u8]) -> Result<(System, Names), ReadError>

@@ -1,87 +1,16 @@
 //! Rules with their conditions, each with a numbering of variables of its own.
 ghost use Rattle.std.specs.Prelude.{◌≡◌, ◌+◌, ◌<◌, ◌≤◌, [], List, OnOk, length};
 ghost use Rattle.file_text.specs.Syntax as syntax;
-ghost use Rattle.cops_syntax.specs.View.{IsTerm, IsCondition, AreConditions, IsRule, AreRules};
-ghost use Rattle.cops_read.specs.Bounds.{most_rules, most_variables};
-ghost use Rattle.cops_read.specs.Uses.{side_of};
-ghost use Rattle.cops_read.specs.RuleSteps.{SideAnswers, BarAnswers, ConditionAnswers, ConditionsAnswers, PartsAnswers, RuleAnswers, RulesAnswers};
+ghost use Rattle.cops_syntax.specs.View.{IsRule, AreRules};
+ghost use Rattle.cops_read.specs.Bounds.{most_rules};
+ghost use Rattle.cops_read.specs.RuleSteps.{BarAnswers, PartsAnswers, RuleAnswers, RulesAnswers};
 
+use crate::conditions::{read_conditions, read_side};
 use crate::errors::ReadError;
-use crate::heads::{NodePlace, Scope};
-use crate::terms::read_term;
-use cops_syntax::{CondText, Node, RuleText};
+use crate::heads::Scope;
+use cops_syntax::RuleText;
 use std::alloc::Global;
-use term_core::{Cond, Rule, Term};
-
-// A side of a rule or of a condition.
-fn read_side<'a>(
-    alloc: Global,
-    scope: &mut Scope<'a>,
-    nodes: &[Node<'a>],
-    rule: usize,
-    condition: usize,
-    is_left: bool,
-) -> Result<Term, ReadError>
-    requires text { (p : syntax.Phrase) × IsTerm nodes.now p }
-    requires few { length scope.old.variables ≤ most_variables }
-    ensures side { (p : syntax.Phrase) → IsTerm nodes.now p → SideAnswers scope.old.block scope.old.names.symbols scope.old.variables (side_of rule condition is_left) p scope.new.names.symbols scope.new.variables result }
-    ensures rule { OnOk result (rule ≤ most_rules) }
-    ensures few { OnOk result (length scope.new.variables ≤ most_variables) }
-    ensures block { scope.new.block ≡ scope.old.block }
-    ensures rules { scope.new.names.variables ≡ scope.old.names.variables }
-{
-    let root = NodePlace {
-        rule,
-        condition,
-        is_left,
-        depth: 1,
-        argument: 0,
-        before: 0,
-    };
-    let (term, _) = read_term(alloc, scope, nodes, root)?;
-    Ok(term)
-}
-
-// The condition with a number.
-fn read_condition<'a>(
-    alloc: Global,
-    scope: &mut Scope<'a>,
-    text: &CondText<'a>,
-    rule: usize,
-    number: usize,
-) -> Result<Cond, ReadError>
-    requires text { (c : syntax.ConditionTree) × IsCondition text.now c }
-    requires few { length scope.old.variables ≤ most_variables }
-    ensures few { OnOk result (length scope.new.variables ≤ most_variables) }
-    ensures condition { (c : syntax.ConditionTree) → IsCondition text.now c → ConditionAnswers scope.old.block scope.old.names.symbols scope.old.variables rule number c scope.new.names.symbols scope.new.variables result }
-    ensures block { scope.new.block ≡ scope.old.block }
-    ensures rules { scope.new.names.variables ≡ scope.old.names.variables }
-{
-    let left = read_side(alloc, scope, &text.left, rule, number, false)?;
-    let right = read_side(alloc, scope, &text.right, rule, number, false)?;
-    Ok(Cond { left, right })
-}
-
-fn read_conditions<'a>(
-    alloc: Global,
-    scope: &mut Scope<'a>,
-    texts: &[CondText<'a>],
-    rule: usize,
-) -> Result<Vec<Cond>, ReadError>
-    requires texts { (cs : List syntax.ConditionTree) × AreConditions texts.now cs }
-    requires few { length scope.old.variables ≤ most_variables }
-    ensures few { OnOk result (length scope.new.variables ≤ most_variables) }
-    ensures conditions { (cs : List syntax.ConditionTree) → AreConditions texts.now cs → ConditionsAnswers scope.old.block scope.old.names.symbols scope.old.variables rule cs scope.new.names.symbols scope.new.variables result }
-    ensures block { scope.new.block ≡ scope.old.block }
-    ensures rules { scope.new.names.variables ≡ scope.old.names.variables }
-{
-    let mut conds = Vec::new(alloc);
-    'conditions: for (i, text) in texts.iter().enumerate() {
-        let cond = read_condition(alloc, scope, text, rule, i + 1)?;
-        conds.push(cond)?;
-    }
-    Ok(conds)
-}
+use term_core::Rule;
 
 // Refuses a bar in a file without a condition type.
 fn check_bar(has_type: bool, bar: Option<usize>) -> Result<(), ReadError>
