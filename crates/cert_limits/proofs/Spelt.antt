@@ -13,7 +13,7 @@ use Rattle.cert_model.specs.declared.derivations.Derivation.{Derivation}
 use Rattle.cert_model.specs.declared.derivations.Step.{Step, Rule, Hyp}
 use Rattle.cops_names.specs.NameTable.{NameTable}
 use Rattle.cert_grammar.specs.Prelude.{largest, IsNamed, IsSpelt, AreSpelt, ArePlaces, IsDerivation, IsStep, AreSteps, AreDerivations}
-use Rattle.cert_grammar.proofs.Views.{step_of_rule, step_of_hypothesis, derivation_of_steps}
+use Rattle.cert_model.proofs.DerivationViews.{step_of_rule, step_of_hypothesis, derivation_of_steps}
 
 module _ (names : NameTable) (t : Term) where
   module _ (x : ℕ) (is : t ≡ Var x) where

@@ -12,7 +12,7 @@ use Rattle.term_core.specs.View.{view, views}
 use Rattle.cops_names.specs.NameTable.{NameTable}
 use Rattle.cert_grammar.specs.Prelude.{term_text, arguments_text, further_text, steps_line, rule_line, steps_text, step_text, derivations_text, derivation_text}
 use Rattle.certificates.proofs.Sizes.{steps_counted, derivations_counted}
-use Rattle.cert_grammar.proofs.Views.{step_of_rule, derivation_of_steps}
+use Rattle.cert_model.proofs.DerivationViews.{step_of_rule, derivation_of_steps}
 use Rattle.cert_writing.proofs.Writing.{Leads, InParts, first_and_others}
 
 -- behind the line that tells their number come the steps

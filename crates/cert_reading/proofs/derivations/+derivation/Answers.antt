@@ -4,7 +4,7 @@ use Rattle.certificates.specs.Derivations.{derivations_of}
 use Rattle.cert_model.specs.DerivationView.{derivation_view}
 use Rattle.cert_grammar.specs.Prelude.{steps_mark, steps_marks, step_marks, rule_mark, derivations_marks, space, line, between, any_number, any_position, derivations_left, derivations}
 use Rattle.cert_grammar.specs.Prelude.{nesting_count, steps_left, steps_of, condition_count}
-use Rattle.cert_grammar.proofs.Views.{step_of_rule, step_of_hypothesis, derivation_of_steps}
+use Rattle.cert_model.proofs.DerivationViews.{step_of_rule, step_of_hypothesis, derivation_of_steps}
 use Rattle.cert_words.specs.Walks.{Reads}
 use Rattle.cert_words.proofs.Walking.{then_reads, then_nothing, as_reads, as_marks, already, open_before, framed}
 use Rattle.cert_words.proofs.Stepping.{some_now}
