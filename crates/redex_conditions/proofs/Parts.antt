@@ -1,18 +1,15 @@
 -- Redexes rule by rule at a part, and part by part in a term.
-use Rattle.std.proofs.Common.{ℕ, ◌≡◌, ◌<◌, ◌+◌, inl, inr, refl, sym, ap, ◌∙◌, subst, List, [], ◌∷◌, ◌++◌, map, length, get_or, drop, Bool, true, false, if◌then◌else◌, Option, Some}
-use Rattle.std.specs.Borrow.{Bor}
+use Rattle.std.proofs.Common.{ℕ, ◌≡◌, ◌<◌, ◌+◌, inl, inr, refl, sym, ap, ◌∙◌, subst, List, [], ◌∷◌, ◌++◌, map, length, get_or, drop, Bool, true, false, if◌then◌else◌, Some}
 use Rattle.std.specs.FinMap.{empty}
 use Rattle.std.proofs.lemmas.List.{map-append, get_or_default}
 use Rattle.general_lemmas.proofs.Places.{drop_read}
 use Rattle.rewriting.specs.Terms as math
-use Rattle.rewriting.specs.Prelude.{IsAmong, Position, subterm, Rule, System, rule_at, Bindings, IsLeastMatch}
+use Rattle.rewriting.specs.Prelude.{IsAmong, subterm, Rule, System, rule_at, Bindings, IsLeastMatch}
 use Rattle.rewriting.proofs.Lists.{among_of_map}
 use Rattle.rule_index.specs.Roots.{rules_at}
-use Rattle.rule_index.specs.Parts.{Part, part, parts, IsNext}
+use Rattle.rule_index.specs.Parts.{Part, part, parts}
 use Rattle.rule_index.proofs.Standing.{part_stands}
 use Rattle.certificates.specs.Judging.{RuleMatches}
-use Rattle.term_core.specs.View.{view}
-use Rattle.term_core.specs.declared.terms.Term.{Term}
 use Rattle.valid_certificates.specs.Peaks.{RedexPlace}
 use Rattle.redex_conditions.specs.Redexes.{place, places, hits, is_hit, part_redexes}
 
@@ -33,10 +30,6 @@ module _ (sys : System) (w : ℕ) (q : Part) (ns : List ℕ) (i n : ℕ) (low : 
   places_split =
       ap (places sys w q) (drop_read ns i n low here_own) ∙ ap (map (place w q.position)) (hits_more sys q.term n (drop (i + 1) ns))
       ∙ map-append (place w q.position) (hits sys q.term (n ∷ [])) (hits sys q.term (drop (i + 1) ns))
-
--- the next part, at the position that is told of it
-pub here : (qs rest : List Part) (o : Option (Bor Term)) (t : Bor Term) (p told : Position) → IsNext qs o p rest → o ≡ Some t → told ≡ p → qs ≡ part told (view t.now) ∷ rest
-here qs rest o t p told next is e = subst (λ x. IsNext qs x p rest) is next ∙ ap (λ x. part x (view t.now) ∷ rest) (sym e)
 
 -- the parts of a term one by one
 module _ (t : math.Term) where

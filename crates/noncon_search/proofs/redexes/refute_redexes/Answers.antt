@@ -3,7 +3,7 @@ use Rattle.term_core.specs.View.{view}
 use Rattle.cert_model.specs.CertificateView.{redex_view}
 use Rattle.rule_index.specs.Parts.{Walk, part}
 use Rattle.redex_conditions.proofs.Ends.{few_names, numbered_size}
-use Rattle.redex_conditions.proofs.Parts.{here}
+use Rattle.rule_index.proofs.Levels.{told_part}
 use Rattle.noncon_search.proofs.Whole.{begins, goes_on, breaks_off, comes_to_end}
 use Rattle.noncon_search.proofs.redexes.refute_redexes.Goals as goal
 
@@ -25,14 +25,14 @@ add_part-requires c = record { own = few_names _ _ _ c.len-own.result c.new-numb
 pub returns-then-not-branch : goal.returns-then-not-branch
 returns-then-not-branch c =
     breaks_off c.args.sys.now (view c.args.term.now) c.len-own.result c.args.which c.parts.walk.rest (map redex_view c.parts.entries.items) c.parts.invariant c.next.new.self.rest
-    (part c.position.result.now (view c.in-Some.part.now)) (here _ _ _ _ _ _ c.in_ok-part.ensures c.in-Some.is c.position.ensures)
+    (part c.position.result.now (view c.in-Some.part.now)) (told_part _ _ _ _ _ _ c.in_ok-part.ensures c.in-Some.is c.position.ensures)
     (map redex_view c.add_part.new.entries.items) c.rules-rules.ensures.sound
     (rw c.if-not-branch.true at c.in_ok-add_part.ensures)
 
 pub parts-preserved : goal.parts-preserved
 parts-preserved c =
     goes_on c.args.sys.now (view c.args.term.now) c.len-own.result c.args.which c.parts.walk.rest (map redex_view c.parts.entries.items) c.parts.invariant c.next.new.self.rest
-    (part c.position.result.now (view c.in-Some.part.now)) (here _ _ _ _ _ _ c.in_ok-part.ensures c.in-Some.is c.position.ensures) (map redex_view c.add_part.new.entries.items)
+    (part c.position.result.now (view c.in-Some.part.now)) (told_part _ _ _ _ _ _ c.in_ok-part.ensures c.in-Some.is c.position.ensures) (map redex_view c.add_part.new.entries.items)
     (rw c.if-not-branch.false at c.in_ok-add_part.ensures)
 
 pub returns : goal.returns

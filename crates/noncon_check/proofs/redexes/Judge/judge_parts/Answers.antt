@@ -7,7 +7,8 @@ use Rattle.redex_conditions.specs.Judged.{IsJudgedAt}
 use Rattle.redex_conditions.specs.Redexes.{redexes}
 use Rattle.noncon_check.specs.Walks.{PlacesAnswer}
 use Rattle.noncon_check.proofs.Parts.{next_part, part_fails}
-use Rattle.redex_conditions.proofs.Parts.{here, ahead_rest}
+use Rattle.rule_index.proofs.Levels.{told_part}
+use Rattle.redex_conditions.proofs.Parts.{ahead_rest}
 use Rattle.noncon_check.proofs.redexes.Judge.judge_parts.Goals as goal
 
 pub returns-in_err-next : goal.returns-in_err-next
@@ -18,7 +19,7 @@ returns-in_err-next c =
     subst (λ a. PlacesAnswer (IsJudgedAt sys c.args.self.now.own t) es c.args.at (redexes sys c.args.self.now.which t) a) (sym (handed_on _ _ c.from_residual-in_err-next.ensures.1))
     (c.parts.invariant.rest (Err c.in_err-next.field-0.0)
     (part_fails sys c.args.self.now.which c.args.self.now.own es t c.parts.walk.rest c.next.new.self.rest (part c.position.result.now (view c.in-Some.part.now))
-    (here _ _ _ _ _ _ c.in_ok-part.ensures c.in-Some.is c.position.ensures) c.parts.invariant.ahead c.parts.next c.in_err-next.field-0.0 c.in_err-next.ensures))
+    (told_part _ _ _ _ _ _ c.in_ok-part.ensures c.in-Some.is c.position.ensures) c.parts.invariant.ahead c.parts.next c.in_err-next.field-0.0 c.in_err-next.ensures))
 
 pub parts-preserved : goal.parts-preserved
 parts-preserved c =
@@ -27,7 +28,7 @@ parts-preserved c =
     let es = map redex_view c.args.self.now.entries.now in
     let q = part c.position.result.now (view c.in-Some.part.now) in
     record {
-      ahead = ahead_rest t c.parts.walk.rest c.next.new.self.rest q (here _ _ _ _ _ _ c.in_ok-part.ensures c.in-Some.is c.position.ensures) c.parts.invariant.ahead;
+      ahead = ahead_rest t c.parts.walk.rest c.next.new.self.rest q (told_part _ _ _ _ _ _ c.in_ok-part.ensures c.in-Some.is c.position.ensures) c.parts.invariant.ahead;
       rest = λ a h. c.parts.invariant.rest a (next_part sys c.args.self.now.which c.args.self.now.own es t c.parts.walk.rest c.next.new.self.rest q
-          (here _ _ _ _ _ _ c.in_ok-part.ensures c.in-Some.is c.position.ensures) c.parts.invariant.ahead c.parts.next c.in_ok-next.next a c.in_ok-next.ensures h);
+          (told_part _ _ _ _ _ _ c.in_ok-part.ensures c.in-Some.is c.position.ensures) c.parts.invariant.ahead c.parts.next c.in_ok-next.next a c.in_ok-next.ensures h);
     }
