@@ -16,68 +16,56 @@ pub enum MeasureEnd {
     NotTried,
 }
 
-/// The measure that was found, and for how many units of how many.
+/// How a search among measures ended, and for how many units.
+#[derive(Clone, Copy)]
+pub struct Tried {
+    pub end: MeasureEnd,
+    pub units: u64,
+}
+
+/// The measure that was found, and what each search came to.
 #[derive(Drop)]
 pub struct Measured {
     pub found: Option<MeasureCert>,
-    pub grid: MeasureEnd,
-    pub grid_units: u64,
-    pub order: MeasureEnd,
-    pub order_units: u64,
+    pub grid: Tried,
+    pub order: Tried,
 }
 
-// Searches the precedences.
-fn find_order(
-    alloc: Global,
-    sys: &System,
-    units: u64,
-    measured: &mut Measured,
-) -> Result<(), NoMemory> {
-    let mut budget = Budget::new(units);
-    match search_precedences(alloc, sys, &mut budget)? {
-        Sought::Found(order) => {
-            measured.found = Some(MeasureCert::Lpo(order));
-            measured.order = MeasureEnd::Good;
-        }
-        Sought::Nothing => measured.order = MeasureEnd::NoneGood,
-        Sought::Spent => measured.order = MeasureEnd::Spent,
+// What a search found, and how it ended.
+fn ended<M>(sought: Sought<M>) -> (Option<M>, MeasureEnd) {
+    match sought {
+        Sought::Found(measure) => (Some(measure), MeasureEnd::Good),
+        Sought::Nothing => (None, MeasureEnd::NoneGood),
+        Sought::Spent => (None, MeasureEnd::Spent),
     }
-    measured.order_units = budget.spent();
-    Ok(())
-}
-
-// Searches the grid.
-fn find_linear(
-    alloc: Global,
-    sys: &System,
-    units: u64,
-    measured: &mut Measured,
-) -> Result<(), NoMemory> {
-    let mut budget = Budget::new(units);
-    match search_grid(alloc, sys, &mut budget)? {
-        Sought::Found(linear) => {
-            measured.found = Some(MeasureCert::Linear(linear));
-            measured.grid = MeasureEnd::Good;
-        }
-        Sought::Nothing => measured.grid = MeasureEnd::NoneGood,
-        Sought::Spent => measured.grid = MeasureEnd::Spent,
-    }
-    measured.grid_units = budget.spent();
-    Ok(())
 }
 
 /// Searches for a measure, whatever else is missing for a certificate.
 pub fn find_measure(alloc: Global, sys: &System, units: u64) -> Result<Measured, NoMemory> {
-    let mut measured = Measured {
-        found: None,
-        grid: MeasureEnd::NotTried,
-        grid_units: 0,
-        order: MeasureEnd::NotTried,
-        order_units: 0,
+    let mut budget = Budget::new(units);
+    let (linear, end) = ended(search_grid(alloc, sys, &mut budget)?);
+    let grid = Tried {
+        end,
+        units: budget.spent(),
     };
-    find_linear(alloc, sys, units, &mut measured)?;
-    if measured.found.is_none() {
-        find_order(alloc, sys, units, &mut measured)?;
+    if let Some(linear) = linear {
+        return Ok(Measured {
+            found: Some(MeasureCert::Linear(linear)),
+            grid,
+            order: Tried {
+                end: MeasureEnd::NotTried,
+                units: 0,
+            },
+        });
     }
-    Ok(measured)
+    let mut budget = Budget::new(units);
+    let (order, end) = ended(search_precedences(alloc, sys, &mut budget)?);
+    Ok(Measured {
+        found: order.map(MeasureCert::Lpo),
+        grid,
+        order: Tried {
+            end,
+            units: budget.spent(),
+        },
+    })
 }

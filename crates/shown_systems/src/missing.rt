@@ -78,8 +78,8 @@ fn put_quasi_cost(page: &mut Page<'_>, subject: &Subject<'_>, findings: &Finding
         text,
         &[
             Piece::Number(walk_units(&findings.quasi)),
-            Piece::Number(findings.measured.grid_units as usize),
-            Piece::Number(findings.measured.order_units as usize),
+            Piece::Number(findings.measured.grid.units as usize),
+            Piece::Number(findings.measured.order.units as usize),
         ],
     );
 }
@@ -157,7 +157,7 @@ fn put_ortho_missing(
 }
 
 fn measure_words(measured: &Measured) -> &'static str {
-    match (measured.grid, measured.order) {
+    match (measured.grid.end, measured.order.end) {
         (MeasureEnd::Good, _) =>
             "nothing: each overlap is settled and a linear interpretation is good\n",
         (_, MeasureEnd::Good) => "nothing: each overlap is settled and a precedence is good\n",
