@@ -1,52 +1,18 @@
 //! Variables in regions of a rule, its left side and the sides of its first conditions; and the first variable that is repeated.
 ghost use Rattle.std.specs.Prelude.{◌≡◌, ◌+◌, ◌≤◌, ◌&&◌, not, IfOk, map};
-ghost use Rattle.rewriting.specs.Prelude.{size, size_all, left_sides, right_sides, sides, variable_occurrences, variable_occurrences_of};
+ghost use Rattle.rewriting.specs.Prelude.{size, size_all, left_sides, sides, variable_occurrences, variable_occurrences_of};
 ghost use Rattle.rewriting.specs.Variables as math;
 ghost use Rattle.term_core.specs.Prelude.{view, views, condition_view};
 ghost use Rattle.ctrs_classes.specs.Walks.{SeenAnswers, any_where, are_open, first_where, is_open, same};
 ghost use Rattle.ctrs_classes.specs.RegionView.{in_region};
 
-use term_core::{Cond, Term};
-
-// Whether a variable occurs in a term.
-#[cycle(occurs)]
-#[tactic(auto, using(rewriting::proofs::Lengths::size_positive))]
-pub(crate) fn occurs(x: u32, t: &Term) -> bool
-    ensures { result ≡ math.occurs x (view t.now) }
-{
-    match t {
-        Term::Var(y) => x == *y,
-        Term::Fun(_, args) => occurs_any(x, args),
-    }
-}
-
-#[cycle(occurs)]
-#[tactic(auto, using(rewriting::proofs::Lengths::size_positive))]
-fn occurs_any(x: u32, args: &[Term]) -> bool
-    ensures { result ≡ math.occurs_in x (views args.now) }
-{
-    match args {
-        [] => false,
-        [first, rest @ ..] => occurs(x, first) || occurs_any(x, rest),
-    }
-}
+use term_core::{Cond, Term, occurs, occurs_in_right_sides};
 
 fn occurs_left(x: u32, conds: &[Cond]) -> bool
     ensures { result ≡ math.occurs_in x (left_sides (map condition_view conds.now)) }
 {
     for cond in conds {
         if occurs(x, &cond.left) {
-            return true;
-        }
-    }
-    false
-}
-
-fn occurs_right(x: u32, conds: &[Cond]) -> bool
-    ensures { result ≡ math.occurs_in x (right_sides (map condition_view conds.now)) }
-{
-    for cond in conds {
-        if occurs(x, &cond.right) {
             return true;
         }
     }
@@ -66,7 +32,7 @@ pub struct Region<'a> {
 fn stands(x: u32, region: &Region<'_>) -> bool
     ensures { result ≡ in_region region.now x }
 {
-    occurs(x, region.left) || occurs_left(x, region.asked) || occurs_right(x, region.known)
+    occurs(x, region.left) || occurs_left(x, region.asked) || occurs_in_right_sides(x, region.known)
 }
 
 fn is_wanted(x: u32, region: &Region<'_>, inside: bool) -> bool

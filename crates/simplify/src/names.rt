@@ -3,8 +3,8 @@ ghost use Rattle.std.specs.Prelude.{◌≡◌, ◌<◌, IfSome, IfNone, ℕ, len
 ghost use Rattle.term_core.specs.RuleView.{rule_view};
 ghost use Rattle.simplifications.specs.Inlining.{Names};
 
-use crate::occurring::{occurs, occurs_in_right_sides, occurs_in_sides};
-use term_core::{Rule, Term};
+use crate::occurring::occurs_in_sides;
+use term_core::{Rule, Term, occurs, occurs_in_right_sides};
 
 /// The variable that the condition behind the first `place` names, where it only names its left side.
 pub fn name(rule: &Rule, place: usize) -> Option<u32>

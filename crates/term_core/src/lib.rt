@@ -18,4 +18,4 @@ pub use terms::{
     MAX_DEPTH, MAX_NODES, NoMemory, Term, TermError, depth, equal, fits, room_after, size,
     try_clone,
 };
-pub use variables::{is_linear, vars};
+pub use variables::{is_linear, occurs, occurs_in_right_sides, vars};

@@ -1,13 +1,52 @@
-//! The variables of a term: in order of first occurrence, those that are repeated, and whether the term is linear.
+//! The variables of a term: whether one occurs, all in order of first occurrence, those that are repeated, and whether the term is linear.
 ghost use Rattle.std.specs.Prelude.{◌≡◌, ◌≤◌, ◌<◌, ◌+◌, ◌↔◌, ℕ, IfOk, OnOk, IfSome, IsTrue, false, map};
-ghost use Rattle.rewriting.specs.Prelude.{with_new, with_variables, variables, occurrences, IsLinear, var};
-ghost use Rattle.term_core.specs.View.{view};
+ghost use Rattle.rewriting.specs.Prelude.{with_new, with_variables, variables, occurrences, IsLinear, var, right_sides};
+ghost use Rattle.rewriting.specs.Variables as math;
+ghost use Rattle.term_core.specs.View.{view, views};
+ghost use Rattle.term_core.specs.RuleView.{condition_view};
 ghost use Rattle.term_core.specs.Counting.{bit, with_counts, HasTwo, IsBelow};
 ghost use Rattle.term_core.specs.Noting.{Has, AreNoted};
 
+use crate::systems::Cond;
 use crate::terms::{NoMemory, Term};
 use std::alloc::Global;
 use std::collections::BTreeSet;
+
+/// Whether a variable occurs in a term.
+#[cycle(occurs)]
+#[tactic(auto, using(rewriting::proofs::Lengths::size_positive))]
+pub fn occurs(x: u32, t: &Term) -> bool
+    ensures { result ≡ math.occurs x (view t.now) }
+{
+    match t {
+        Term::Var(y) => x == *y,
+        Term::Fun(_, args) => occurs_any(x, args),
+    }
+}
+
+// Whether it occurs in one of some terms.
+#[cycle(occurs)]
+#[tactic(auto, using(rewriting::proofs::Lengths::size_positive))]
+fn occurs_any(x: u32, args: &[Term]) -> bool
+    ensures { result ≡ math.occurs_in x (views args.now) }
+{
+    match args {
+        [] => false,
+        [first, rest @ ..] => occurs(x, first) || occurs_any(x, rest),
+    }
+}
+
+/// Whether a variable occurs in a right side of some conditions.
+pub fn occurs_in_right_sides(x: u32, conds: &[Cond]) -> bool
+    ensures { result ≡ math.occurs_in x (right_sides (map condition_view conds.now)) }
+{
+    for cond in conds {
+        if occurs(x, &cond.right) {
+            return true;
+        }
+    }
+    false
+}
 
 // Puts a variable last, where the list lacks it.
 fn add(x: u32, out: &mut Vec<u32>) -> Result<(), NoMemory>

@@ -9,7 +9,7 @@ ghost use Rattle.term_core.specs.View.{view};
 ghost use Rattle.unification.specs.Solving.{shared, bindings, AreInTurn, IsHead, IsNewTo};
 
 use std::alloc::Global;
-use term_core::{MAX_DEPTH, MAX_NODES, NoMemory, Subst, Term};
+use term_core::{MAX_DEPTH, MAX_NODES, NoMemory, Subst, Term, occurs};
 
 /// A variable with the term that it was bound to, which stands in a side of an equation. The variable stands for the instance of
 /// that term under all bindings.
@@ -116,23 +116,6 @@ fn instance<'a>(alloc: Global, found: &[Bound<'a>], t: &'a Term) -> Result<Term,
                 out.push(instance(alloc, found, arg)?)?;
             }
             Ok(Term::Fun(*f, out))
-        }
-    }
-}
-
-// Whether a variable occurs in a term, as it stands.
-fn occurs(x: u32, t: &Term) -> bool
-    ensures { result ≡ occurs_in_term x (view t.now) }
-{
-    match t {
-        Term::Var(y) => x == *y,
-        Term::Fun(_, args) => {
-            for arg in args {
-                if occurs(x, arg) {
-                    return true;
-                }
-            }
-            false
         }
     }
 }

@@ -1,7 +1,7 @@
 use Rattle.std.proofs.Common.{◌+◌, ◌*◌}
 use Rattle.rewriting.specs.Terms.{size, size_all}
 use Rattle.term_core.specs.View.{view, views}
-use Rattle.ctrs_classes.proofs.regions.+occurs.Given as goal
+use Rattle.term_core.proofs.variables.+occurs.Given as goal
 
 abbrev pub decreases-occurs : goal.decreases-occurs
 decreases-occurs l = 2 * size (view l.t.now)
