@@ -18,14 +18,14 @@ use Rattle.validity.specs.declared.Search.{Search}
 use Rattle.validity.specs.declared.Search.TheVariants.{Found, Nothing, Spent}
 use Rattle.cc_count.specs.Counts.{Counts, Spends}
 use Rattle.first_found.specs.Items.{cost_of}
-use Rattle.first_found.specs.Spaces.{spent, MayEndExactly}
-use Rattle.search_spaces.specs.PeakItems.{peak_item_cost, peak_items_of, peak_items}
+use Rattle.first_found.specs.Spaces.{nothing, spent, MayEndExactly}
+use Rattle.search_spaces.specs.PeakItems.{peak_item_cost, peak_items_of, peak_items, GivesPeak}
 use Rattle.search_spaces.specs.Peak.{ArePeakItems, peak_space}
 use Rattle.search_spaces.proofs.Peak.{peak_searched, peak_ends_found, peak_ends_none, peak_ends_spent}
 use Rattle.search_answers.specs.Given.{IsOverlapList}
 use Rattle.search_answers.specs.Answers.{Searches, ending_of, IfNothing}
 use Rattle.noncon_search.specs.Answers.{WalkAnswers, StartsAnswer}
-use Rattle.noncon_search.proofs.Walking.{begins, goes_on, ends, last_part}
+use Rattle.search_answers.proofs.Walking.{first_part, two_parts, not_nothing_found}
 use Rattle.noncon_search.proofs.Listed.{rule_starts, source_starts}
 
 module _ (names : NameTable) (sys : System) where
@@ -70,7 +70,7 @@ module _ (sys : System) (rs : List Rule) (same : map rule_view rs ≡ sys.rules)
         let sources = peak_items sys (map (λ o. view o.source) os.now) in (
           peak_items sys lefts ++ sources,
           items_of_all os.now are,
-          ends (begins names sys (peak_items sys lefts ++ sources) a) b (peak_items sys lefts) sources refl r other h,
+          first_part peak_item_cost (GivesPeak names sys) (peak_items sys lefts) sources a b (ending_of r) (not_nothing_found r other) h,
         )
     starts_end None none r other h = (peak_items sys lefts, items_of_rules none, h)
 
@@ -85,5 +85,5 @@ module _ (sys : System) (rs : List Rule) (same : map rule_view rs ≡ sys.rules)
         let sources = peak_items sys (map (λ o. view o.source) os) in (
           peak_items sys lefts ++ sources,
           items_of_all os are,
-          last_part (goes_on (begins names sys (peak_items sys lefts ++ sources) a) b (peak_items sys lefts) sources refl Nothing refl h) c r k,
+          two_parts peak_item_cost (GivesPeak names sys) (peak_items sys lefts) sources a b ending_of c nothing refl h r k,
         )

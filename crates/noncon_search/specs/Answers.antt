@@ -15,9 +15,10 @@ use Rattle.cert_model.specs.declared.model.Certificate.{Certificate}
 use Rattle.cert_model.specs.declared.model.NonJoin.{NonJoin}
 use Rattle.cert_model.specs.declared.model.Redex.{Redex}
 use Rattle.validity.specs.declared.Search.{Search}
-use Rattle.validity.specs.declared.Search.TheVariants.{Found, Nothing, Spent}
-use Rattle.cc_count.specs.Counts.{Counts, Spends}
-use Rattle.first_found.specs.Items.{GivesNothing, NoneGives, cost_of, IsFirst, IsStopped}
+use Rattle.cc_count.specs.Counts.{Counts}
+use Rattle.first_found.specs.Items.{GivesNothing}
+use Rattle.search_answers.specs.Answers.{ending_of}
+use Rattle.search_answers.specs.Walks.{Walks}
 use Rattle.search_spaces.specs.Listings.{pairs_of}
 use Rattle.search_spaces.specs.PeakItems.{PeakItem, peak_item_cost, try_ends, TriesApart, GivesPeak}
 use Rattle.search_spaces.specs.Peak.{ArePeakItems}
@@ -59,10 +60,7 @@ CandidateAnswers names sys item (Err e) = Unit {0}
 
 -- what the first item gives that gives anything, at the cost that was paid; that none does, at the cost of all; or that the budget ended
 abbrev pub WalkAnswers : NameTable → System → List PeakItem → Counts → Counts → Result Search NoMemory → Type 0
-WalkAnswers names sys items before after (Ok (Found c)) = (n : ℕ) × Spends before n after × IsFirst peak_item_cost (GivesPeak names sys) items (certificate_view c) n
-WalkAnswers names sys items before after (Ok Nothing) = Spends before (cost_of peak_item_cost items) after × NoneGives (GivesPeak names sys) items
-WalkAnswers names sys items before after (Ok Spent) = (n : ℕ) × Spends before n after × (after.left ≡ 0) × IsStopped peak_item_cost (GivesPeak names sys) items n
-WalkAnswers names sys items before after (Err e) = (n : ℕ) × Spends before n after
+WalkAnswers names sys = Walks ending_of peak_item_cost (GivesPeak names sys)
 
 -- the same for all items of the space
 abbrev pub StartsAnswer : NameTable → System → Counts → Counts → Result Search NoMemory → Type 0

@@ -21,7 +21,7 @@ mod redexes;
 mod starts;
 mod trying;
 
-use crate::starts::{try_overlaps, try_rules};
+use crate::starts::try_each;
 use cc_count::Budget;
 use cops_names::Names;
 use critical_pairs::Overlap;
@@ -30,6 +30,7 @@ pub use pairs::try_pairs;
 use prepared_system::PreparedSystem;
 use rule_index::IndexedSystem;
 use search_answers::overlaps_or_none;
+pub use starts::HasStart;
 use std::alloc::Global;
 use term_core::{NoMemory, System};
 pub use validity::Search;
@@ -45,12 +46,12 @@ fn try_starts(
     requires overlaps { IsOverlapList sys.now overlaps }
     ensures { StartsAnswer names.now sys.now budget.old budget.new result }
 {
-    match try_rules(alloc, sys, names, sys.rules(), budget)? {
+    match try_each(alloc, sys, names, sys.rules(), budget)? {
         Search::Nothing => {}
         end => return Ok(end),
     }
     match overlaps {
-        Some(overlaps) => try_overlaps(alloc, sys, names, overlaps, budget),
+        Some(overlaps) => try_each(alloc, sys, names, overlaps, budget),
         None => Ok(Search::Nothing),
     }
 }

@@ -57,39 +57,43 @@ fn try_start(
     }
 }
 
-/// Tries the left sides of rules as starts.
-pub fn try_rules(
-    alloc: Global,
-    sys: &IndexedSystem<'_>,
-    names: &Names,
-    rules: &[Rule],
-    budget: &mut Budget,
-) -> Result<Search, NoMemory>
-    requires fit { EachOf (λ r. math.Fits (view r.left)) rules.now }
-    ensures { WalkAnswers names.now sys.now (peak_items sys.now (map (λ r. view r.left) rules.now)) budget.old budget.new result }
-{
-    'rules: for rule in rules {
-        match try_start(alloc, sys, names, &rule.left, budget)? {
-            Search::Nothing => {}
-            end => return Ok(end),
-        }
-    }
-    Ok(Search::Nothing)
+/// What has a term from which peaks may start.
+pub trait HasStart {
+    ghost start: { Self → math.Term };
+
+    fn start(&self) -> &Term
+        ensures { view result.now ≡ start self.now };
 }
 
-/// Tries the sources of overlaps as starts.
-pub fn try_overlaps(
+impl HasStart for Rule {
+    ghost start = { λ r. view r.left };
+
+    fn start(&self) -> &Term {
+        &self.left
+    }
+}
+
+impl HasStart for Overlap {
+    ghost start = { λ o. view o.source };
+
+    fn start(&self) -> &Term {
+        &self.source
+    }
+}
+
+/// Tries the left sides of rules, or the sources of overlaps, as starts.
+pub(crate) fn try_each<T: HasStart>(
     alloc: Global,
     sys: &IndexedSystem<'_>,
     names: &Names,
-    overlaps: &[Overlap],
+    all: &[T],
     budget: &mut Budget,
 ) -> Result<Search, NoMemory>
-    requires fit { EachOf (λ o. math.Fits (view o.source)) overlaps.now }
-    ensures { WalkAnswers names.now sys.now (peak_items sys.now (map (λ o. view o.source) overlaps.now)) budget.old budget.new result }
+    requires fit { EachOf (λ x. math.Fits (T.start x)) all.now }
+    ensures { WalkAnswers names.now sys.now (peak_items sys.now (map T.start all.now)) budget.old budget.new result }
 {
-    'overlaps: for overlap in overlaps {
-        match try_start(alloc, sys, names, &overlap.source, budget)? {
+    'starts: for one in all {
+        match try_start(alloc, sys, names, one.start(), budget)? {
             Search::Nothing => {}
             end => return Ok(end),
         }

@@ -1,5 +1,5 @@
 -- How the search ends.
-use Rattle.std.proofs.Common.{ℕ, ◌≡◌, inl, inr, List, Result, Ok, Err, refl, sym, subst, arith}
+use Rattle.std.proofs.Common.{ℕ, ◌≡◌, inl, inr, List, Result, Ok, Err, refl, sym, ◌∙◌, subst, arith}
 use Rattle.rewriting.specs.Rules.{System}
 use Rattle.unifier_run.specs.Overlaps.{Overlap, AreOverlaps}
 use Rattle.certificates.specs.Certificates.{Certificate, PairEntry, ortho_certificate}
@@ -20,7 +20,7 @@ use Rattle.search_spaces.specs.PairItems.{ortho_items}
 use Rattle.search_spaces.specs.Texts.{HasText}
 use Rattle.search_spaces.proofs.Ortho.{space_searched, ends_closed, ends_at_row, ends_found, ends_too_long, ends_spent}
 use Rattle.cc_count.proofs.Spending.{spends_none}
-use Rattle.search_answers.specs.Answers.{Searches, ending_of, IfFound, IfNothing}
+use Rattle.search_answers.specs.Answers.{Searches, ending_of, IfFound, IfNothing, WrittenAnswers}
 
 module _ (names : NameTable) (sys : System) where
   abbrev Searched : Counts → Counts → Result Search NoMemory → Type 0
@@ -63,17 +63,22 @@ module _ (names : NameTable) (sys : System) where
 
     module _ (es : List PairEntry) (n : ℕ) (spends : Spends before n after) (firsts : AreFirsts (IsOrthoEntry sys) os es n) where
       module _ (d : Certificate) (is : d ≡ ortho_certificate es) where
-        pub whole_searched : HasText names d → (n : ℕ) × Spends before n after × (ortho_space names sys).Finds d n
-        whole_searched text = (n, spends, subst (λ c. (ortho_space names sys).Finds c n) (sym is) (ends_found names sys os is_open before.left n es firsts (subst (HasText names) is text)))
-
         has_none : (HasText names d → ⊥) → HasText names (ortho_certificate es) → ⊥
         has_none long text = long (subst (HasText names) (sym is) text)
 
-        pub long_searched : (HasText names d → ⊥) → Searched before after (Ok Nothing)
-        long_searched long = (n, spends, ends_too_long names sys os is_open before.left n es firsts (has_none long))
+        -- the certificate of the entries is found, or it has no text
+        pub written_searched : (r : Result Search NoMemory) → WrittenAnswers names d r → Searched before after r
+        written_searched (Ok (Found c)) (same, text) =
+            (n, spends, subst (λ z. (ortho_space names sys).Finds z n) (sym (same ∙ is)) (ends_found names sys os is_open before.left n es firsts (subst (HasText names) is text)))
+        written_searched (Ok Nothing) long = (n, spends, ends_too_long names sys os is_open before.left n es firsts (has_none long))
+        written_searched (Ok Spent) h = absurd h
+        written_searched (Err e) h = tt
 
-        pub long_paid : (HasText names d → ⊥) → Paid before after
-        long_paid long = (n, spends, inl (os, is_open, inr (es, firsts, has_none long)))
+        pub written_paid : (r : Result Search NoMemory) → WrittenAnswers names d r → IfNothing ending_of r (Paid before after)
+        written_paid (Ok (Found c)) h = tt
+        written_paid (Ok Nothing) long = (n, spends, inl (os, is_open, inr (es, firsts, has_none long)))
+        written_paid (Ok Spent) h = tt
+        written_paid (Err e) h = tt
 
     module _ (n : ℕ) (spends : Spends before n after) (ends : EndsAtRow (IsOrthoEntry sys) (overlap_cost ortho_items) os n) where
       pub row_searched : Searched before after (Ok Nothing)

@@ -13,21 +13,20 @@ ghost use Rattle.search_spaces.specs.Ortho.{ortho_space, IsOrthoPaid};
 ghost use Rattle.search_answers.specs.Answers.{Searches, ending_of, IfFound, IfNothing};
 ghost use Rattle.first_found.specs.Spaces.{MayEndExactly};
 
-mod entries;
 mod items;
 mod trying;
 
-use crate::entries::entries_for;
+use crate::trying::OrthoTrial;
 pub use crate::trying::try_overlap;
 use cc_count::{Budget, Sought};
-use cert_limits::has_text;
 use cert_model::Certificate;
 use cops_names::Names;
 use critical_pairs::Overlap;
 use ctrs_classes::{is_extended_oriented, is_left_linear, is_right_stable, is_type3};
+use pair_search::entries_for;
 use prepared_system::PreparedSystem;
 use rule_index::IndexedSystem;
-use search_answers::overlaps_or_none;
+use search_answers::{found_if_written, overlaps_or_none};
 use std::alloc::Global;
 use term_core::{NoMemory, System};
 pub use validity::Search;
@@ -53,18 +52,10 @@ fn search_open(
     ensures paid { IfNothing ending_of result ((n : ℕ) × Spends budget.old n budget.new × IsOrthoPaid names.now sys.now n) }
     ensures kept { (n : ℕ) × Spends budget.old n budget.new }
 {
-    match entries_for(alloc, sys, overlaps, budget) {
-        Ok(Sought::Found(pairs)) => {
-            let cert = Certificate::Ortho(pairs);
-            if has_text(alloc, names, &cert)? {
-                Ok(Search::Found(cert))
-            } else {
-                Ok(Search::Nothing)
-            }
-        }
-        Ok(Sought::Nothing) => Ok(Search::Nothing),
-        Ok(Sought::Spent) => Ok(Search::Spent),
-        Err(e) => Err(e),
+    match entries_for(alloc, sys, overlaps, &OrthoTrial, budget)? {
+        Sought::Found(pairs) => found_if_written(alloc, names, Certificate::Ortho(pairs)),
+        Sought::Nothing => Ok(Search::Nothing),
+        Sought::Spent => Ok(Search::Spent),
     }
 }
 

@@ -4,7 +4,9 @@ ghost use Rattle.unifier_run.specs.Overlaps.{IsOverlapOf};
 ghost use Rattle.valid_certificates.specs.Kinds.{ortho};
 ghost use Rattle.critical_pairs.specs.View.{overlap_view};
 ghost use Rattle.cc_count.specs.Counts.{Spends};
-ghost use Rattle.first_found.specs.Items.{one};
+ghost use Rattle.first_found.specs.Items.{IsFirst, NoneGives, one};
+ghost use Rattle.first_found.proofs.Items.{not_both};
+ghost use Rattle.search_spaces.specs.Entries.{overlap_cost, StopsAtOverlap};
 ghost use Rattle.search_spaces.specs.PairItems.{GivesEvidence, ortho_items};
 ghost use Rattle.pair_search.specs.Answers.{ItemAnswers, WalkAnswers};
 ghost use Rattle.pair_search.specs.Grown.{IsGrown};
@@ -14,7 +16,7 @@ use crate::items::{Item, items_of};
 use cc_count::{Budget, Sought};
 use cert_model::PairEvidence;
 use critical_pairs::Overlap;
-use pair_search::{Grown, judged, try_refuting};
+use pair_search::{Grown, OverlapTrial, judged, try_refuting};
 use prepared_system::PreparedSystem;
 use std::alloc::Global;
 use term_core::NoMemory;
@@ -111,8 +113,32 @@ pub fn try_overlap(
     let _rules = sys.rules();
     let inner_count = overlap.inner_conds;
     let outer_count = overlap.conds.len() as u32 - inner_count;
-    match items_of(alloc, inner_count, outer_count) {
-        Ok(items) => try_items(alloc, sys, overlap, &items, budget, grown),
-        Err(e) => Err(e),
+    let items = items_of(alloc, inner_count, outer_count)?;
+    try_items(alloc, sys, overlap, &items, budget, grown)
+}
+
+/// What is tried for an overlap of an almost orthogonal system.
+pub(crate) struct OrthoTrial;
+
+impl OverlapTrial for OrthoTrial {
+    ghost first = { λ s o. IsFirst one (GivesEvidence ortho s o) (ortho_items o) };
+
+    ghost lacks = { λ s o. NoneGives (GivesEvidence ortho s o) (ortho_items o) };
+
+    ghost whole = { λ s. overlap_cost ortho_items };
+
+    ghost stops = { λ s. StopsAtOverlap ortho s ortho_items };
+
+    ghost none_first = { λ s o e n. not_both (GivesEvidence ortho s o) one (ortho_items o) e n };
+
+    fn try_for(
+        &self,
+        alloc: Global,
+        sys: &PreparedSystem<'_>,
+        overlap: &Overlap,
+        budget: &mut Budget,
+        grown: &mut Grown,
+    ) -> Result<Sought<PairEvidence>, NoMemory> {
+        try_overlap(alloc, sys, overlap, budget, grown)
     }
 }

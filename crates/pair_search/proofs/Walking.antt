@@ -1,10 +1,9 @@
 -- One overlap after the other.
-use Rattle.std.proofs.Common.{ℕ, ◌≡◌, ◌+◌, ◌<◌, List, [], ◌∷◌, ◌++◌, map, take, drop, length, get_or, Vec, Global, Ok, refl, sym, ap, ◌∙◌, subst, subst₂}
+use Rattle.std.proofs.Common.{ℕ, ◌≡◌, ◌+◌, ◌<◌, List, [], ◌∷◌, ◌++◌, map, take, drop, length, get_or, refl, sym, ap, ◌∙◌, subst, subst₂}
 use Rattle.std.proofs.lemmas.List.{map_more}
 use Rattle.rewriting.specs.Lists.{IsAmong}
 use Rattle.rewriting.proofs.Lists.{among_at, among_map}
 use Rattle.unifier_run.specs.Overlaps as math
-use Rattle.certificates.specs.Evidence as evidence
 use Rattle.certificates.specs.Certificates as certificates
 use Rattle.cert_model.specs.CertificateView.{pair_entry_view}
 use Rattle.cert_model.specs.declared.model.PairEntry.{PairEntry}
@@ -14,26 +13,13 @@ use Rattle.cc_count.specs.Counts.{Counts, Spends}
 use Rattle.first_found.specs.Rows.{HasNone, AreFirsts, EndsAtRow, StopsInRow}
 use Rattle.first_found.proofs.Rows.{firsts_more}
 use Rattle.cc_count.proofs.Spending.{spends_both}
-use Rattle.pair_search.specs.Answers.{WalkAnswers, EntriesAnswers}
-use Rattle.cc_count.specs.declared.Sought.{Sought}
-use Rattle.cert_model.specs.declared.evidence.PairEvidence.{PairEvidence}
 use Rattle.pair_search.proofs.Places.{split_at}
-
--- what a walk told, of what it is known to be
-pub told : {A : Type 0} (cost : A → ℕ) (Gives : A → evidence.PairEvidence → Type 0) (items : List A) (before after : Counts) (f g : Sought PairEvidence) → f ≡ g
-    → WalkAnswers cost Gives items before after (Ok f) → WalkAnswers cost Gives items before after (Ok g)
-told cost Gives items before after f g is h = subst (λ z. WalkAnswers cost Gives items before after (Ok z)) is h
 
 -- each overlap of the list is among those of the definitions
 pub among_here : (xs : List Overlap) (i : ℕ) (x : Overlap) → i < length xs → x ≡ get_or xs i x → IsAmong (overlap_view x) (map overlap_view xs)
 among_here xs i x l e = among_map overlap_view x xs (among_at xs i x x l e)
 
 module _ (First : math.Overlap → certificates.PairEntry → ℕ → Type 0) where
-  -- what the walk over the overlaps told
-  pub entries_told : (whole : math.Overlap → ℕ) (Stops : math.Overlap → ℕ → Type 0) (os : List math.Overlap) (before after : Counts) (f g : Sought (Vec PairEntry Global)) → f ≡ g
-      → EntriesAnswers First whole Stops os before after (Ok f) → EntriesAnswers First whole Stops os before after (Ok g)
-  entries_told whole Stops os before after f g is h = subst (λ z. EntriesAnswers First whole Stops os before after (Ok z)) is h
-
   -- so far there are entries for the first overlaps, and this was paid
   abbrev pub IsSoFar : List Overlap → Counts → Counts → List PairEntry → Type 0
   IsSoFar done start here es = (n : ℕ) × Spends start n here × AreFirsts First (map overlap_view done) (map pair_entry_view es) n

@@ -8,10 +8,11 @@ use Rattle.cops_names.specs.NameTable.{NameTable}
 use Rattle.validity.specs.declared.Search.{Search}
 use Rattle.validity.specs.declared.Search.TheVariants.{Found, Nothing, Spent}
 use Rattle.cc_count.specs.Counts.{Counts, Spends}
-use Rattle.first_found.specs.Spaces.{Space, nothing, found, CostsOnce, MayEnd, MayEndExactly}
+use Rattle.first_found.specs.Spaces.{Space, found, CostsOnce, MayEnd, MayEndExactly}
 use Rattle.first_found.proofs.Spaces.{ends_so, first_found, first_spent, second_ends}
 use Rattle.search_answers.specs.Answers.{Searches, ending_of, IfFound}
 use Rattle.search_answers.proofs.OrElse.{stands, or_else}
+use Rattle.search_answers.proofs.Walking.{not_nothing_found}
 use Rattle.search_spaces.specs.Ortho.{ortho_space}
 use Rattle.search_spaces.specs.Peak.{peak_space}
 use Rattle.search_spaces.specs.OrthoThenPeak.{ortho_then_peak_space}
@@ -21,11 +22,6 @@ use Rattle.quasi_space.specs.Endings.{MayEndLast}
 use Rattle.quasi_space.specs.Measures.{pruned_measures}
 use Rattle.quasi_space.specs.Quasi.{quasi_space_by}
 use Rattle.quasi_space.proofs.Endings.{last_ends}
-
-not_nothing : (a : Search) → (a ≡ Nothing → ⊥) → ending_of a ≡ nothing → ⊥
-not_nothing (Found c) other e = cc
-not_nothing Nothing other e = other refl
-not_nothing Spent other e = cc
 
 module _ (names : NameTable) (sys : System) where
   abbrev Ortho : Space Certificate
@@ -55,12 +51,12 @@ module _ (names : NameTable) (sys : System) where
     pub both_stand : (a : Search) → (a ≡ Nothing → ⊥) → Searches ending_of (MayEndExactly Ortho) before here (Ok a) → Searches ending_of (MayEnd Both) before here (Ok a)
     both_stand a other =
         stands ending_of (MayEndExactly Ortho) (MayEnd Both) (λ left n c h. first_found Ortho Peak left n c (ends_so Ortho left n (found c) h)) (λ left n h. first_spent Ortho Peak left n h)
-        before here a (not_nothing a other)
+        before here a (not_nothing_found a other)
 
     pub all_stand : (a : Search) → (a ≡ Nothing → ⊥) → Searches ending_of (MayEnd Both) before here (Ok a) → Searches ending_of (MayEndLast (pruned_spaces names sys)) before here (Ok a)
     all_stand a other =
         stands ending_of (MayEnd Both) (MayEndLast (pruned_spaces names sys)) (λ left n c h. first_found Both Last left n c h) (λ left n h. first_spent Both Last left n h)
-        before here a (not_nothing a other)
+        before here a (not_nothing_found a other)
 
     module _ (after : Counts) where
       pub both_behind : Searches ending_of (MayEndExactly Ortho) before here (Ok Nothing) → (r : Result Search NoMemory) → Searches ending_of (MayEndExactly Peak) here after r

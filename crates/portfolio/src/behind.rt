@@ -4,16 +4,14 @@ ghost use Rattle.std.specs.Prelude.{ℕ, ◌≡◌, IfOk, map};
 ghost use Rattle.cert_model.specs.CertificateView.{simp_view, certificate_view};
 ghost use Rattle.cc_count.specs.Counts.{Spends};
 ghost use Rattle.simplifications.specs.Simplifying.{AllSimplify};
-ghost use Rattle.search_spaces.specs.Ortho.{ortho_space};
-ghost use Rattle.search_spaces.specs.Peak.{peak_space};
 ghost use Rattle.quasi_space.specs.Measures.{pruned_measures};
-ghost use Rattle.proof_spaces.specs.Proofs.{with_steps, two_with_steps, three_with_steps};
+ghost use Rattle.proof_spaces.specs.Proofs.{two_with_steps, three_with_steps};
 ghost use Rattle.search_answers.specs.Given.{HasOverlaps, IsOverlapList};
 ghost use Rattle.search_answers.specs.Answers.{Searches};
 ghost use Rattle.first_found.specs.Spaces.{MayEnd};
 ghost use Rattle.quasi_space.specs.Endings.{MayEndLast};
 ghost use Rattle.portfolio.specs.Answers.{outcome_ending};
-ghost use Rattle.portfolio.specs.StepAnswers.{HasSteps, steps_before, behind_ending, HandsBack, WritesBehind, AnswersBehind, quasi_with_steps, MayEndSimplified};
+ghost use Rattle.portfolio.specs.StepAnswers.{HasSteps, steps_before, behind_ending, HandsBack, WritesBehind, AnswersBehind, MayEndSimplified};
 
 use crate::Outcome;
 use crate::untouched::overlaps_behind;
@@ -94,59 +92,6 @@ fn with_the_steps(
     }
 }
 
-// The search for a certificate that the last system is almost orthogonal.
-fn search_ortho_behind(
-    alloc: Global,
-    last: &PreparedSystem<'_>,
-    names: &Names,
-    overlaps: Option<&[Overlap]>,
-    steps: Vec<Simp>,
-    budget: &mut Budget,
-) -> Result<Behind, NoMemory>
-    requires overlaps { IsOverlapList last.now overlaps }
-    ensures searched { Searches behind_ending (MayEnd (with_steps names.now (map simp_view steps.items) (ortho_space names.now last.now))) budget.old budget.new result }
-    ensures hands_back { IfOk result (HandsBack (map simp_view steps.items)) }
-    ensures kept { (n : ℕ) × Spends budget.old n budget.new }
-{
-    let answer = search_ortho_over(alloc, last, names, overlaps, budget)?;
-    with_the_steps(alloc, names, steps, answer)
-}
-
-// The search for one that it is not confluent.
-fn search_peak_behind(
-    alloc: Global,
-    last: &PreparedSystem<'_>,
-    names: &Names,
-    overlaps: Option<&[Overlap]>,
-    steps: Vec<Simp>,
-    budget: &mut Budget,
-) -> Result<Behind, NoMemory>
-    requires overlaps { IsOverlapList last.now overlaps }
-    ensures searched { Searches behind_ending (MayEnd (with_steps names.now (map simp_view steps.items) (peak_space names.now last.now))) budget.old budget.new result }
-    ensures hands_back { IfOk result (HandsBack (map simp_view steps.items)) }
-    ensures kept { (n : ℕ) × Spends budget.old n budget.new }
-{
-    let answer = search_peak_over(alloc, last.indexed(), names, overlaps, budget)?;
-    with_the_steps(alloc, names, steps, answer)
-}
-
-// The search for one with a measure, which is the last.
-fn search_quasi_behind(
-    alloc: Global,
-    last: &PreparedSystem<'_>,
-    names: &Names,
-    overlaps: Option<&[Overlap]>,
-    steps: Vec<Simp>,
-    budget: &mut Budget,
-) -> Result<Behind, NoMemory>
-    requires overlaps { IsOverlapList last.now overlaps }
-    ensures searched { Searches behind_ending (MayEndLast (quasi_with_steps names.now (map simp_view steps.items) last.now)) budget.old budget.new result }
-    ensures kept { (n : ℕ) × Spends budget.old n budget.new }
-{
-    let answer = search_quasi_over(alloc, last, names, overlaps, budget)?;
-    with_the_steps(alloc, names, steps, answer)
-}
-
 // The first two searches, one behind the other.
 fn search_two_behind(
     alloc: Global,
@@ -161,8 +106,12 @@ fn search_two_behind(
     ensures hands_back { IfOk result (HandsBack (map simp_view steps.items)) }
     ensures kept { (n : ℕ) × Spends budget.old n budget.new }
 {
-    match search_ortho_behind(alloc, last, names, overlaps, steps, budget)? {
-        Behind::Nothing(steps) => search_peak_behind(alloc, last, names, overlaps, steps, budget),
+    let answer = search_ortho_over(alloc, last, names, overlaps, budget)?;
+    match with_the_steps(alloc, names, steps, answer)? {
+        Behind::Nothing(steps) => {
+            let next = search_peak_over(alloc, last.indexed(), names, overlaps, budget)?;
+            with_the_steps(alloc, names, steps, next)
+        }
         end => Ok(end),
     }
 }
@@ -181,7 +130,10 @@ fn search_three_behind(
     ensures kept { (n : ℕ) × Spends budget.old n budget.new }
 {
     match search_two_behind(alloc, last, names, overlaps, steps, budget)? {
-        Behind::Nothing(steps) => search_quasi_behind(alloc, last, names, overlaps, steps, budget),
+        Behind::Nothing(steps) => {
+            let next = search_quasi_over(alloc, last, names, overlaps, budget)?;
+            with_the_steps(alloc, names, steps, next)
+        }
         end => Ok(end),
     }
 }
@@ -238,8 +190,8 @@ pub fn search_simplified(
     ensures searched { Searches outcome_ending (MayEndSimplified names.now sys.now) budget.old budget.new result }
     ensures kept { (n : ℕ) × Spends budget.old n budget.new }
 {
-    match find_steps(alloc, sys, budget) {
-        Ok(SimpSearch::Steps(steps, last)) => {
+    match find_steps(alloc, sys, budget)? {
+        SimpSearch::Steps(steps, last) => {
             if steps.is_empty() {
                 return Ok(Outcome::Exhausted);
             }
@@ -253,7 +205,6 @@ pub fn search_simplified(
             )?;
             Ok(outcome_of(end))
         }
-        Ok(SimpSearch::Spent) => Ok(Outcome::Spent),
-        Err(e) => Err(e),
+        SimpSearch::Spent => Ok(Outcome::Spent),
     }
 }

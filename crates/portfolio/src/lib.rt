@@ -63,10 +63,9 @@ pub fn prove(
     let indexed = IndexedSystem::new(alloc, sys)?;
     let prepared = PreparedSystem::new(alloc, indexed)?;
     let found = overlaps_or_none(alloc, &prepared)?;
-    match search_whole(alloc, &prepared, names, found.as_deref(), budget) {
-        Ok(Search::Found(cert)) => Ok(Outcome::Found(cert)),
-        Ok(Search::Nothing) => search_simplified(alloc, sys, names, found, budget),
-        Ok(Search::Spent) => Ok(Outcome::Spent),
-        Err(e) => Err(e),
+    match search_whole(alloc, &prepared, names, found.as_deref(), budget)? {
+        Search::Found(cert) => Ok(Outcome::Found(cert)),
+        Search::Nothing => search_simplified(alloc, sys, names, found, budget),
+        Search::Spent => Ok(Outcome::Spent),
     }
 }

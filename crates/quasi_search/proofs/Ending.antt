@@ -1,5 +1,5 @@
 -- How the search ends.
-use Rattle.std.proofs.Common.{ℕ, ◌≡◌, ◌+◌, ◌≤◌, inl, List, Result, Ok, Err, sym, subst, arith}
+use Rattle.std.proofs.Common.{ℕ, ◌≡◌, ◌+◌, ◌≤◌, inl, List, Result, Ok, Err, sym, ◌∙◌, subst, arith}
 use Rattle.rewriting.specs.Rules.{System}
 use Rattle.unifier_run.specs.Overlaps.{Overlap, AreOverlaps}
 use Rattle.certificates.specs.Certificates.{Certificate, MeasureCertificate, PairEntry, quasi_certificate}
@@ -13,7 +13,7 @@ use Rattle.quasi_check.specs.Parts.{AreRulesGood}
 use Rattle.cc_count.specs.Counts.{Counts, Spends}
 use Rattle.first_found.specs.Rows.{AreFirsts, EndsAtRow, StopsInRow}
 use Rattle.first_found.specs.Spaces.{Space, spent}
-use Rattle.search_answers.specs.Answers.{ending_of, Searches, IfFound, IfNothing}
+use Rattle.search_answers.specs.Answers.{ending_of, Searches, IfFound, IfNothing, WrittenAnswers}
 use Rattle.search_spaces.specs.Texts.{HasText}
 use Rattle.quasi_space.specs.PrunedMeasures.{IsPrunedFirst}
 use Rattle.quasi_space.specs.Endings.{MayEndLast}
@@ -23,13 +23,7 @@ use Rattle.quasi_space.proofs.AllSpaces.{each_searchable, pruned_search}
 use Rattle.quasi_space.proofs.Measures.{pruned_tried}
 use Rattle.quasi_space.proofs.Quasi.{ends_closed, ends_at_row, ends_in_row, ends_found, ends_too_long, ends_no_measure, ends_in_measures}
 use Rattle.cc_count.proofs.Spending.{spends_none, spends_both}
-use Rattle.quasi_search.specs.MeasureTrials.{IsNoneGood, AreTooFew, MeasureAnswers}
-use Rattle.cert_model.specs.declared.model.MeasureCert.{MeasureCert}
-use Rattle.cc_count.specs.declared.Sought.{Sought}
-
--- what the search for a measure told, of what it is known to be
-pub measure_told : (here sys : System) (before after : Counts) (f g : Sought MeasureCert) → here ≡ sys → f ≡ g → MeasureAnswers here before after (Ok f) → MeasureAnswers sys before after (Ok g)
-measure_told here sys before after f g same is h = subst (λ s. MeasureAnswers s before after (Ok g)) same (subst (λ z. MeasureAnswers here before after (Ok z)) is h)
+use Rattle.quasi_search.specs.MeasureTrials.{IsNoneGood, AreTooFew}
 
 module _ (names : NameTable) (sys : System) where
   abbrev pub Pruned : Space Certificate
@@ -91,22 +85,25 @@ module _ (names : NameTable) (sys : System) where
 
     -- every overlap has evidence, and the search goes on for a measure
     module _ (before here after : Counts) (es : List PairEntry) (whole : (n : ℕ) × Spends before n here × AreFirsts (IsQuasiEntry sys) os es n) where
-      pub good_searched : (m : MeasureCertificate) → (u : ℕ) × Spends here u after × IsPrunedFirst sys m u → (d : Certificate) → d ≡ quasi_certificate m es → HasText names d
-          → (n : ℕ) × Spends before n after × ((k : ℕ) × Pruned.Finds d k × (n ≤ k))
-      good_searched m (u, spends, first) d is text = (
-        whole.0 + u,
-        spends_both before here after whole.0 u whole.1 spends,
-        subst (λ c. (k : ℕ) × Pruned.Finds c k × (whole.0 + u ≤ k)) (sym is)
-            (ends_found names sys (pruned_measures sys) (pruned_tried sys) os is_open es whole.0 whole.2 before.left u m first (subst (HasText names) is text)),
-      )
+      -- the certificate of the entries and the first good measure is found, or it has no text
+      module _ (m : MeasureCertificate) (u : ℕ) (spends : Spends here u after) (first : IsPrunedFirst sys m u) (d : Certificate) (is : d ≡ quasi_certificate m es) where
+        all_spends : Spends before (whole.0 + u) after
+        all_spends = spends_both before here after whole.0 u whole.1 spends
 
-      pub long_searched : (m : MeasureCertificate) → (u : ℕ) × Spends here u after × IsPrunedFirst sys m u → (d : Certificate) → d ≡ quasi_certificate m es → (HasText names d → ⊥)
-          → Searches ending_of (MayEndLast Pruned) before after (Ok Nothing)
-      long_searched m (u, spends, first) d is long = (
-        whole.0 + u,
-        spends_both before here after whole.0 u whole.1 spends,
-        ends_too_long names sys (pruned_measures sys) (pruned_tried sys) os is_open es whole.0 whole.2 before.left u m first (λ t. long (subst (HasText names) (sym is) t)),
-      )
+        pub written_searched : (r : Result Search NoMemory) → WrittenAnswers names d r → Searches ending_of (MayEndLast Pruned) before after r
+        written_searched (Ok (Found c)) (same, text) = (
+          whole.0 + u,
+          all_spends,
+          subst (λ z. (k : ℕ) × Pruned.Finds z k × (whole.0 + u ≤ k)) (sym (same ∙ is))
+              (ends_found names sys (pruned_measures sys) (pruned_tried sys) os is_open es whole.0 whole.2 before.left u m first (subst (HasText names) is text)),
+        )
+        written_searched (Ok Nothing) long = (
+          whole.0 + u,
+          all_spends,
+          ends_too_long names sys (pruned_measures sys) (pruned_tried sys) os is_open es whole.0 whole.2 before.left u m first (λ t. long (subst (HasText names) (sym is) t)),
+        )
+        written_searched (Ok Spent) h = absurd h
+        written_searched (Err e) h = tt
 
       pub none_searched : (u : ℕ) × Spends here u after × IsNoneGood sys u → Searches ending_of (MayEndLast Pruned) before after (Ok Nothing)
       none_searched (u, spends, none) = (

@@ -16,7 +16,8 @@ use Rattle.pair_search.specs.Answers.{WalkAnswers}
 use Rattle.cc_count.specs.declared.Sought.{Sought}
 use Rattle.cert_model.specs.declared.evidence.PairEvidence.{PairEvidence}
 use Rattle.cc_count.specs.declared.Sought.TheVariants.{Spent}
-use Rattle.pair_search.proofs.Composed.{item_is_dear, item_bare, goes_behind}
+use Rattle.search_answers.proofs.Walking.{item_is_dear, item_bare}
+use Rattle.pair_search.proofs.Composed.{goes_behind}
 use Rattle.quasi_space.specs.QuasiItems.{QuasiItem, make_listing, quasi_item_cost, GivesQuasi}
 use Rattle.quasi_search.specs.Listed.{ListedAnswers}
 

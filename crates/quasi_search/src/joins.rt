@@ -80,8 +80,8 @@ fn joined(alloc: Global, first: &Entry, second: &Entry) -> Result<PairEvidence, 
     })
 }
 
-// The evidence of the first term that is on both lists.
-fn try_shared(
+/// The evidence of the first term that is on both lists.
+pub fn try_shared(
     alloc: Global,
     left: &[Entry],
     right: &[Entry],

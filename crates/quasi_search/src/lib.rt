@@ -14,7 +14,6 @@ ghost use Rattle.quasi_space.specs.Endings.{MayEndLast};
 ghost use Rattle.quasi_space.specs.Measures.{pruned_measures};
 ghost use Rattle.quasi_space.specs.Quasi.{quasi_space, quasi_space_by};
 
-mod entries;
 mod joins;
 mod listed;
 mod measures;
@@ -22,19 +21,20 @@ mod reducts;
 mod refuting;
 mod trying;
 
-use crate::entries::entries_for;
+pub use crate::joins::try_shared;
 use crate::measures::search_measures;
+use crate::trying::QuasiTrial;
 pub use crate::trying::try_overlap;
 use cc_count::{Budget, Sought};
-use cert_limits::has_text;
 use cert_model::Certificate;
 use cops_names::Names;
 use critical_pairs::Overlap;
 use ctrs_classes::is_deterministic;
+use pair_search::entries_for;
 use prepared_system::PreparedSystem;
 use quasi_check::are_right_sides_irreducible;
 use rule_index::IndexedSystem;
-use search_answers::overlaps_or_none;
+use search_answers::{found_if_written, overlaps_or_none};
 use std::alloc::Global;
 use term_core::{NoMemory, System};
 pub use validity::Search;
@@ -62,24 +62,17 @@ fn search_open(
     ensures pruned { Searches ending_of (MayEndLast (quasi_space_by (pruned_measures sys.now) names.now sys.now)) budget.old budget.new result }
     ensures kept { (n : ℕ) × Spends budget.old n budget.new }
 {
-    let pairs = match entries_for(alloc, sys, overlaps, budget) {
-        Ok(Sought::Found(pairs)) => pairs,
-        Ok(Sought::Nothing) => return Ok(Search::Nothing),
-        Ok(Sought::Spent) => return Ok(Search::Spent),
-        Err(e) => return Err(e),
+    let pairs = match entries_for(alloc, sys, overlaps, &QuasiTrial, budget)? {
+        Sought::Found(pairs) => pairs,
+        Sought::Nothing => return Ok(Search::Nothing),
+        Sought::Spent => return Ok(Search::Spent),
     };
-    match search_measures(alloc, sys.system(), budget) {
-        Ok(Sought::Found(measure)) => {
-            let cert = Certificate::Quasi(measure, pairs);
-            if has_text(alloc, names, &cert)? {
-                Ok(Search::Found(cert))
-            } else {
-                Ok(Search::Nothing)
-            }
+    match search_measures(alloc, sys.system(), budget)? {
+        Sought::Found(measure) => {
+            found_if_written(alloc, names, Certificate::Quasi(measure, pairs))
         }
-        Ok(Sought::Nothing) => Ok(Search::Nothing),
-        Ok(Sought::Spent) => Ok(Search::Spent),
-        Err(e) => Err(e),
+        Sought::Nothing => Ok(Search::Nothing),
+        Sought::Spent => Ok(Search::Spent),
     }
 }
 

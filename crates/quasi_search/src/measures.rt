@@ -19,11 +19,10 @@ fn search_orders(
     ensures answer { PrecedenceAnswers sys.now budget.old budget.new result }
     ensures kept { (n : ℕ) × Spends budget.old n budget.new }
 {
-    match search_precedences(alloc, sys, budget) {
-        Ok(Sought::Found(order)) => Ok(Sought::Found(MeasureCert::Lpo(order))),
-        Ok(Sought::Nothing) => Ok(Sought::Nothing),
-        Ok(Sought::Spent) => Ok(Sought::Spent),
-        Err(e) => Err(e),
+    match search_precedences(alloc, sys, budget)? {
+        Sought::Found(order) => Ok(Sought::Found(MeasureCert::Lpo(order))),
+        Sought::Nothing => Ok(Sought::Nothing),
+        Sought::Spent => Ok(Sought::Spent),
     }
 }
 
@@ -36,10 +35,9 @@ pub(crate) fn search_measures(
     ensures answer { MeasureAnswers sys.now budget.old budget.new result }
     ensures kept { (n : ℕ) × Spends budget.old n budget.new }
 {
-    match search_grid(alloc, sys, budget) {
-        Ok(Sought::Found(linear)) => Ok(Sought::Found(MeasureCert::Linear(linear))),
-        Ok(Sought::Nothing) => search_orders(alloc, sys, budget),
-        Ok(Sought::Spent) => Ok(Sought::Spent),
-        Err(e) => Err(e),
+    match search_grid(alloc, sys, budget)? {
+        Sought::Found(linear) => Ok(Sought::Found(MeasureCert::Linear(linear))),
+        Sought::Nothing => search_orders(alloc, sys, budget),
+        Sought::Spent => Ok(Sought::Spent),
     }
 }

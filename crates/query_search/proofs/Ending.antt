@@ -8,13 +8,21 @@ use Rattle.term_core.specs.declared.terms.NoMemory.{NoMemory}
 use Rattle.cc_count.specs.Counts.{Counts, Spends}
 use Rattle.first_found.specs.Items.{cost_of}
 use Rattle.first_found.specs.Spaces.{Ending, found, nothing, spent}
-use Rattle.query_space.specs.Items.{QueryAnswer, query_items, query_item_cost}
+use Rattle.query_space.specs.Items.{QueryAnswer, query_items, query_item_cost, GivesAnswer}
 use Rattle.query_space.specs.Endings.{MayEndQuery}
 use Rattle.query_space.proofs.Searchable.{searchable, prices_are, ends_found, ends_none, ends_spent}
 use Rattle.query_space.proofs.True.{answers_true}
-use Rattle.query_search.specs.Answers.{reply_view, EndsSo, WalkAnswers, SearchAnswers, IsTrueEnding, IsTrueReply, IsEmptyEnding, IsEmptyReply, IsAnswer, HasAnswerWithin}
+use Rattle.search_answers.specs.Walks.{EndsSo}
+use Rattle.query_search.specs.Answers.{reply_view, WalkAnswers, SearchAnswers, IsTrueEnding, IsTrueReply, IsEmptyEnding, IsEmptyReply, IsAnswer, HasAnswerWithin}
 use Rattle.query_search.specs.declared.reply.Reply.{Reply}
 use Rattle.query_search.specs.declared.reply.Reply.TheVariants.{Infeasible, Meets, Exhausted, Spent}
+
+-- a reply that is an answer, or the end of the budget
+pub not_nothing : (r : Reply) → (r ≡ Exhausted → ⊥) → reply_view r ≡ nothing → ⊥
+not_nothing (Infeasible e) other = λ e. cc
+not_nothing (Meets ts ds) other = λ e. cc
+not_nothing Exhausted other = λ e. other refl
+not_nothing Spent other = λ e. cc
 
 -- the numbers that pass a test, up to one more
 head_apart : (b : Bool) (a : ℕ) (ys xs : List ℕ) → cond b (a ∷ (ys ++ xs)) (ys ++ xs) ≡ cond b (a ∷ ys) ys ++ xs
@@ -30,7 +38,7 @@ pub filter_more : (p : ℕ → Bool) (a n j : ℕ) → a + n ≡ j → filter p 
 filter_more p a n j e = let one : n + 1 ≡ suc n = omega arith in ap (λ m. filter p (range_with_len a m)) one ∙ filter_next p n a j e
 
 module _ (sys : System) (cs : List Condition) (before after : Counts) where
-  ended : (e : Ending QueryAnswer) → EndsSo sys cs (query_items sys cs) before after e → (n : ℕ) × Spends before n after × MayEndQuery sys cs before.left n e
+  ended : (e : Ending QueryAnswer) → EndsSo (query_item_cost sys cs) (GivesAnswer sys cs) (query_items sys cs) before after e → (n : ℕ) × Spends before n after × MayEndQuery sys cs before.left n e
   ended (found a) (n, s, f) = (n, s, ends_found sys cs before.left n a f)
   ended nothing (s, none) = (cost_of (query_item_cost sys cs) (query_items sys cs), s, ends_none sys cs before.left none)
   ended spent (n, s, end, stopped) =

@@ -3,17 +3,18 @@ use Rattle.std.proofs.Common.{ℕ, ◌≡◌, ◌+◌, ◌<◌, List, [], ◌∷
 use Rattle.rewriting.specs.Prelude.{Bindings, Condition, System}
 use Rattle.term_core.specs.declared.terms.NoMemory.{NoMemory}
 use Rattle.cc_count.specs.Counts.{Counts, Spends}
-use Rattle.cc_count.proofs.Spending.{spends_both}
+use Rattle.cc_count.proofs.Spending.{spends_both, spends_same}
 use Rattle.first_found.specs.Items.{GivesNothing}
 use Rattle.reach_lists.specs.Solutions.{Solution, solutions, asked}
 use Rattle.reach_lists.specs.Lists.{unconditional, condition_list, condition_cost, total}
-use Rattle.query_space.specs.Items.{try_values, full_under, assignment_cost, answer_of, GivesAnswer}
+use Rattle.query_space.specs.Items.{try_values, full_under, assignment_cost, answer_of, query_item_cost, GivesAnswer}
 use Rattle.query_space.proofs.Depths.{full_is, total_is}
 use Rattle.reach.specs.SolutionView.{first_of}
-use Rattle.query_search.specs.Answers.{EndsSo, FirstAnswers, WalkAnswers}
+use Rattle.search_answers.specs.Walks.{EndsSo}
+use Rattle.search_answers.proofs.Walking.{item_gives, item_bare}
+use Rattle.query_search.specs.Answers.{FirstAnswers, WalkAnswers}
 use Rattle.query_search.specs.declared.reply.Reply.{Reply}
 use Rattle.query_search.specs.declared.reply.Reply.TheVariants.{Spent}
-use Rattle.query_search.proofs.Walking.{item_found, item_bare}
 
 module _ (sys : System) (cs : List Condition) (b : Bindings) (start mid end : Counts) (paid : Spends start 1 mid) where
   -- what the lists cost
@@ -25,6 +26,9 @@ module _ (sys : System) (cs : List Condition) (b : Bindings) (start mid end : Co
 
   cost_is : 1 + lists_cost ≡ assignment_cost sys cs b
   cost_is = let same = total_is sys cs b in omega (arith, same)
+
+  item_paid : Spends mid lists_cost end → Spends start (query_item_cost sys cs (try_values b)) end
+  item_paid s = spends_same start end (1 + lists_cost) (assignment_cost sys cs b) cost_is (all_paid s)
 
   none_under : full_under sys cs b ≡ [] → GivesNothing (GivesAnswer sys cs) (try_values b)
   none_under e a (s, (rest, h), is) = (let wrong = sym e ∙ h in cc)
@@ -41,13 +45,13 @@ module _ (sys : System) (cs : List Condition) (b : Bindings) (start mid end : Co
       → (r : Result Reply NoMemory) → FirstAnswers cs full r
       → WalkAnswers sys cs (try_values b ∷ []) start end r
   values_end None e s (Ok r) h =
-      subst (EndsSo sys cs (try_values b ∷ []) start end) (sym h)
-      (item_bare sys cs (try_values b) start end (1 + lists_cost) (all_paid s) cost_is
+      subst (EndsSo (query_item_cost sys cs) (GivesAnswer sys cs) (try_values b ∷ []) start end) (sym h)
+      (item_bare (query_item_cost sys cs) (GivesAnswer sys cs) (try_values b) start end (item_paid s)
       (none_under (sym (full_is sys cs b) ∙ no_first (solutions (condition_list sys [] 3) cs (unconditional b ∷ [])) e)))
   values_end (Some x) e s (Ok r) h =
       let first = some_first (solutions (condition_list sys [] 3) cs (unconditional b ∷ [])) x e in
-      subst (EndsSo sys cs (try_values b ∷ []) start end) (sym h)
-      (item_found sys cs (try_values b) start end (1 + lists_cost) (all_paid s) cost_is (answer_of cs x) (x, (first.0, sym (full_is sys cs b) ∙ first.1), refl))
+      subst (EndsSo (query_item_cost sys cs) (GivesAnswer sys cs) (try_values b ∷ []) start end) (sym h)
+      (item_gives (query_item_cost sys cs) (GivesAnswer sys cs) (try_values b) start end (item_paid s) (answer_of cs x) (x, (first.0, sym (full_is sys cs b) ∙ first.1), refl))
   values_end None e s (Err w) h = (1 + lists_cost, all_paid s)
   values_end (Some x) e s (Err w) h = (1 + lists_cost, all_paid s)
 

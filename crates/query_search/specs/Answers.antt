@@ -7,9 +7,10 @@ use Rattle.cert_model.specs.DerivationView.{derivation_view}
 use Rattle.cert_model.specs.EvidenceView.{inf_evidence_view}
 use Rattle.cert_model.specs.declared.evidence.InfEvidence.{InfEvidence}
 use Rattle.cc_count.specs.Counts.{Counts, Spends}
-use Rattle.first_found.specs.Items.{GivesNothing, NoneGives, cost_of, IsFirst, IsStopped}
+use Rattle.first_found.specs.Items.{GivesNothing}
 use Rattle.first_found.specs.Spaces.{Ending, found, nothing, spent}
 use Rattle.search_spaces.specs.Refuting.{Refuting}
+use Rattle.search_answers.specs.Walks.{Walks}
 use Rattle.reach_lists.specs.Solutions.{Solution}
 use Rattle.query_space.specs.Items.{QueryAnswer, never_met, met_by, QueryItem, query_item_cost, answer_of, Refutes, GivesAnswer, IsGoodAnswer}
 use Rattle.query_space.specs.Space.{query_space, IsHeld, IsQueryPrice}
@@ -38,14 +39,8 @@ FirstAnswers cs (Some s) (Ok r) = reply_view r ≡ found (answer_of cs s)
 FirstAnswers cs o (Err e) = Unit {0}
 
 -- what the first item gives that gives anything, at the cost that was paid; that none does, at the cost of all; or that the budget ended
-abbrev pub EndsSo : System → List Condition → List QueryItem → Counts → Counts → Ending QueryAnswer → Type 0
-EndsSo sys cs items before after (found a) = (n : ℕ) × Spends before n after × IsFirst (query_item_cost sys cs) (GivesAnswer sys cs) items a n
-EndsSo sys cs items before after nothing = Spends before (cost_of (query_item_cost sys cs) items) after × NoneGives (GivesAnswer sys cs) items
-EndsSo sys cs items before after spent = (n : ℕ) × Spends before n after × (after.left ≡ 0) × IsStopped (query_item_cost sys cs) (GivesAnswer sys cs) items n
-
 abbrev pub WalkAnswers : System → List Condition → List QueryItem → Counts → Counts → Result Reply NoMemory → Type 0
-WalkAnswers sys cs items before after (Ok r) = EndsSo sys cs items before after (reply_view r)
-WalkAnswers sys cs items before after (Err e) = (n : ℕ) × Spends before n after
+WalkAnswers sys cs = Walks reply_view (query_item_cost sys cs) (GivesAnswer sys cs)
 
 -- a search of the space, by what it paid
 abbrev pub SearchAnswers : System → List Condition → Counts → Counts → Result Reply NoMemory → Type 0

@@ -1,12 +1,14 @@
 -- What searches answer.
-use Rattle.std.specs.Prelude.{ℕ, Result, Ok, Err}
+use Rattle.std.specs.Prelude.{ℕ, ◌≡◌, Result, Ok, Err}
 use Rattle.certificates.specs.Certificates as math
+use Rattle.cops_names.specs.NameTable.{NameTable}
 use Rattle.cert_model.specs.CertificateView.{certificate_view}
 use Rattle.cc_count.specs.Counts.{Counts, Spends}
 use Rattle.term_core.specs.declared.terms.NoMemory.{NoMemory}
 use Rattle.validity.specs.declared.Search.{Search}
 use Rattle.validity.specs.declared.Search.TheVariants.{Found, Nothing, Spent}
 use Rattle.first_found.specs.Spaces.{Ending, found, nothing, spent}
+use Rattle.search_spaces.specs.Texts.{HasText}
 
 abbrev pub ending_of : Search → Ending math.Certificate
 ending_of (Found c) = found (certificate_view c)
@@ -38,3 +40,10 @@ IfFound view (Err e) P = Unit {0}
 abbrev pub IfNothing : {A C : Type 0} → (A → Ending C) → Result A NoMemory → Type 0 → Type 0
 IfNothing view (Ok answer) P = IfEndsNothing P (view answer)
 IfNothing view (Err e) P = Unit {0}
+
+-- the certificate, where it has a text
+abbrev pub WrittenAnswers : NameTable → math.Certificate → Result Search NoMemory → Type 0
+WrittenAnswers names c (Ok (Found d)) = (certificate_view d ≡ c) × HasText names c
+WrittenAnswers names c (Ok Nothing) = HasText names c → ⊥
+WrittenAnswers names c (Ok Spent) = ⊥
+WrittenAnswers names c (Err e) = Unit {0}

@@ -2,14 +2,20 @@
 #![tactic(auto)]
 
 ghost use Rattle.std.specs.Prelude.{IfOk, map};
+ghost use Rattle.cert_model.specs.CertificateView.{certificate_view};
 ghost use Rattle.critical_pairs.specs.Kept.{AreKnown};
 ghost use Rattle.critical_pairs.specs.View.{overlap_view};
 ghost use Rattle.search_answers.specs.Given.{HasOverlaps};
+ghost use Rattle.search_answers.specs.Answers.{WrittenAnswers};
 
+use cert_limits::has_text;
+use cert_model::Certificate;
+use cops_names::Names;
 use critical_pairs::{Overlap, OverlapError, overlaps_in, overlaps_with};
 use prepared_system::PreparedSystem;
 use std::alloc::Global;
 use term_core::{NoMemory, System};
+use validity::Search;
 
 /// The overlaps of a system, or none where they are refused.
 pub fn overlaps_or_none(
@@ -42,5 +48,16 @@ pub fn overlaps_or_none_with(
         Err(OverlapError::PairTooLarge { .. }) => Ok(None),
         Err(OverlapError::TooManyPairs) => Ok(None),
         Err(OverlapError::NoMemory) => Err(NoMemory),
+    }
+}
+
+/// A certificate is found where it has a text with the names; else it counts as nothing.
+pub fn found_if_written(alloc: Global, names: &Names, cert: Certificate) -> Result<Search, NoMemory>
+    ensures { WrittenAnswers names.now (certificate_view cert) result }
+{
+    if has_text(alloc, names, &cert)? {
+        Ok(Search::Found(cert))
+    } else {
+        Ok(Search::Nothing)
     }
 }

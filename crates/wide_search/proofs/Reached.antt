@@ -14,6 +14,9 @@ use Rattle.noncon_search.specs.Ends.{ends_view, IsEnd, AreMet, AreEnds}
 pub reached_fit : (sys : System) (hyps : List Condition) (t : Term) → Fits t → (l : List Reached) → l ≡ reach_list sys hyps 8 3 t → DoAllFit l
 reached_fit sys hyps t fits l is = subst DoAllFit (sym is) (listed_fit (successors sys hyps (condition_list sys hyps 3)) t fits 8)
 
+pub reached_once : (sys : System) (hyps : List Condition) (t : Term) (l : List Reached) → l ≡ reach_list sys hyps 8 3 t → IsWithoutRepetition l
+reached_once sys hyps t l is = subst IsWithoutRepetition (sym is) (none_twice sys hyps 8 3 t)
+
 -- the ends of such a list
 pub reached_ends : (sys : System) (t : Term) (l : List Reached) → l ≡ reach_list sys [] 8 3 t → (es : List End) → ends_view es ≡ l → EachOf (IsEnd sys) es → AreMet sys es → AreEnds sys t es
 reached_ends sys t l is es same each met =

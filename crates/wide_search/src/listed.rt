@@ -16,11 +16,11 @@ use std::alloc::Global;
 use term_core::{NoMemory, Term};
 use validity::Search;
 
-// The steps of a listing.
-const STEPS: u32 = 8;
+/// The steps of a listing.
+pub(crate) const STEPS: u32 = 8;
 
-// Its condition depth.
-const COND_DEPTH: u32 = 3;
+/// Its condition depth.
+pub(crate) const COND_DEPTH: u32 = 3;
 
 /// Which of the terms that a start reaches are tried as ends.
 #[derive(Clone, Copy, Debug, PartialEq, Eq)]

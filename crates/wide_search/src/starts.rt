@@ -11,9 +11,10 @@ use crate::turns::Turns;
 use cc_count::Budget;
 use cops_names::Names;
 use critical_pairs::Overlap;
+use noncon_search::HasStart;
 use rule_index::IndexedSystem;
 use std::alloc::Global;
-use term_core::{NoMemory, Rule, Term, TermError, vars};
+use term_core::{NoMemory, Term, TermError, vars};
 use validity::Search;
 
 // What a start gets at most, so that no start eats the units of all.
@@ -143,42 +144,19 @@ impl Peaks<'_> {
         }
     }
 
-    // Tries the left sides of rules, each with its share of what is left.
-    fn try_rules(
+    // Tries the left sides of rules, or the sources of overlaps, each with its share of what is left.
+    fn try_each<T: HasStart>(
         &self,
         alloc: Global,
-        rules: &[Rule],
+        all: &[T],
         budget: &mut Budget,
     ) -> Result<Search, NoMemory>
-        requires fit { EachOf (λ r. math.Fits (view r.left)) rules.now }
+        requires fit { EachOf (λ x. math.Fits (T.start x)) all.now }
     {
         let mut is_cut = false;
-        'rules: for (i, rule) in rules.iter().enumerate() {
-            let mut share = part_of(budget, (rules.len() - i) as u64);
-            let found = self.try_term(alloc, &rule.left, &mut share)?;
-            settle(budget, &share);
-            match found {
-                Search::Found(cert) => return Ok(Search::Found(cert)),
-                Search::Nothing => {}
-                Search::Spent => is_cut = true,
-            }
-        }
-        Ok(ended(is_cut))
-    }
-
-    // Tries the sources of overlaps in the same way.
-    fn try_overlaps(
-        &self,
-        alloc: Global,
-        overlaps: &[Overlap],
-        budget: &mut Budget,
-    ) -> Result<Search, NoMemory>
-        requires fit { EachOf (λ o. math.Fits (view o.source)) overlaps.now }
-    {
-        let mut is_cut = false;
-        'overlaps: for (i, overlap) in overlaps.iter().enumerate() {
-            let mut share = part_of(budget, (overlaps.len() - i) as u64);
-            let found = self.try_term(alloc, &overlap.source, &mut share)?;
+        'starts: for (i, one) in all.iter().enumerate() {
+            let mut share = part_of(budget, (all.len() - i) as u64);
+            let found = self.try_term(alloc, one.start(), &mut share)?;
             settle(budget, &share);
             match found {
                 Search::Found(cert) => return Ok(Search::Found(cert)),
@@ -202,7 +180,7 @@ impl Peaks<'_> {
         let mut is_cut = false;
         if let Some(overlaps) = overlaps {
             let mut share = part_of(budget, 2);
-            let found = self.try_overlaps(alloc, overlaps, &mut share)?;
+            let found = self.try_each(alloc, overlaps, &mut share)?;
             settle(budget, &share);
             match found {
                 Search::Found(cert) => return Ok(Search::Found(cert)),
@@ -210,7 +188,7 @@ impl Peaks<'_> {
                 Search::Spent => is_cut = true,
             }
         }
-        match self.try_rules(alloc, self.sys.rules(), budget)? {
+        match self.try_each(alloc, self.sys.rules(), budget)? {
             Search::Found(cert) => Ok(Search::Found(cert)),
             Search::Nothing => Ok(ended(is_cut)),
             Search::Spent => Ok(Search::Spent),

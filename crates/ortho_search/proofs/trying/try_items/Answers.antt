@@ -1,7 +1,8 @@
 use Rattle.cc_count.proofs.Spending.{spends_none, kept_on}
 use Rattle.std.proofs.Common.{◌+◌, ◌∷◌, [], map, drop, get_or, ap, refl, arith}
 use Rattle.std.proofs.lemmas.List.{drop_more, drop_all}
-use Rattle.pair_search.proofs.Composed.{begins, goes_on, ends, finishes}
+use Rattle.search_answers.proofs.Walking.{begins, finishes}
+use Rattle.pair_search.proofs.Composed.{goes_on, ends}
 use Rattle.ortho_search.specs.ItemView.{item_view}
 use Rattle.ortho_search.specs.declared.items.Item.TheVariants.{Trivial}
 use Rattle.ortho_search.proofs.trying.try_items.Goals as goal

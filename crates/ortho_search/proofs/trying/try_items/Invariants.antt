@@ -5,7 +5,7 @@ use Rattle.cc_count.specs.Counts.{Spends}
 use Rattle.first_found.specs.Items.{one}
 use Rattle.search_spaces.specs.PairItems.{GivesEvidence}
 use Rattle.pair_search.specs.Grown.{IsGrown}
-use Rattle.pair_search.proofs.Composed.{Walking}
+use Rattle.search_answers.proofs.Walking.{Walking}
 use Rattle.ortho_search.specs.ItemView.{item_view}
 use Rattle.ortho_search.proofs.trying.try_items.Given as goal
 

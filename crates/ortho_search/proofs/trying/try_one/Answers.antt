@@ -1,11 +1,11 @@
 use Rattle.cc_count.proofs.Spending.{none_left}
-use Rattle.std.proofs.Common.{Ok, refl, subst, arith}
+use Rattle.std.proofs.Common.{refl, arith}
+use Rattle.cert_model.specs.EvidenceView.{pair_evidence_view}
 use Rattle.valid_certificates.specs.Kinds.{ortho}
 use Rattle.critical_pairs.specs.View.{overlap_view}
 use Rattle.first_found.specs.Items.{one}
 use Rattle.search_spaces.specs.PairItems.{GivesEvidence}
-use Rattle.pair_search.specs.Answers.{ItemAnswers}
-use Rattle.pair_search.proofs.Composed.{item_stops, item_gives}
+use Rattle.search_answers.proofs.Walking.{item_stops, item_gives}
 use Rattle.ortho_search.specs.ItemView.{item_view}
 use Rattle.ortho_search.proofs.trying.try_one.Goals as goal
 
@@ -17,5 +17,5 @@ returns-then-not-take-clause-answer c =
 pub returns-in-Some-clause-answer : goal.returns-in-Some-clause-answer
 returns-in-Some-clause-answer c =
     let o = overlap_view c.args.overlap.now in
-    item_gives one (GivesEvidence ortho c.args.sys.now o) (item_view c.args.item) c.args.budget.now c.take.new.self (c.if-not-take.ensures.taken refl) c.in-Some.evidence
-    (subst (λ z. ItemAnswers ortho c.args.sys.now o (item_view c.args.item) (Ok z)) c.in-Some.is c.in_ok-evidence.ensures.answer)
+    item_gives one (GivesEvidence ortho c.args.sys.now o) (item_view c.args.item) c.args.budget.now c.take.new.self (c.if-not-take.ensures.taken refl)
+    (pair_evidence_view c.in-Some.evidence) (rw c.in-Some.is at c.in_ok-evidence.ensures.answer)

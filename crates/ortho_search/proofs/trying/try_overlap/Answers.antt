@@ -33,12 +33,12 @@ items_of-requires c =
     let long = length-map c.args.overlap.now.conds.items condition_view in
     record { few = omega (arith, few, counted, long, c.len.ensures, c.args.overlap.now.conds.ok.0) }
 
-pub returns-in-Ok-clause-answer : goal.returns-in-Ok-clause-answer
-returns-in-Ok-clause-answer c =
+pub returns-clause-answer : goal.returns-clause-answer
+returns-clause-answer c =
     let o = overlap_view c.args.overlap.now in
     let inner = c.args.overlap.now.inner_conds in
     let long : c.len.result ≡ length (map condition_view c.args.overlap.now.conds.items) =
     omega (arith, length-map c.args.overlap.now.conds.items condition_view, c.len.ensures, c.args.overlap.now.conds.ok.0) in
     let same : map item_view c.deref.result.now ≡ ortho_items o =
-    ap (λ (xs : List Item). map item_view xs) c.deref.ensures.value ∙ c.in-Ok.ensures ∙ ap (λ n. ortho_items_of inner (n - inner)) long in
+    ap (λ (xs : List Item). map item_view xs) c.deref.ensures.value ∙ c.in_ok-items.ensures ∙ ap (λ n. ortho_items_of inner (n - inner)) long in
     subst (λ (xs : List PairItem). WalkAnswers one (GivesEvidence ortho c.args.sys.now o) xs c.args.budget.now c.try_items.new.budget c.try_items.result) same c.try_items.ensures.answer

@@ -1,12 +1,11 @@
-use Rattle.std.proofs.Common.{map, Ok, subst}
+use Rattle.std.proofs.Common.{map}
 use Rattle.cert_model.specs.CertificateView.{simp_view}
 use Rattle.cc_count.proofs.Spending.{kept_on}
-use Rattle.first_found.specs.Spaces.{MayEnd}
-use Rattle.search_answers.specs.Answers.{Searches}
-use Rattle.proof_spaces.specs.Proofs.{two_with_steps}
-use Rattle.portfolio.specs.StepAnswers.{behind_ending, HandsBack}
-use Rattle.portfolio.proofs.WithSteps.{three_stand, three_behind}
+use Rattle.portfolio.proofs.WithSteps.{quasi_behind, three_stand, three_behind}
 use Rattle.portfolio.proofs.behind.search_three_behind.Goals as goal
+
+pub returns-in_err-next-in-Nothing-clause-kept : goal.returns-in_err-next-in-Nothing-clause-kept
+returns-in_err-next-in-Nothing-clause-kept c = kept_on _ _ _ c.in_ok-end.ensures.kept c.in_err-next-in-Nothing.ensures.kept
 
 pub returns-in-Nothing : goal.returns-in-Nothing
 returns-in-Nothing c =
@@ -15,12 +14,13 @@ returns-in-Nothing c =
     let last = c.args.last.now in
     let before = c.args.budget.now in
     let here = c.search_two_behind.new.budget in
-    let after = c.search_quasi_behind.new.budget in
-    let none = subst (λ b. Searches behind_ending (MayEnd (two_with_steps names steps last)) before here (Ok b)) c.in-Nothing.is c.in_ok-end.ensures.searched in
-    let same = subst (HandsBack steps) c.in-Nothing.is c.in_ok-end.ensures.hands_back in
+    let after = c.search_quasi_over.new.budget in
+    let again = c.in-Nothing.steps in
+    let found = quasi_behind names (map simp_view again.items) last here after c.in_ok-next-in-Nothing.next c.with_the_steps.result c.in_ok-next-in-Nothing.ensures.pruned c.with_the_steps.ensures in
     record {
-      searched = three_behind names steps last before here after c.in-Nothing.steps same c.search_quasi_behind.result none c.search_quasi_behind.ensures.searched;
-      kept = kept_on before here after c.in_ok-end.ensures.kept c.search_quasi_behind.ensures.kept;
+      searched = three_behind names steps last before here after again (rw c.in-Nothing.is at c.in_ok-end.ensures.hands_back) c.with_the_steps.result
+          (rw c.in-Nothing.is at c.in_ok-end.ensures.searched) found;
+      kept = kept_on before here after c.in_ok-end.ensures.kept c.in_ok-next-in-Nothing.ensures.kept;
     }
 
 pub returns-in_default : goal.returns-in_default

@@ -2,7 +2,8 @@ use Rattle.cc_count.proofs.Spending.{spends_none, kept_on}
 use Rattle.std.proofs.Common.{◌+◌, Ok, drop, arith, sym, subst, refl}
 use Rattle.reach_lists.specs.Laws.{EachOf}
 use Rattle.pair_search.specs.Answers.{WalkAnswers}
-use Rattle.pair_search.proofs.Composed.{begins, goes_on, ends, finishes}
+use Rattle.search_answers.proofs.Walking.{begins, finishes}
+use Rattle.pair_search.proofs.Composed.{goes_on, ends}
 use Rattle.quasi_space.specs.QuasiItems.{quasi_item_cost, GivesQuasi}
 use Rattle.quasi_search.specs.Reducts.{reduct_view, IsReductOf}
 use Rattle.quasi_search.proofs.Pairs.{each_at, each_behind, slice_rest, items_with, items_of, next_first, none_of}

@@ -4,7 +4,7 @@ use Rattle.unifier_run.specs.Overlaps.{Overlap}
 use Rattle.cc_count.specs.Counts.{Spends}
 use Rattle.reach_lists.specs.Laws.{EachOf}
 use Rattle.search_spaces.specs.Listings.{pairs_of}
-use Rattle.pair_search.proofs.Composed.{Walking}
+use Rattle.search_answers.proofs.Walking.{Walking}
 use Rattle.quasi_space.specs.QuasiItems.{two_reducts, quasi_item_cost, GivesQuasi}
 use Rattle.quasi_search.specs.Reducts.{reducts_view, IsReductOf}
 use Rattle.quasi_search.proofs.reducts.try_pairs.Given as goal

@@ -2,7 +2,8 @@ use Rattle.cc_count.proofs.Spending.{spends_none, kept_on}
 use Rattle.std.proofs.Common.{◌+◌, ◌<◌, ◌≡◌, get_or, length, ap, arith, subst, refl}
 use Rattle.term_core.specs.Prelude.{view, condition_view}
 use Rattle.critical_pairs.specs.View.{overlap_view}
-use Rattle.pair_search.proofs.Composed.{begins, goes_on, ends, finishes}
+use Rattle.search_answers.proofs.Walking.{begins, finishes}
+use Rattle.pair_search.proofs.Composed.{goes_on, ends}
 use Rattle.quasi_search.specs.Reducts.{condition_items}
 use Rattle.quasi_search.proofs.Growths.{few_conditions}
 use Rattle.quasi_search.proofs.Pairs.{numbered, items_behind, none_behind, next_condition}

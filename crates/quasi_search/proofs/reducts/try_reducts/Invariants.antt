@@ -2,7 +2,7 @@ use Rattle.std.proofs.Common.{ℕ, ◌+◌, drop, map}
 use Rattle.term_core.specs.RuleView.{condition_view}
 use Rattle.critical_pairs.specs.View.{overlap_view}
 use Rattle.cc_count.specs.Counts.{Spends}
-use Rattle.pair_search.proofs.Composed.{Walking}
+use Rattle.search_answers.proofs.Walking.{Walking}
 use Rattle.quasi_space.specs.QuasiItems.{reduct_items, quasi_item_cost, GivesQuasi}
 use Rattle.quasi_search.proofs.reducts.try_reducts.Given as goal
 

@@ -1,6 +1,7 @@
 use Rattle.cc_count.proofs.Spending.{spends_none, kept_on}
 use Rattle.std.proofs.Common.{◌+◌, ◌∷◌, [], drop, arith, refl}
-use Rattle.pair_search.proofs.Composed.{begins, goes_on, ends, finishes}
+use Rattle.search_answers.proofs.Walking.{begins, finishes}
+use Rattle.pair_search.proofs.Composed.{goes_on, ends}
 use Rattle.quasi_space.specs.QuasiItems.{two_reducts}
 use Rattle.quasi_search.specs.Reducts.{reduct_view, IsReductOf}
 use Rattle.quasi_search.proofs.Pairs.{each_at, items_with, next_with, none_with}

@@ -3,7 +3,7 @@ use Rattle.rewriting.specs.Rules.{System}
 use Rattle.unifier_run.specs.Overlaps.{Overlap}
 use Rattle.cc_count.specs.Counts.{Spends}
 use Rattle.reach_lists.specs.Laws.{EachOf}
-use Rattle.pair_search.proofs.Composed.{Walking}
+use Rattle.search_answers.proofs.Walking.{Walking}
 use Rattle.quasi_space.specs.QuasiItems.{two_reducts, quasi_item_cost, GivesQuasi}
 use Rattle.quasi_search.specs.Reducts.{reduct_view, reducts_view, pairs_with, IsReductOf}
 use Rattle.quasi_search.proofs.reducts.try_with.Given as goal

@@ -4,7 +4,8 @@ use Rattle.search_spaces.specs.Refuting.{try_growth, growths}
 use Rattle.cc_count.proofs.Spending.{spends_none, kept_on}
 use Rattle.pair_search.specs.Answers.{WalkAnswers}
 use Rattle.cc_count.specs.declared.Sought.TheVariants.{Nothing}
-use Rattle.pair_search.proofs.Composed.{begins, goes_on, ends, finishes}
+use Rattle.search_answers.proofs.Walking.{begins, finishes}
+use Rattle.pair_search.proofs.Composed.{goes_on, ends}
 use Rattle.quasi_space.specs.QuasiItems.{try_refuting, quasi_item_cost, GivesQuasi}
 use Rattle.quasi_search.proofs.Growths.{growths_behind, all_left, next_growth, none_behind, few_conditions, counted}
 use Rattle.quasi_search.proofs.refuting.try_growths.Goals as goal

@@ -2,7 +2,7 @@ use Rattle.std.proofs.Common.{ℕ, ◌≤◌, map}
 use Rattle.critical_pairs.specs.View.{overlap_view}
 use Rattle.cc_count.specs.Counts.{Spends}
 use Rattle.search_spaces.specs.Refuting.{growths}
-use Rattle.pair_search.proofs.Composed.{Walking}
+use Rattle.search_answers.proofs.Walking.{Walking}
 use Rattle.quasi_space.specs.QuasiItems.{try_refuting, quasi_item_cost, GivesQuasi}
 use Rattle.pair_search.specs.Grown.{IsGrown}
 use Rattle.quasi_search.proofs.Growths.{growths_behind}

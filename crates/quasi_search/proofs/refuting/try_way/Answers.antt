@@ -1,11 +1,9 @@
 use Rattle.cc_count.proofs.Spending.{none_left}
-use Rattle.std.proofs.Common.{Ok, refl, subst, arith}
-use Rattle.valid_certificates.specs.Kinds.{quasi}
+use Rattle.std.proofs.Common.{refl, arith}
+use Rattle.cert_model.specs.EvidenceView.{pair_evidence_view}
 use Rattle.critical_pairs.specs.View.{overlap_view}
-use Rattle.search_spaces.specs.PairItems as spaces
 use Rattle.evidence_offers.specs.RefutingView.{refuting_view}
-use Rattle.pair_search.specs.Answers.{ItemAnswers}
-use Rattle.pair_search.proofs.Composed.{item_stops, item_gives}
+use Rattle.search_answers.proofs.Walking.{item_stops, item_gives}
 use Rattle.quasi_space.specs.QuasiItems.{try_refuting, quasi_item_cost, GivesQuasi}
 use Rattle.quasi_search.proofs.refuting.try_way.Goals as goal
 
@@ -18,5 +16,4 @@ pub returns-in-Some-clause-answer : goal.returns-in-Some-clause-answer
 returns-in-Some-clause-answer c =
     let o = overlap_view c.args.overlap.now in
     item_gives quasi_item_cost (GivesQuasi c.args.sys.now o) (try_refuting (refuting_view c.args.refuting)) c.args.budget.now c.take.new.self
-    (c.if-not-take.ensures.taken refl) c.in-Some.evidence
-    (subst (λ z. ItemAnswers quasi c.args.sys.now o (spaces.try_refuting (refuting_view c.args.refuting)) (Ok z)) c.in-Some.is c.in_ok-evidence.ensures.answer)
+    (c.if-not-take.ensures.taken refl) (pair_evidence_view c.in-Some.evidence) (rw c.in-Some.is at c.in_ok-evidence.ensures.answer)

@@ -1,11 +1,12 @@
 use Rattle.std.proofs.Common.{map}
 use Rattle.term_core.specs.RuleView.{condition_view}
 use Rattle.search_spaces.specs.Refuting.{growths}
-use Rattle.query_space.specs.Items.{try_refuting}
-use Rattle.query_search.proofs.Walking.{Walking}
+use Rattle.query_space.specs.Items.{try_refuting, query_item_cost, GivesAnswer}
+use Rattle.search_answers.proofs.Walking.{Walking}
 use Rattle.query_search.proofs.Evidence.{growths_left}
 use Rattle.query_search.proofs.refuting.try_growths.Given as goal
 
 abbrev pub invariant-growths : goal.invariant-growths
 invariant-growths l =
-    Walking l.sys (map condition_view l.conds) (map try_refuting (growths l.count)) l.fn.budget l.budget (growths_left l.sys (map condition_view l.conds) l.before l.count)
+    Walking (query_item_cost l.sys (map condition_view l.conds)) (GivesAnswer l.sys (map condition_view l.conds))
+    (map try_refuting (growths l.count)) l.fn.budget l.budget (growths_left l.sys (map condition_view l.conds) l.before l.count)

@@ -4,13 +4,14 @@ use Rattle.std.specs.Prelude.{option_map}
 use Rattle.term_core.specs.RuleView.{condition_view}
 use Rattle.reach.specs.SolutionView.{solution_view}
 use Rattle.query_space.specs.Items as items
-use Rattle.query_search.proofs.Walking.{item_stops}
+use Rattle.search_answers.proofs.Walking.{item_stops}
 use Rattle.query_search.proofs.Full.{values_end, values_stop, values_fail}
 use Rattle.query_search.proofs.values.try_values.Goals as goal
 
 pub returns-then-not-take : goal.returns-then-not-take
 returns-then-not-take c =
-    item_stops c.args.sys.now (map condition_view c.args.conds.now) (items.try_values c.args.values.now) c.args.budget.now c.take.new.self (omega arith)
+    let cs = map condition_view c.args.conds.now in
+    item_stops (items.query_item_cost c.args.sys.now cs) (items.GivesAnswer c.args.sys.now cs) (items.try_values c.args.values.now) c.args.budget.now c.take.new.self (omega arith)
     (none_left c.args.budget.now c.if-not-take.ensures.some.1) (c.if-not-take.ensures.none refl)
 
 pub returns-in-Ok : goal.returns-in-Ok

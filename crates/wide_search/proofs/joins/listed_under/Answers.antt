@@ -4,7 +4,7 @@ use Rattle.certificates.specs.Sizes.{DoConditionsFit}
 use Rattle.term_core.specs.Prelude.{view, condition_view}
 use Rattle.critical_pairs.specs.View.{overlap_view}
 use Rattle.pair_check.proofs.Ready.{ready}
-use Rattle.wide_search.proofs.Reached.{reached_fit}
+use Rattle.wide_search.proofs.Reached.{reached_fit, reached_once}
 use Rattle.wide_search.proofs.joins.listed_under.Goals as goal
 
 pub reach_in-requires-clause-hypotheses : goal.reach_in-requires-clause-hypotheses
@@ -20,4 +20,7 @@ reach_in-requires-clause-few c =
     subst (λ cs. length cs < 2 ^ 32) (sym c.deref.ensures.value) (omega (arith, few, long))
 
 pub returns-in-Ok : goal.returns-in-Ok
-returns-in-Ok c = reached_fit _ _ (view c.args.start.now) c.requires.start _ c.in-Ok.ensures.listed.0
+returns-in-Ok c = record {
+  fit = reached_fit _ _ (view c.args.start.now) c.requires.start _ c.in-Ok.ensures.listed.0;
+  once = reached_once _ _ (view c.args.start.now) _ c.in-Ok.ensures.listed.0;
+}
