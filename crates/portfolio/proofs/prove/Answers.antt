@@ -46,8 +46,8 @@ returns-in-Nothing c =
       kept = kept_on before here after c.in_ok-cert.ensures.kept c.search_simplified.ensures.kept;
     }
 
-pub returns-in-Spent-clause-searched : goal.returns-in-Spent-clause-searched
-returns-in-Spent-clause-searched c =
+pub returns-clause-searched : goal.returns-clause-searched
+returns-clause-searched c =
     own_runs_out c.args.names.now c.args.sys.now c.args.budget.now c.search_whole.new.budget
     (own_told c.args.names.now c.args.sys.now c.args.budget.now c.search_whole.new.budget c.in_ok-prepared.prepared (c.in_ok-prepared.ensures ∙ c.in_ok-indexed.ensures)
     c.in_ok-cert.field-0 search.Spent c.in-Spent.is c.in_ok-cert.ensures.searched)

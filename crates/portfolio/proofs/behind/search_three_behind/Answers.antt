@@ -7,8 +7,8 @@ use Rattle.portfolio.proofs.behind.search_three_behind.Goals as goal
 pub returns-in_err-next-in-Nothing-clause-kept : goal.returns-in_err-next-in-Nothing-clause-kept
 returns-in_err-next-in-Nothing-clause-kept c = kept_on _ _ _ c.in_ok-end.ensures.kept c.in_err-next-in-Nothing.ensures.kept
 
-pub returns-in-Nothing : goal.returns-in-Nothing
-returns-in-Nothing c =
+pub returns-in_ok-next-in-Nothing : goal.returns-in_ok-next-in-Nothing
+returns-in_ok-next-in-Nothing c =
     let names = c.args.names.now in
     let steps = map simp_view c.args.steps.items in
     let last = c.args.last.now in
