@@ -21,8 +21,8 @@ returns-in_default c =
     starts_end c.args.sys.now c.rules.result.now c.rules.ensures.rules c.args.names.now c.args.budget.now c.try_each.new.budget c.args.overlaps c.requires.overlaps c.in_ok-end.end
     c.in_default.not-Nothing c.in_ok-end.ensures
 
-pub try_each-in-Some-requires : goal.try_each-in-Some-requires
-try_each-in-Some-requires c = record { fit = sources_fit c.args.sys.now c.in-Some.overlaps.now (subst (IsOverlapList c.args.sys.now) c.in-Some.is c.requires.overlaps) }
+pub try_each-requires-in-Some : goal.try_each-requires-in-Some
+try_each-requires-in-Some c = record { fit = sources_fit c.args.sys.now c.in-Some.overlaps.now (subst (IsOverlapList c.args.sys.now) c.in-Some.is c.requires.overlaps) }
 
 pub returns-in-Some : goal.returns-in-Some
 returns-in-Some c =

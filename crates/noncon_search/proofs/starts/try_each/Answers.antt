@@ -1,8 +1,9 @@
-use Rattle.std.proofs.Common.{◌+◌, sym, drop, map, ap, subst}
+use Rattle.std.proofs.Common.{◌+◌, Ok, sym, drop, map, ap, subst}
 use Rattle.rewriting.specs.Terms.{Fits}
 use Rattle.search_spaces.specs.PeakItems.{peak_items_of, peak_items}
 use Rattle.search_answers.specs.Answers.{ending_of}
 use Rattle.search_answers.proofs.Walking.{goes_on, ends, fails, not_nothing_found}
+use Rattle.noncon_search.specs.Answers.{WalkAnswers}
 use Rattle.noncon_search.proofs.Listed.{starts_split, first_of_rest}
 use Rattle.noncon_search.proofs.starts.try_each.Goals as goal
 
@@ -23,7 +24,7 @@ returns-in_default g c =
     let x = c.one-item.result in
     ends c.starts.invariant.walking c.try_start.new.budget (peak_items_of sys (g.T.HasStart.start x)) (peak_items sys (map g.T.HasStart.start (drop (i + 1) all)))
     (starts_split sys g.T.HasStart.start all i x c.starts-test.true c.one-item.is) (ending_of c.in_ok-end.end) (not_nothing_found c.in_ok-end.end c.in_default.not-Nothing)
-    (rw c.start.ensures at c.in_ok-end.ensures)
+    (subst (λ t. WalkAnswers c.args.names.now sys (peak_items_of sys t) c.starts.budget c.try_start.new.budget (Ok c.in_ok-end.end)) c.start.ensures c.in_ok-end.ensures)
 
 pub starts-preserved : goal.starts-preserved
 starts-preserved g c =
@@ -33,6 +34,7 @@ starts-preserved g c =
     let x = c.one-item.result in
     record {
       walking = goes_on c.starts.invariant.walking c.try_start.new.budget (peak_items_of sys (g.T.HasStart.start x)) (peak_items sys (map g.T.HasStart.start (drop (i + 1) all)))
-          (starts_split sys g.T.HasStart.start all i x c.starts-test.true c.one-item.is) (ending_of c.in_ok-end.end) (ap ending_of c.in-Nothing.is) (rw c.start.ensures at c.in_ok-end.ensures);
+          (starts_split sys g.T.HasStart.start all i x c.starts-test.true c.one-item.is) (ending_of c.in_ok-end.end) (ap ending_of c.in-Nothing.is)
+          (subst (λ t. WalkAnswers c.args.names.now sys (peak_items_of sys t) c.starts.budget c.try_start.new.budget (Ok c.in_ok-end.end)) c.start.ensures c.in_ok-end.ensures);
       fit = (first_of_rest (λ y. Fits (g.T.HasStart.start y)) all i x c.starts-test.true c.one-item.is c.starts.invariant.fit).1;
     }
