@@ -49,7 +49,7 @@ fn are_rules_good(alloc: Global, sys: &PreparedSystem<'_>) -> Result<bool, NoMem
     are_right_sides_irreducible(alloc, sys)
 }
 
-// Searches ending_of (MayEndLast where) the rules are good: for the entries, and behind them for a measure.
+// Searches where the rules are good: for the entries, and behind them for a measure.
 fn search_open(
     alloc: Global,
     sys: &PreparedSystem<'_>,
