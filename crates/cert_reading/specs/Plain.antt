@@ -42,8 +42,3 @@ IsPlainBy v all (ortho_certificate ps) = PairsUse v all ps
 IsPlainBy v all (quasi_certificate m ps) = HasMeasure v m × PairsUse v all ps
 IsPlainBy v all (peak_certificate p) = ApartUses v all p.apart
 IsPlainBy v all (simplified_certificate steps c) = CanSimplify v c × StepsUse v all steps × IsPlainBy v all c
-
--- ---- in the first version
-
-abbrev pub IsPlain : Certificate → Type 0
-IsPlain c = IsPlainBy first_version [] c

@@ -6,9 +6,10 @@ use Rattle.std.proofs.lemmas.Option.{slice_get_within, slice_get-get_or}
 use Rattle.std.proofs.lemmas.List.{get_or_past, get_or_default}
 use Rattle.rewriting.proofs.Once.{same_some}
 use Rattle.rewriting.specs.Prelude.{IsAmong, Term, Terms, var, app, IsVariable, Fits, Position, subterm, apply_all, even, odd, Rule, System, rule_at, IsSystem}
+use Rattle.rewriting.proofs.NumbersWhere.{Stands}
 use Rattle.rewriting.proofs.Systems.{numbered_rule}
 use Rattle.rule_index.specs.Roots.{has_root, rules_with_root}
-use Rattle.rule_index.proofs.Walks.{ascending, is_listed, listed_rule, Stands}
+use Rattle.rule_index.proofs.Walks.{ascending, is_listed, listed_rule}
 use Rattle.unifier_run.specs.Run.{clash}
 use Rattle.unifier_run.specs.Overlaps.{Triple, IsOutcomeOf}
 use Rattle.unifier_run.proofs.Heads.{heads_clash}

@@ -1,11 +1,12 @@
 -- The rules that a judge of prefixes walks through.
-use Rattle.std.proofs.Common.{◌≡◌, ℕ, zero, suc, ◌+◌, ◌-◌, ◌<◌, ◌≤◌, ◌⊎◌, inl, inr, refl, sym, ap, ◌∙◌, subst, subst₂, List, [], map, length, get_or, slice_get, Some, Vec, Global, arith}
+use Rattle.std.proofs.Common.{◌≡◌, ℕ, zero, suc, ◌+◌, ◌-◌, ◌<◌, ◌≤◌, ◌⊎◌, inl, inr, refl, sym, ap, ◌∙◌, subst, subst₂, List, [], map, length, get_or, slice_get, Some, Vec, Global, arith, nat_eq, eqb-true}
 use Rattle.std.proofs.lemmas.Bool.{cases_lt}
 use Rattle.std.proofs.lemmas.List.{length-map, get_or-map}
 use Rattle.std.proofs.lemmas.Option.{slice_get_within}
 use Rattle.general_lemmas.proofs.Places.{slice_get-map_read}
 use Rattle.rewriting.specs.Rules as math
 use Rattle.rewriting.specs.Prelude.{System, rule_at, IsSystem, IsWellFormed, unraveled, heads}
+use Rattle.rewriting.proofs.NumbersWhere.{IsOf, of_rule}
 use Rattle.rewriting.proofs.Laws.{well_formed}
 use Rattle.interpretations.specs.Linear.{Interpretation, Falls}
 use Rattle.measure_grid.specs.Dead.{IsDead}
@@ -18,7 +19,7 @@ use Rattle.grid_search.specs.Prefix.{IsPrefix, IsAliveBefore}
 use Rattle.grid_search.specs.Needed.{needed_at, numbers_needing, listed}
 use Rattle.grid_search.specs.JudgeView.{IsHeld}
 use Rattle.grid_search.specs.declared.prefix.PrefixJudge.TheInside.{Inside}
-use Rattle.grid_search.proofs.Needed.{IsOf, number_of_rule, HoldsOfAll, of_rules}
+use Rattle.grid_search.proofs.Needed.{HoldsOfAll, of_rules}
 use Rattle.grid_search.proofs.Completed.{rule_ready}
 use Rattle.grid_search.proofs.Prefixes.{dead_at, not_dead_yet}
 
@@ -59,7 +60,7 @@ pub record IsNext (sys : System) (n : ℕ) (rs : List Rule) (number : ℕ) : Typ
   pub there : (r : Rule) → r ≡ get_or rs (number - 1) r → slice_get (unraveled sys).rules (number - 1) ≡ Some (rule_view r)
   pub needs : (r : Rule) → r ≡ get_or rs (number - 1) r → needed_at (rule_view r) ≡ n
 
-rule_of : (sys : System) (n : ℕ) (rs : List Rule) (number : ℕ) → map rule_view rs ≡ (unraveled sys).rules → IsOf n 1 (unraveled sys).rules number → IsNext sys n rs number
+rule_of : (sys : System) (n : ℕ) (rs : List Rule) (number : ℕ) → map rule_view rs ≡ (unraveled sys).rules → IsOf (λ r. nat_eq n (needed_at r)) 1 (unraveled sys).rules number → IsNext sys n rs number
 rule_of sys n rs number are h =
     let number_is = h.is_number in
     let within = slice_get_within (unraveled sys).rules h.place h.rule h.is_rule in
@@ -76,7 +77,7 @@ rule_of sys n rs number are h =
       needs = λ r is. (
           let here : slice_get (unraveled sys).rules (number - 1) ≡ Some h.rule = subst (λ k. slice_get (unraveled sys).rules k ≡ Some h.rule) (sym place) h.is_rule in
           let rule : h.rule ≡ rule_view r = (let both : Some h.rule ≡ Some (rule_view r) = sym here ∙ found r is in cc) in
-          subst (λ q. needed_at q ≡ n) rule h.needs
+          subst (λ q. needed_at q ≡ n) rule (sym (eqb-true n (needed_at h.rule) h.passes))
           );
     }
 
@@ -95,7 +96,7 @@ module _ {sys : System} (es : Interpretation) {rs : List Rule} {ns : List ℕ} (
   pub next_at : (i : ℕ) → i < length ns → IsNext sys (length es) rs (get_or ns i 0)
   next_at i lt =
       subst (λ z. i < length z → IsNext sys (length es) rs (get_or z i 0)) (sym w.numbers)
-      (λ less. rule_of sys (length es) rs _ w.rules_are (number_of_rule (length es) 1 (unraveled sys).rules i less)) lt
+      (λ less. rule_of sys (length es) rs _ w.rules_are (of_rule (λ r. nat_eq (length es) (needed_at r)) 1 (unraveled sys).rules i less)) lt
 
   module _ (i : ℕ) (lt : i < length ns) (r : Rule) (is : r ≡ get_or rs (get_or ns i 0 - 1) r) where
     fewest : needed_at (rule_view r) ≤ length es

@@ -1,9 +1,10 @@
 -- The first entries that terms and rules need, and the lists of rules by how many they need.
-use Rattle.std.proofs.Common.{◌≡◌, ◌≢◌, ℕ, zero, suc, ◌+◌, ◌<◌, ◌≤◌, Bool, true, false, nat_eq, if◌then◌else◌, eqb-true, eq-eqb, refl, sym, ap, ◌∙◌, subst, List, [], ◌∷◌, ◌++◌}
+use Rattle.std.proofs.Common.{◌≡◌, ◌≢◌, ℕ, zero, suc, ◌+◌, ◌<◌, ◌≤◌, Bool, true, false, nat_eq, if◌then◌else◌, eqb-true, eq-eqb, refl, sym, ap, subst, List, [], ◌∷◌, ◌++◌}
 use Rattle.std.proofs.Common.{length, set, get_or, slice_get, Some, Vec, Global, arith}
 use Rattle.std.proofs.lemmas.Bool.{eqb-false}
 use Rattle.std.proofs.lemmas.Option.{slice_get_within}
 use Rattle.rewriting.specs.Prelude.{Term, var, app, Terms, nil, cons, Signature, IsOver, AreOver, Rule, System, AreRules, IsSystem, unraveled, heads}
+use Rattle.rewriting.proofs.NumbersWhere as numbers
 use Rattle.rewriting.specs.Unraveling as unraveling
 use Rattle.interpretations.specs.Linear.{Interpretation}
 use Rattle.interpretations.proofs.Bound.{length-heads}
@@ -77,50 +78,12 @@ unraveled_need sys system symbols rules same heads_are sound are =
     let arities = ap (λ z. length z.arities) same in
     subst (DoNeedBelow (length symbols + 1)) (sym are) (rules_need system.arities (length symbols + 1) system.rules sound.rules (omega (arith, many, count, arities)))
 
--- the list with a number before it, or without
-abbrev chosen : Bool → ℕ → List ℕ → List ℕ
-chosen b n ns = if b then n ∷ ns else ns
-
 -- what holds of each number of the list of those that need so many entries holds of each such rule's number
 module _ (P : ℕ → Type 0) where
   abbrev pub HoldsOfAll : List ℕ → Type 0
   HoldsOfAll ns = (m : ℕ) → m < length ns → P (get_or ns m 0)
 
-  of_first : (n : ℕ) (ns : List ℕ) (b : Bool) → b ≡ true → HoldsOfAll (chosen b n ns) → P n
-  of_first n ns true e h = h 0 (omega arith)
-  of_first n ns false e h = absurd (cc)
-
-  of_others : (n : ℕ) (ns : List ℕ) (b : Bool) → HoldsOfAll (chosen b n ns) → HoldsOfAll ns
-  of_others n ns true h m lt = h (suc m) (omega (arith, lt))
-  of_others n ns false h m lt = h m lt
-
   pub of_rules : (k n : ℕ) (rs : List Rule) → HoldsOfAll (numbers_needing k n rs) → (j : ℕ) (r : Rule) → slice_get rs j ≡ Some r → needed_at r ≡ k → P (n + j)
-  of_rules k n [] h j r at e = absurd (cc)
-  of_rules k n (q ∷ rs) h zero r at e =
-      let same : q ≡ r = cc in
-      let here : n ≡ n + 0 = omega arith in
-      subst P here (of_first n (numbers_needing k (suc n) rs) (nat_eq k (needed_at q)) (eq-eqb k (needed_at q) (sym (ap needed_at same ∙ e))) h)
-  of_rules k n (q ∷ rs) h (suc j) r at e =
-      let there : suc n + j ≡ n + suc j = omega arith in
-      subst P there (of_rules k (suc n) rs (of_others n (numbers_needing k (suc n) rs) (nat_eq k (needed_at q)) h) j r at e)
-
--- each number of the list is that of a rule that needs so many
-pub record IsOf (k n : ℕ) (rs : List Rule) (i : ℕ) : Type 0 where
-  pub place : ℕ
-  pub rule : Rule
-  pub is_rule : slice_get rs place ≡ Some rule
-  pub needs : needed_at rule ≡ k
-  pub is_number : i ≡ n + place
-
-is_of_later : (k n : ℕ) (q : Rule) (rs : List Rule) (i : ℕ) → IsOf k (suc n) rs i → IsOf k n (q ∷ rs) i
-is_of_later k n q rs i h = record { place = suc h.place; rule = h.rule; is_rule = h.is_rule; needs = h.needs; is_number = (let e = h.is_number in omega (arith, e)) }
-
-is_of_chosen : (k n : ℕ) (q : Rule) (rs : List Rule) (ns : List ℕ) → ((m : ℕ) → m < length ns → IsOf k (suc n) rs (get_or ns m 0)) → (b : Bool) → nat_eq k (needed_at q) ≡ b
-    → (m : ℕ) → m < length (chosen b n ns) → IsOf k n (q ∷ rs) (get_or (chosen b n ns) m 0)
-is_of_chosen k n q rs ns later true e zero lt = record { place = 0; rule = q; is_rule = refl; needs = sym (eqb-true k (needed_at q) e); is_number = omega arith }
-is_of_chosen k n q rs ns later true e (suc m) lt = is_of_later k n q rs _ (later m (omega (arith, lt)))
-is_of_chosen k n q rs ns later false e m lt = is_of_later k n q rs _ (later m lt)
-
-pub number_of_rule : (k n : ℕ) (rs : List Rule) (m : ℕ) → m < length (numbers_needing k n rs) → IsOf k n rs (get_or (numbers_needing k n rs) m 0)
-number_of_rule k n [] m lt = absurd (omega (arith, lt))
-number_of_rule k n (q ∷ rs) m lt = is_of_chosen k n q rs (numbers_needing k (suc n) rs) (λ i less. number_of_rule k (suc n) rs i less) (nat_eq k (needed_at q)) refl m lt
+  of_rules k n rs h j r at e =
+      let s = numbers.stands (λ r. nat_eq k (needed_at r)) n rs j r at (eq-eqb k (needed_at r) (sym e)) in
+      subst P s.1.1 (h s.0 s.1.0)

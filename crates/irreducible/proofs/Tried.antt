@@ -3,6 +3,7 @@ use Rattle.std.proofs.Common.{ℕ, ◌≡◌, ◌+◌, ◌-◌, ◌*◌, ◌<◌
 use Rattle.std.proofs.Common.{arith, eq-eqb, eqb-true}
 use Rattle.std.proofs.lemmas.Bool.{false≢true, cases_lt}
 use Rattle.rewriting.specs.Prelude.{Term, var, app, nil, cons, IsVariable, Fits, apply, apply_all, even, odd, Rule, System, rule_at, IsSystem}
+use Rattle.rewriting.proofs.NumbersWhere.{Stands}
 use Rattle.rewriting.proofs.Systems.{numbered_rule}
 use Rattle.unifier_run.specs.Run.{Outcome, clash, IsOutcome}
 use Rattle.unifier_run.specs.Overlaps.{IsOutcomeOf}
@@ -10,7 +11,7 @@ use Rattle.unifier_run.specs.Irreducible.{DoRulesClash, IsFirstRule}
 use Rattle.unifier_run.proofs.Heads.{heads_clash}
 use Rattle.unifier_run.proofs.Renamed.{fits_with_names}
 use Rattle.rule_index.specs.Roots.{has_root, rules_with_root}
-use Rattle.rule_index.proofs.Walks.{ascending, is_listed, listed_rule, Stands}
+use Rattle.rule_index.proofs.Walks.{ascending, is_listed, listed_rule}
 use Rattle.term_core.specs.Prelude.{view, rule_view}
 use Rattle.term_core.specs.declared.systems.Rule as Program
 use Rattle.prepared_system.specs.Renamed.{rule_under, inner_rules}

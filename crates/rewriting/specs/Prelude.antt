@@ -7,7 +7,7 @@ pub use Rattle.rewriting.specs.Substitutions.{Substitution, apply, apply_all, co
 pub use Rattle.rewriting.specs.Variables.{variables, occurs, occurs_in, variable_occurrences, variable_occurrences_of, IsWithin, IsDisjoint, IsGround, occurrences, occurrences_in}
 pub use Rattle.rewriting.specs.Variables.{IsLinear, with_new, with_variables, with_variables_of, variables_of}
 pub use Rattle.rewriting.specs.Signatures.{Signature, IsOver, AreOver, AreValuesOver, HasSymbolsBelow, HaveSymbolsBelow}
-pub use Rattle.rewriting.specs.Rules.{Condition, Rule, System, system_of, rule_at, EachRule, sides, right_sides, left_sides}
+pub use Rattle.rewriting.specs.Rules.{Condition, Rule, System, system_of, rule_at, numbers_where, EachRule, sides, right_sides, left_sides}
 pub use Rattle.rewriting.specs.Systems.{Each, terms_of_rule, CountsFrom, rule_variables, IsRuleOver, IsWellFormed, IsRule, AreRules, DoSidesFit, condition_count, IsSystem}
 pub use Rattle.rewriting.specs.Reduction.{Meets, Contraction, Step, Steps, Rewrites, Reaches}
 pub use Rattle.rewriting.specs.Confluence.{IsConfluent, AreApart}

@@ -1,6 +1,6 @@
 -- The rules of a system by the root symbol of their left sides.
-use Rattle.std.specs.Prelude.{ℕ, suc, Bool, false, nat_eq, if◌then◌else◌, List, [], ◌∷◌}
-use Rattle.rewriting.specs.Prelude.{Term, var, app, Rule, System}
+use Rattle.std.specs.Prelude.{ℕ, Bool, false, nat_eq, List, []}
+use Rattle.rewriting.specs.Prelude.{Term, var, app, Rule, System, numbers_where}
 
 -- whether the symbol is the term's root
 abbrev pub has_root : ℕ → Term → Bool
@@ -9,8 +9,7 @@ has_root f (app g ts) = nat_eq f g
 
 -- the numbers of the rules, counted from n, whose left side has the root f
 abbrev pub numbers_with_root : ℕ → ℕ → List Rule → List ℕ
-numbers_with_root f n [] = []
-numbers_with_root f n (r ∷ rs) = if has_root f r.left then n ∷ numbers_with_root f (suc n) rs else numbers_with_root f (suc n) rs
+numbers_with_root f = numbers_where (λ r. has_root f r.left)
 
 -- the numbers of the system's rules, from 1, whose left side has the root f, in order
 abbrev pub rules_with_root : System → ℕ → List ℕ
