@@ -1,8 +1,8 @@
 //! Shelves and sinks that give or take few bytes, fail at given calls, run full or never end: what is read and written over them.
 use cc_count::ProofCount;
 use cc_io::{
-    Failed, MemoryFile, MemoryShelf, MemorySink, ReadAllError, Shelf, Sink, WriteFault,
-    read_all, write_all,
+    Failed, MemoryFile, MemoryShelf, MemorySink, ReadAllError, Shelf, Sink, WriteFault, read_all,
+    write_all,
 };
 use std::alloc::Global;
 use std::test::Fail;
