@@ -3,9 +3,9 @@ ghost use Rattle.std.specs.Prelude.{◌≡◌, ◌<◌, ◌≤◌, ◌+◌, ◌-
 ghost use Rattle.cc_io.specs.Faults.{Rose, raised, top};
 ghost use Rattle.cc_io.specs.Memory.{bytes_at};
 
-use crate::count::CallCount;
 use crate::shelf::Shelf;
 use crate::sink::{Failed, Sink};
+use cc_count::ProofCount;
 use std::alloc::{AllocError, Global};
 
 /// A file in memory.
@@ -24,7 +24,7 @@ pub struct MemoryShelf {
     calls: u64,
     faults: u64,
     given: u64,
-    reads: CallCount,
+    reads: ProofCount,
     begun: Option<usize>,
     at: usize,
     ghost piece_some: { 0 < piece },
@@ -69,7 +69,7 @@ impl MemoryShelf {
             calls: 0,
             faults: 0,
             given: 0,
-            reads: CallCount::new(),
+            reads: ProofCount::new(),
             begun: None,
             at: 0,
         }
@@ -225,7 +225,7 @@ pub struct MemorySink {
     fails: Vec<u64>,
     calls: u64,
     faults: u64,
-    writes: CallCount,
+    writes: ProofCount,
     ghost reserved: { room ≤ vec_capacity bytes },
     ghost piece_some: { 0 < piece },
 }
@@ -257,7 +257,7 @@ impl MemorySink {
             fails,
             calls: 0,
             faults: 0,
-            writes: CallCount::new(),
+            writes: ProofCount::new(),
         })
     }
 

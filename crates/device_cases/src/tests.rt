@@ -1,7 +1,8 @@
 //! Shelves and sinks that give or take few bytes, fail at given calls, run full or never end: what is read and written over them.
+use cc_count::ProofCount;
 use cc_io::{
-    CallCount, Failed, MemoryFile, MemoryShelf, MemorySink, ReadAllError, Shelf, Sink, WriteFault,
-    read_all, write_all,
+    Failed, MemoryFile, MemoryShelf, MemorySink, ReadAllError, Shelf, Sink, WriteFault, read_all,
+    write_all,
 };
 use std::alloc::Global;
 use std::test::Fail;
@@ -116,7 +117,7 @@ struct Drips {
     begun: bool,
     faults: u64,
     given: u64,
-    counted: CallCount,
+    counted: ProofCount,
 }
 
 impl Shelf for Drips {
@@ -168,7 +169,7 @@ fn reading_stops_soon_after_the_limit(rt: HostRuntime) -> Result<(), Fail> {
         begun: false,
         faults: 0,
         given: 0,
-        counted: CallCount::new(),
+        counted: ProofCount::new(),
     };
     let answer = read_all(rt.alloc(), &mut drips, "drips", 10);
     assert!(rt; matches!(answer, Err(ReadAllError::TooLong { limit: 10 })));

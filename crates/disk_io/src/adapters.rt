@@ -1,7 +1,8 @@
 //! The real files and streams. They tell nothing of their contents, and keep one count of faults for every name.
 ghost use Rattle.std.specs.Prelude.{◌≡◌, List, ℕ, None, Some, IfSome, option_map};
 
-use cc_io::{CallCount, Failed, Shelf, Sink};
+use cc_count::ProofCount;
+use cc_io::{Failed, Shelf, Sink};
 use std::fs;
 use std::io::Read;
 use std::rt::Files;
@@ -15,7 +16,7 @@ pub struct DiskShelf<'a, R: Files> {
     file: Option<R::File>,
     faults: u64,
     given: u64,
-    reads: CallCount,
+    reads: ProofCount,
 }
 
 impl<'a, R: Files> DiskShelf<'a, R> {
@@ -32,7 +33,7 @@ impl<'a, R: Files> DiskShelf<'a, R> {
             file: None,
             faults: 0,
             given: 0,
-            reads: CallCount::new(),
+            reads: ProofCount::new(),
         }
     }
 }
@@ -111,7 +112,7 @@ impl<'a, R: Files> Shelf for DiskShelf<'a, R> {
 pub struct StreamSink<P> {
     to: P,
     faults: u64,
-    writes: CallCount,
+    writes: ProofCount,
 }
 
 impl<P: Print> StreamSink<P> {
@@ -122,7 +123,7 @@ impl<P: Print> StreamSink<P> {
         StreamSink {
             to,
             faults: 0,
-            writes: CallCount::new(),
+            writes: ProofCount::new(),
         }
     }
 }

@@ -16,13 +16,12 @@ ghost use Rattle.flatterm.specs.Cells.{chain, chain_lent, IsAt, last_from, IsNod
 ghost use Rattle.flatterm.specs.Laid.{BeginsAt, Jumps, IsInside, IsWhole, Splices, IsOpen, Appends, Starts};
 
 mod flat;
-mod index;
 mod lone;
 mod terms;
 mod work;
 
+use cc_count::ProofCount;
 pub use flat::Flat;
-use index::Index;
 use lone::LoneCell;
 use std::alloc::Global;
 use std::marker::Model;
@@ -94,7 +93,7 @@ impl Chain {
     }
 
     // The cell at `at`. Its index is for the proof alone.
-    pub(crate) fn look(&self, at: *mut Node, index: &Index) -> Node
+    pub(crate) fn look(&self, at: *mut Node, index: &ProofCount) -> Node
         requires { IsAt self.now.items index.now.number at }
         ensures { IsNodeAt self.now.before self.now.items (self.now.after, true) index.now.number result }
     {

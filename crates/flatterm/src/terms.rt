@@ -6,9 +6,9 @@ ghost use Rattle.flatterm.specs.Cells.{IsAt};
 ghost use Rattle.flatterm.specs.Marks.{ReadsOne};
 ghost use Rattle.flatterm.specs.Laid.{Laid, IsOpenAt, BeginsAt, IsWhole};
 
-use crate::index::Index;
 use crate::lone::LoneCell;
 use crate::{Body, Cell, Chain, Node};
+use cc_count::ProofCount;
 use std::alloc::{AllocError, Global};
 use std::ptr;
 use term_core::{MAX_NODES, NoMemory, Term};
@@ -58,7 +58,7 @@ pub(crate) fn laid(alloc: Global, t: &Term) -> Result<Chain, NoMemory>
 #[derive(Drop)]
 pub(crate) struct Mark {
     at: *mut Node,
-    index: Index,
+    index: ProofCount,
 }
 
 // Goes to the next cell.
@@ -103,7 +103,7 @@ pub(crate) fn term_of(alloc: Global, chain: &Chain) -> Result<Term, NoMemory>
 {
     let mut mark = Mark {
         at: chain.begin(),
-        index: Index::new(),
+        index: ProofCount::new(),
     };
     Ok(subterm_at(alloc, chain, &mut mark)?)
 }

@@ -4,9 +4,9 @@ use Rattle.std.proofs.Common.{ap, ap₂, ◌∙◌, add-one, arith}
 use Rattle.std.proofs.Math.Dec.{leb}
 use Rattle.std.proofs.Math.ListN.{drop_of_length-le}
 use Rattle.std.proofs.lemmas.Bool.Decides.{leb_tells}
+use Rattle.rewriting.specs.Prelude.{append}
 use Rattle.rewriting.specs.Terms as math
 use Rattle.rewriting.specs.Terms.{Terms, app, nil, cons, terms_of}
-use Rattle.unifier_run.specs.Run.{append}
 use Rattle.term_core.specs.View.{view, views}
 use Rattle.term_core.specs.declared.terms.Term.{Term, Fun}
 use Rattle.term_core.proofs.Views.{view-Fun}

@@ -1,8 +1,9 @@
 -- The unifier of a run between terms over the symbols gives such terms.
 use Rattle.std.proofs.Common.{Bool, true, false, nat_eq, if◌then◌else◌, ℕ, List, [], sym, subst}
+use Rattle.rewriting.specs.Prelude.{replacing, append}
 use Rattle.rewriting.proofs.Common.{Term, var, app, Terms, nil, cons, Signature, IsOver, AreOver, AreValuesOver}
 use Rattle.rewriting.proofs.Over.{IsOver-apply}
-use Rattle.unifier_run.specs.Run.{Binding, value, only, extended, Binds, HaveArguments, goes_on, unifier, Takes, equal_sides, binding, arguments, append, Runs, no_equation}
+use Rattle.unifier_run.specs.Run.{Binding, value, extended, Binds, HaveArguments, goes_on, unifier, Takes, equal_sides, binding, arguments, Runs, no_equation}
 use Rattle.unifier_run.specs.Run.{last_equation, next_equation}
 use Rattle.unifier_run.proofs.Values.{value-extended}
 use Rattle.unifier_run.proofs.General.{ends_clash_or_large}
@@ -13,7 +14,7 @@ either_over ar false t u h o = o
 
 extended_over : (ar : Signature) (b : List Binding) (x : ℕ) (v : Term) → AreValuesOver ar (value b) → IsOver ar v → AreValuesOver ar (value (extended b x v))
 extended_over ar b x v values over y =
-    subst (IsOver ar) (sym (value-extended b x v y)) (IsOver-apply ar (only x v) (value b y) (λ z. either_over ar (nat_eq z x) v (var z) over tt) (values y))
+    subst (IsOver ar) (sym (value-extended b x v y)) (IsOver-apply ar (replacing x v) (value b y) (λ z. either_over ar (nat_eq z x) v (var z) over tt) (values y))
 
 bound_over : (ar : Signature) (l r : Term) (x : ℕ) (v : Term) → Binds l r x v → IsOver ar l → IsOver ar r → IsOver ar v
 bound_over ar (var y) r x v (e, h) left right = subst (IsOver ar) (sym h) right

@@ -1,9 +1,9 @@
 -- The names that other crates cite, passed on from one place. Declares nothing.
 pub use Rattle.rewriting.specs.Lists.{IsAmong, AreDistinct, IsBeforeAll, IsSorted, IsFront}
 pub use Rattle.rewriting.specs.Relations.{Relation, Star, done, more, Joins, Commute}
-pub use Rattle.rewriting.specs.Terms.{Term, var, app, Terms, nil, cons, terms_of, count, IsVariable, size, size_all, depth, depth_all, Fits}
+pub use Rattle.rewriting.specs.Terms.{Term, var, app, Terms, nil, cons, terms_of, count, append, IsVariable, size, size_all, depth, depth_all, Fits}
 pub use Rattle.rewriting.specs.Positions.{subterm, argument, Position, with_argument, argument_of, with_argument_of, replace, positions, positions_from, IsBefore}
-pub use Rattle.rewriting.specs.Substitutions.{Substitution, apply, apply_all, compose, Matches, Bindings, values_of}
+pub use Rattle.rewriting.specs.Substitutions.{Substitution, apply, apply_all, compose, replacing, Matches, Bindings, values_of}
 pub use Rattle.rewriting.specs.Variables.{variables, occurs, occurs_in, variable_occurrences, variable_occurrences_of, IsWithin, IsDisjoint, IsGround, occurrences, occurrences_in}
 pub use Rattle.rewriting.specs.Variables.{IsLinear, with_new, with_variables, with_variables_of, variables_of}
 pub use Rattle.rewriting.specs.Signatures.{Signature, IsOver, AreOver, AreValuesOver, HasSymbolsBelow, HaveSymbolsBelow}

@@ -1,6 +1,6 @@
 -- Good steps lead from systems as files give them to such systems, with fewer rules and conditions.
 use Rattle.std.proofs.Common.{◌≡◌, ℕ, zero, suc, ◌+◌, ◌*◌, ◌^◌, ◌≤◌, ◌<◌, Bool, true, false, sym, subst, List, [], ◌∷◌, ◌++◌, length, map, take, drop, slice_get, Some, nat_eq, if◌then◌else◌, arith}
-use Rattle.rewriting.specs.Prelude.{Each, terms_of_rule, rule_variables, CountsFrom, IsRuleOver, IsRule, AreRules, condition_count, IsSystem, Fits, size_all, count}
+use Rattle.rewriting.specs.Prelude.{Each, terms_of_rule, rule_variables, CountsFrom, IsRuleOver, IsRule, AreRules, condition_count, IsSystem, Fits, size_all, count, replacing}
 use Rattle.rewriting.proofs.Common.{Term, var, app, apply, Signature, IsOver, Condition, Rule, System, sides, variables_of}
 use Rattle.rewriting.proofs.Leaves.{fits_under, variables_are_leaves}
 use Rattle.rewriting.proofs.Lengths.{variables_length}
@@ -9,7 +9,7 @@ use Rattle.rewriting.proofs.Systems.{is_rule_at}
 use Rattle.rewriting.proofs.Conditions.{length-conditions_under}
 use Rattle.rewriting.proofs.Unraveled.{no_variable_under}
 use Rattle.certificates.specs.Certificates.{Simplification, dropped, inlined}
-use Rattle.simplifications.specs.Inlining.{replacing, left_under, inlined_rule, numbering_of, numbered}
+use Rattle.simplifications.specs.Inlining.{left_under, inlined_rule, numbering_of, numbered}
 use Rattle.simplifications.specs.Simplifying.{with_in_place, Simplifies}
 use Rattle.simplifications.specs.Laws.{parts, SimplificationsMakeSystems, SimplificationsShrink}
 use Rattle.simplifications.proofs.Anew.{numbered_counts}

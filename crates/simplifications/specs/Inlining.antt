@@ -1,6 +1,6 @@
 -- A condition that only names a term, and a rule without it.
-use Rattle.std.specs.Prelude.{ℕ, suc, ◌≡◌, false, nat_eq, if◌then◌else◌, ◌++◌, map, take, drop}
-use Rattle.rewriting.specs.Prelude.{Term, var, Substitution, apply, occurs, occurs_in, Condition, Rule, right_sides, sides, rule_variables, conditions_under, index_in}
+use Rattle.std.specs.Prelude.{ℕ, suc, ◌≡◌, false, ◌++◌, map, take, drop}
+use Rattle.rewriting.specs.Prelude.{Term, var, Substitution, apply, occurs, occurs_in, Condition, Rule, right_sides, sides, rule_variables, conditions_under, index_in, replacing}
 
 -- the condition, behind n others of the rule, names its left side: its right side is a variable x that is not in the rule's
 -- left side, not in its own left side, in no condition before it and in no right side of one behind it
@@ -10,10 +10,6 @@ pub record Names (r : Rule) (n : ℕ) (c : Condition) (x : ℕ) : Type 0 where
   pub not_in_own : occurs x c.left ≡ false
   pub not_before : occurs_in x (sides (take n r.conditions)) ≡ false
   pub not_asked_behind : occurs_in x (right_sides (drop (suc n) r.conditions)) ≡ false
-
--- s for x
-abbrev pub replacing : ℕ → Term → Substitution
-replacing x s = λ y. if nat_eq y x then s else var y
 
 -- a condition with its left side changed
 abbrev pub left_under : Substitution → Condition → Condition

@@ -7,7 +7,7 @@ use Rattle.std.specs.FinMap.{get, insert, empty, get-insert, get-empty}
 use Rattle.std.proofs.lemmas.List.{length-map}
 use Rattle.general_lemmas.proofs.Places.{slice_get-map_read}
 use Rattle.rewriting.specs.Rules as math
-use Rattle.rewriting.specs.Prelude.{sides, Bindings, apply, values_of, Each, terms_of_rule, rule_variables, Fits, var}
+use Rattle.rewriting.specs.Prelude.{sides, Bindings, apply, values_of, Each, terms_of_rule, rule_variables, Fits, var, replacing}
 use Rattle.rewriting.specs.Terms as terms
 use Rattle.rewriting.proofs.Finite.{key_is, same_key}
 use Rattle.rewriting.proofs.Instances.{apply-agree}
@@ -18,7 +18,7 @@ use Rattle.term_core.specs.declared.systems.Cond.{Cond}
 use Rattle.term_core.specs.declared.systems.Rule.{Rule}
 use Rattle.term_core.specs.declared.terms.TermError.{TermError}
 use Rattle.term_core.specs.declared.terms.TermError.TheVariants.{NoPosition, TooLarge, NoMemory}
-use Rattle.simplifications.specs.Inlining.{replacing, left_under, inlined_rule, numbered}
+use Rattle.simplifications.specs.Inlining.{left_under, inlined_rule, numbered}
 use Rattle.simplifications.proofs.Parts.{each_append, each_front, each_behind, length_without}
 use Rattle.simplifications.proofs.Rules.{split_at}
 use Rattle.simplifications.proofs.Systems.{few_variables_of}

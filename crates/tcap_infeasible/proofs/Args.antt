@@ -4,8 +4,7 @@ use Rattle.std.proofs.Common.{◌∙◌, subst, arith, eq-eqb}
 use Rattle.std.proofs.lemmas.List.{take_all}
 use Rattle.general_lemmas.proofs.Places.{take_read}
 use Rattle.rewriting.specs.Terms as math
-use Rattle.rewriting.specs.Prelude.{Terms, app, nil, cons, size, size_all, depth, depth_all, Fits, Substitution, occurs, System}
-use Rattle.unifier_run.specs.Run.{append}
+use Rattle.rewriting.specs.Prelude.{Terms, app, nil, cons, size, size_all, depth, depth_all, Fits, Substitution, occurs, System, append}
 use Rattle.caps.specs.Caps.{Cap as MathCap, Caps, node, no_caps, caps, holes, holes_in, filled, all_filled, IsCapOf, AreCapsOf, IsCapLarge, AreCapsLarge}
 use Rattle.term_core.specs.Prelude.{view, views}
 use Rattle.term_core.specs.declared.terms.Term.{Term, Var, Fun}

@@ -2,10 +2,10 @@
 -- the run is larger than these, and the run clashes exactly where two symbols do.
 use Rattle.std.proofs.Common.{ℕ, ◌≡◌, ◌≢◌, inl, inr, ◌||◌, Bool, true, false, nat_eq, if◌then◌else◌, List, [], ◌∷◌, ◌++◌, Ok, refl, sym, ap, ap₂, ◌∙◌, subst, arith, eqb-true, eq-eqb}
 use Rattle.std.proofs.lemmas.Bool.{false≢true, or_right, or_left, or_parts, false_from_ne_true}
-use Rattle.rewriting.specs.Prelude.{Term, Terms, var, app, nil, cons, count, Fits, Each, apply, occurs, occurs_in}
+use Rattle.rewriting.specs.Prelude.{Term, Terms, var, app, nil, cons, count, Fits, Each, apply, occurs, occurs_in, append}
 use Rattle.rewriting.proofs.Instances.{apply-agree}
 use Rattle.rewriting.proofs.Variables.{IsLinearInParts, AreLinear}
-use Rattle.unifier_run.specs.Run.{Binding, value, extended, DoAllFit, Outcome, unifier, clash, append, Runs, no_equation, IsOutcome}
+use Rattle.unifier_run.specs.Run.{Binding, value, extended, DoAllFit, Outcome, unifier, clash, Runs, no_equation, IsOutcome}
 use Rattle.unifier_run.proofs.Values.{apply_nothing}
 use Rattle.unifier_run.proofs.General.{untouched}
 use Rattle.unifier_run.proofs.Equal.{arguments_fit, open_equation}

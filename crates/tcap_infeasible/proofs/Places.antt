@@ -2,8 +2,7 @@
 use Rattle.std.proofs.Common.{ℕ, suc, ◌≡◌, ◌+◌, ◌^◌, ◌<◌, ◌≤◌, List, [], ◌∷◌, ◌++◌, length, take, get_or, Vec, Global, refl, sym, ap, ◌∙◌, subst, subst₂, arith}
 use Rattle.std.proofs.lemmas.List.{take_all}
 use Rattle.rewriting.specs.Terms as math
-use Rattle.rewriting.specs.Prelude.{Terms, app, nil, cons, size, size_all, with_new, AreDistinct, IsFront}
-use Rattle.unifier_run.specs.Run.{append}
+use Rattle.rewriting.specs.Prelude.{Terms, app, nil, cons, size, size_all, with_new, AreDistinct, IsFront, append}
 use Rattle.rewriting.proofs.Lists.{front_trans}
 use Rattle.term_core.specs.View.{view, views}
 use Rattle.term_core.specs.declared.terms.Term.{Term, Var, Fun}

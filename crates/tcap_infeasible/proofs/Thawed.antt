@@ -2,8 +2,7 @@
 use Rattle.std.proofs.Common.{ℕ, ◌≡◌, ◌+◌, ◌^◌, ◌<◌, ◌≤◌, ◌⊎◌, inl, inr, true, List, [], ◌∷◌, ◌++◌, length, drop, get_or, Vec, Global, Result, Ok, Err, refl, sym, ap, ap₂, ◌∙◌, subst, subst₂, arith}
 use Rattle.std.proofs.lemmas.Bool.{cases_lt}
 use Rattle.rewriting.specs.Terms as math
-use Rattle.rewriting.specs.Prelude.{Terms, var, app, nil, cons, size, occurs, System, IsSystem, apply}
-use Rattle.unifier_run.specs.Run.{append}
+use Rattle.rewriting.specs.Prelude.{Terms, var, app, nil, cons, size, occurs, System, IsSystem, apply, append}
 use Rattle.unifier_run.proofs.Lists.{append-nil}
 use Rattle.caps.specs.Laws.{IsReductOf}
 use Rattle.caps.specs.Caps.{Cap as MathCap, any, kept, filled, constants, IsCapOf, IsCapLarge}

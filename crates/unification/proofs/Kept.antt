@@ -2,11 +2,11 @@
 use Rattle.std.proofs.Common.{ℕ, ◌≡◌, ◌⊎◌, inl, inr, Bool, true, false, nat_eq, if◌then◌else◌, refl, sym, ap, ap₂, ◌∙◌, subst, subst₂, List, [], ◌∷◌, map, length, take}
 use Rattle.std.proofs.Common.{arith, eqb-true, eq-eqb}
 use Rattle.std.proofs.lemmas.Bool.{false≢true, or_right, or_left}
-use Rattle.rewriting.specs.Prelude.{Term, Terms, var, app, nil, cons, size, Fits, Substitution, apply, apply_all, occurs, occurs_in}
+use Rattle.rewriting.specs.Prelude.{Term, Terms, var, app, nil, cons, size, Fits, Substitution, apply, apply_all, occurs, occurs_in, replacing}
 use Rattle.rewriting.proofs.Instances.{or_cases}
 use Rattle.rewriting.proofs.Leaves.{IsLeaf, GivesLeaves, fits_under}
 use Rattle.rewriting.proofs.Lengths.{size_positive}
-use Rattle.unifier_run.specs.Run.{Binding, value, only, under, extended, DoAllFit}
+use Rattle.unifier_run.specs.Run.{Binding, value, under, extended, DoAllFit}
 use Rattle.unifier_run.proofs.Values.{value-extended}
 use Rattle.unifier_run.proofs.General.{untouched}
 use Rattle.unification.specs.Solving.{IsHead, bound_in_turn, MayBindInTurn, IsNewTo}
@@ -38,7 +38,7 @@ variable_back : (x : ℕ) → GivesBack x var
 variable_back x y o = sym (eqb-true x y o)
 
 added_back : (x : ℕ) (b : List Binding) (e : Binding) → occurs x e.term ≡ false → GivesBack x (value b) → GivesBack x (value (added b e))
-added_back x b e apart back y o = back y (occurred x (only e.variable v) only_back (value b y) (subst (λ z. occurs x z ≡ true) (value-extended b e.variable v y) o))
+added_back x b e apart back y o = back y (occurred x (replacing e.variable v) replacing_back (value b y) (subst (λ z. occurs x z ≡ true) (value-extended b e.variable v y) o))
   where
     v : Term
     v = apply (value b) e.term
@@ -46,8 +46,8 @@ added_back x b e apart back y o = back y (occurred x (only e.variable v) only_ba
     v_apart : occurs x v ≡ true → ⊥
     v_apart q = false≢true (sym apart ∙ occurred x (value b) back e.term q)
 
-    only_back : GivesBack x (only e.variable v)
-    only_back z q = go (nat_eq z e.variable) q
+    replacing_back : GivesBack x (replacing e.variable v)
+    replacing_back z q = go (nat_eq z e.variable) q
       where
         go : (is : Bool) → occurs x (if is then v else var z) ≡ true → z ≡ x
         go true q = absurd (v_apart q)
@@ -77,8 +77,8 @@ leaf_under b (var y) head one = subst IsLeaf (sym (head y refl)) (record { nodes
 leaf_under b (app f nil) head one = record { nodes = refl; levels = refl }
 leaf_under b (app f (cons t ts)) head one = absurd (let h = size_positive t in omega (arith, h, one))
 
-only_leaf : (x : ℕ) (v : Term) → IsLeaf v → GivesLeaves (only x v)
-only_leaf x v leaf y = go (nat_eq y x)
+replacing_leaf : (x : ℕ) (v : Term) → IsLeaf v → GivesLeaves (replacing x v)
+replacing_leaf x v leaf y = go (nat_eq y x)
   where
     go : (is : Bool) → IsLeaf (if is then v else var y)
     go true = leaf
@@ -86,7 +86,7 @@ only_leaf x v leaf y = go (nat_eq y x)
 
 leaf_fits : (x : ℕ) (v : Term) → IsLeaf v → (b : List Binding) → DoAllFit b → DoAllFit (map (under x v) b)
 leaf_fits x v leaf [] h = tt
-leaf_fits x v leaf (e ∷ b) (h, k) = (fits_under (only x v) (only_leaf x v leaf) e.term h, leaf_fits x v leaf b k)
+leaf_fits x v leaf (e ∷ b) (h, k) = (fits_under (replacing x v) (replacing_leaf x v leaf) e.term h, leaf_fits x v leaf b k)
 
 earlier_ones : (b : List Binding) (x : ℕ) (v : Term) → DoAllFit (map (under x v) b) → DoAllFit (take (length b) (extended b x v))
 earlier_ones b x v h = go b h

@@ -1,9 +1,9 @@
 -- How the answers on parts make those on wholes.
 use Rattle.std.proofs.Common.{ℕ, ◌≡◌, ◌≢◌, ◌<◌, ◌⊎◌, inl, inr, refl, sym, ap, ◌∙◌, subst, List, length, arith, Result, Ok, Err}
-use Rattle.rewriting.specs.Prelude.{Term, Terms, var, app, nil, cons, count, apply, apply_all}
+use Rattle.rewriting.specs.Prelude.{Term, Terms, var, app, nil, cons, count, apply, apply_all, append}
 use Rattle.rewriting.proofs.Over.{count-apply}
 use Rattle.unifier_run.specs.Run.{Binding, value, Binds, DoFit, Outcome, clash, too_large, goes_on, Takes, side_too_large, equal_sides, occurs_inside, binding, binding_too_large}
-use Rattle.unifier_run.specs.Run.{roots_differ, append, Runs, last_equation, next_equation}
+use Rattle.unifier_run.specs.Run.{roots_differ, Runs, last_equation, next_equation}
 use Rattle.unifier_run.proofs.Agree.{Runs-agree}
 use Rattle.unifier_run.proofs.General.{settled_fixed, takes_settled}
 use Rattle.unifier_run.proofs.Equal.{open_equation}

@@ -1,18 +1,18 @@
 -- Variables that are bound in turn, to terms that stay as they stand.
 use Rattle.std.proofs.Common.{ℕ, ◌≡◌, ◌≢◌, suc, ◌+◌, Bool, true, false, nat_eq, if◌then◌else◌, refl, sym, ap, ap₂, ◌∙◌, List, [], ◌∷◌, ◌++◌, map, length, arith, eqb-true, eq-eqb}
 use Rattle.std.proofs.lemmas.Bool.{false≢true}
-use Rattle.rewriting.specs.Prelude.{Term, var, Substitution, apply, occurs}
-use Rattle.unifier_run.specs.Run.{Binding, value, only, under, extended}
+use Rattle.rewriting.specs.Prelude.{Term, var, Substitution, apply, occurs, replacing}
+use Rattle.unifier_run.specs.Run.{Binding, value, under, extended}
 use Rattle.unifier_run.proofs.Values.{value-extended, apply-extended}
-use Rattle.unifier_run.proofs.General.{Absorbs, IsSettled, absorbs_only, settled_fixed, settled_empty, untouched, absorbed, only-same}
+use Rattle.unifier_run.proofs.General.{Absorbs, IsSettled, absorbs_replacing, settled_fixed, settled_empty, untouched, absorbed, replacing-same}
 use Rattle.unification.specs.Solving.{IsHead, bound_in_turn, MayBind, MayBindInTurn}
 
 -- one more variable
 abbrev pub added : List Binding → Binding → List Binding
 added b e = extended b e.variable (apply (value b) e.term)
 
-only-other : (x : ℕ) (v : Term) (y : ℕ) → y ≢ x → only x v y ≡ var y
-only-other x v y n = go (nat_eq y x) refl
+replacing-other : (x : ℕ) (v : Term) (y : ℕ) → y ≢ x → replacing x v y ≡ var y
+replacing-other x v y n = go (nat_eq y x) refl
   where
     go : (b : Bool) → nat_eq y x ≡ b → (if b then v else var y) ≡ var y
     go true e = absurd (n (eqb-true y x e))
@@ -23,27 +23,27 @@ module _ (b : List Binding) (e : Binding) (may : MayBind b e) where
   here = apply (value b) e.term
 
   new_value : value (added b e) e.variable ≡ here
-  new_value = value-extended b e.variable here e.variable ∙ (ap (apply (only e.variable here)) may.free ∙ only-same e.variable here)
+  new_value = value-extended b e.variable here e.variable ∙ (ap (apply (replacing e.variable here)) may.free ∙ replacing-same e.variable here)
 
   -- a substitution that absorbs the new bindings gives the variable what it gives the term
   pub new_absorbed : (s : Substitution) → Absorbs s (value (added b e)) → s e.variable ≡ apply s here
   new_absorbed s a = a e.variable ∙ ap (apply s) new_value
 
   pub old_absorbed : (s : Substitution) → Absorbs s (value (added b e)) → Absorbs s (value b)
-  old_absorbed s a = λ y. a y ∙ (ap (apply s) (value-extended b e.variable here y) ∙ absorbs_only s e.variable here (new_absorbed s a) (value b y))
+  old_absorbed s a = λ y. a y ∙ (ap (apply s) (value-extended b e.variable here y) ∙ absorbs_replacing s e.variable here (new_absorbed s a) (value b y))
 
   pub stands_for : (s : Substitution) → Absorbs s (value (added b e)) → s e.variable ≡ apply s e.term
   stands_for s a = new_absorbed s a ∙ absorbed s (value b) (old_absorbed s a) e.term
 
   module _ (settled : IsSettled b) where
     new_fixed : value (added b e) e.variable ≡ apply (value (added b e)) here
-    new_fixed = new_value ∙ sym (apply-extended b e.variable here here ∙ (ap (apply (only e.variable here)) (settled_fixed b settled e.term) ∙ untouched e.variable here here may.apart))
+    new_fixed = new_value ∙ sym (apply-extended b e.variable here here ∙ (ap (apply (replacing e.variable here)) (settled_fixed b settled e.term) ∙ untouched e.variable here here may.apart))
 
     pub added_settled : IsSettled (added b e)
     added_settled =
         λ y. value-extended b e.variable here y
-        ∙ (sym (apply-extended b e.variable here (value b y) ∙ ap (apply (only e.variable here)) (sym (settled y)))
-        ∙ sym (ap (apply (value (added b e))) (value-extended b e.variable here y) ∙ absorbs_only (value (added b e)) e.variable here new_fixed (value b y)))
+        ∙ (sym (apply-extended b e.variable here (value b y) ∙ ap (apply (replacing e.variable here)) (sym (settled y)))
+        ∙ sym (ap (apply (value (added b e))) (value-extended b e.variable here y) ∙ absorbs_replacing (value (added b e)) e.variable here new_fixed (value b y)))
 
 pub in_turn_absorbs : (b es : List Binding) → IsSettled b → MayBindInTurn b es → Absorbs (value (bound_in_turn b es)) (value b)
 in_turn_absorbs b [] settled may = settled
@@ -64,8 +64,8 @@ added_fixed b e may settled fixed = all_under b fixed
         → AllFixed (value (added b e)) (map (under e.variable (apply (value b) e.term)) c ++ (record { variable = e.variable; term = apply (value b) e.term }) ∷ [])
     all_under [] h = (sym here_fixed ∙ new_value b e may, tt)
     all_under (d ∷ c) (h, k) = (
-      absorbs_only (value (added b e)) e.variable (apply (value b) e.term) here_fixed d.term
-          ∙ (apply-extended b e.variable (apply (value b) e.term) d.term ∙ ap (apply (only e.variable (apply (value b) e.term))) h),
+      absorbs_replacing (value (added b e)) e.variable (apply (value b) e.term) here_fixed d.term
+          ∙ (apply-extended b e.variable (apply (value b) e.term) d.term ∙ ap (apply (replacing e.variable (apply (value b) e.term))) h),
       all_under c k,
     )
 
@@ -76,7 +76,7 @@ closed s e = record { variable = e.variable; term = apply s e.term }
 closed_added : (s : Substitution) (b es : List Binding) (e : Binding) (v : Term) → s e.variable ≡ apply s v → s e.variable ≡ apply s e.term
     → map (closed s) (map (under e.variable v) b ++ (record { variable = e.variable; term = v }) ∷ []) ++ es ≡ map (closed s) b ++ closed s e ∷ es
 closed_added s [] es e v h k = ap (λ z. (record { variable = e.variable; term = z }) ∷ es) (sym h ∙ k)
-closed_added s (d ∷ b) es e v h k = ap₂ (λ z w. (record { variable = d.variable; term = z }) ∷ w) (absorbs_only s e.variable v h d.term) (closed_added s b es e v h k)
+closed_added s (d ∷ b) es e v h k = ap₂ (λ z w. (record { variable = d.variable; term = z }) ∷ w) (absorbs_replacing s e.variable v h d.term) (closed_added s b es e v h k)
 
 closed_fixed : (s : Substitution) (b : List Binding) → AllFixed s b → map (closed s) b ++ [] ≡ b
 closed_fixed s [] h = refl
@@ -99,7 +99,7 @@ all_closed es may = in_turn_closed [] es settled_empty tt may
 -- a term that is the bound variable, and the term that this is bound to
 pub head_of_bound : (b : List Binding) (e : Binding) → MayBind b e → IsHead (added b e) e.term
 head_of_bound b e may z is =
-    value-extended b e.variable (apply (value b) e.term) z ∙ (ap (apply (only e.variable (apply (value b) e.term))) (may.head z is) ∙ only-other e.variable _ z (apart z is))
+    value-extended b e.variable (apply (value b) e.term) z ∙ (ap (apply (replacing e.variable (apply (value b) e.term))) (may.head z is) ∙ replacing-other e.variable _ z (apart z is))
   where
     apart : (z : ℕ) → e.term ≡ var z → z ≢ e.variable
     apart z is same = false≢true (sym may.apart ∙ (ap (λ t. occurs e.variable (apply (value b) t)) is ∙ (ap (occurs e.variable) (may.head z is) ∙ eq-eqb e.variable z (sym same))))
@@ -107,7 +107,7 @@ head_of_bound b e may z is =
 -- a term that is another one
 pub head_of_other : (b : List Binding) (e : Binding) (t : Term) → IsHead b t → (t ≡ var e.variable → ⊥) → IsHead (added b e) t
 head_of_other b e t h n z is =
-    value-extended b e.variable (apply (value b) e.term) z ∙ (ap (apply (only e.variable (apply (value b) e.term))) (h z is) ∙ only-other e.variable _ z (λ same. n (is ∙ ap var same)))
+    value-extended b e.variable (apply (value b) e.term) z ∙ (ap (apply (replacing e.variable (apply (value b) e.term))) (h z is) ∙ replacing-other e.variable _ z (λ same. n (is ∙ ap var same)))
 
 pub length_extended : (b : List Binding) (x : ℕ) (v : Term) → length (extended b x v) ≡ suc (length b)
 length_extended [] x v = refl

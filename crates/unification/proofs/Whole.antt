@@ -1,8 +1,8 @@
 -- The run from the start on.
 use Rattle.std.proofs.Common.{ℕ, ◌≡◌, List, [], sym, ap, ◌∙◌, subst, subst₂, Result, Ok, Err}
-use Rattle.rewriting.specs.Prelude.{Terms, nil, Substitution, apply, Bindings, values_of, IsMostGeneralOfAll}
+use Rattle.rewriting.specs.Prelude.{Terms, nil, Substitution, apply, Bindings, values_of, IsMostGeneralOfAll, append}
 use Rattle.rewriting.proofs.Instances.{apply_all-agree}
-use Rattle.unifier_run.specs.Run.{Binding, value, Outcome, unifier, clash, too_large, IsOutcome, append, Runs, no_equation}
+use Rattle.unifier_run.specs.Run.{Binding, value, Outcome, unifier, clash, too_large, IsOutcome, Runs, no_equation}
 use Rattle.unifier_run.specs.Laws.{as_map}
 use Rattle.unifier_run.proofs.Lists.{append-nil}
 use Rattle.unifier_run.proofs.General.{most_general, no_unifier}

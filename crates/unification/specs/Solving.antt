@@ -1,8 +1,8 @@
 -- What the parts of the run answer, each over the bindings before and after it.
 use Rattle.std.specs.Prelude.{ℕ, ◌≡◌, ◌<◌, ◌⊎◌, true, false, List, [], ◌∷◌, map, length, Result, Ok, Err}
 use Rattle.rewriting.specs.Terms as math
-use Rattle.rewriting.specs.Prelude.{Terms, var, apply, occurs}
-use Rattle.unifier_run.specs.Run.{Binding, value, extended, DoAllFit, Outcome, clash, too_large, append, Runs}
+use Rattle.rewriting.specs.Prelude.{Terms, var, apply, occurs, append}
+use Rattle.unifier_run.specs.Run.{Binding, value, extended, DoAllFit, Outcome, clash, too_large, Runs}
 use Rattle.term_core.specs.View.{view}
 use Rattle.term_core.specs.declared.terms.NoMemory.{NoMemory}
 use Rattle.unifier_run.specs.Laws.{as_map}

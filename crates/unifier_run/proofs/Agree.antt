@@ -1,7 +1,7 @@
 -- A run sees of its equations only what they are under the bindings.
 use Rattle.std.proofs.Common.{ℕ, ◌≡◌, ◌⊎◌, inl, inr, refl, sym, ap, ◌∙◌, subst, subst₂, List}
-use Rattle.rewriting.specs.Prelude.{Term, Terms, nil, cons, apply, apply_all}
-use Rattle.unifier_run.specs.Run.{Binding, value, only, extended, Outcome, ends, goes_on, Takes, equal_sides, binding, arguments, append, Runs, no_equation, last_equation, next_equation}
+use Rattle.rewriting.specs.Prelude.{Term, Terms, nil, cons, apply, apply_all, replacing, append}
+use Rattle.unifier_run.specs.Run.{Binding, value, extended, Outcome, ends, goes_on, Takes, equal_sides, binding, arguments, Runs, no_equation, last_equation, next_equation}
 use Rattle.unifier_run.proofs.Values.{apply_all-extended}
 use Rattle.unifier_run.proofs.Lists.{apply_all-append}
 
@@ -18,7 +18,7 @@ pub agree_later : (b c : List Binding) (ts us : Terms) → IsLater b c → apply
 agree_later b c ts us (inl e) h = subst (λ z. apply_all (value z) ts ≡ apply_all (value z) us) (sym e) h
 agree_later b c ts us (inr (x, v, e)) h =
     subst (λ z. apply_all (value z) ts ≡ apply_all (value z) us) (sym e)
-    (apply_all-extended b x v ts ∙ (ap (apply_all (only x v)) h ∙ sym (apply_all-extended b x v us)))
+    (apply_all-extended b x v ts ∙ (ap (apply_all (replacing x v)) h ∙ sym (apply_all-extended b x v us)))
 
 pub head_of : (t u : Term) (ts us : Terms) → cons t ts ≡ cons u us → t ≡ u
 head_of t u ts us e = cc

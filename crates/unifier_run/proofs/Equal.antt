@@ -1,10 +1,10 @@
 -- Equal sides may be taken apart in place of being dropped.
 use Rattle.std.proofs.Common.{ℕ, ◌≡◌, ◌≤◌, refl, sym, ap, ◌∙◌, subst, List, arith}
-use Rattle.rewriting.specs.Prelude.{Term, app, Terms, nil, cons, count, Fits, size_all, depth_all, Each, apply, apply_all}
+use Rattle.rewriting.specs.Prelude.{Term, app, Terms, nil, cons, count, Fits, size_all, depth_all, Each, apply, apply_all, append}
 use Rattle.rewriting.proofs.Equality.{same}
 use Rattle.rewriting.proofs.Over.{count-apply}
 use Rattle.rewriting.proofs.Instances.{inj_app}
-use Rattle.unifier_run.specs.Run.{Binding, value, DoFit, Outcome, equal_sides, arguments, append, Runs, last_equation, next_equation}
+use Rattle.unifier_run.specs.Run.{Binding, value, DoFit, Outcome, equal_sides, arguments, Runs, last_equation, next_equation}
 use Rattle.unifier_run.proofs.Unique.{takes_same, same_on, run_along, ended_or_on}
 use Rattle.unifier_run.proofs.Lists.{apply_all-append}
 use Rattle.unifier_run.proofs.Agree.{Runs-agree}

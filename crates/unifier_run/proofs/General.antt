@@ -1,11 +1,11 @@
 -- The unifier of a run is most general, and where a run clashes there is no unifier.
 use Rattle.std.proofs.Common.{ℕ, ◌≡◌, ◌≢◌, suc, ◌≤◌, inl, inr, Bool, true, false, nat_eq, if◌then◌else◌, refl, sym, ap, ap₂, ◌∙◌, subst, arith, List, [], eqb-true, eq-eqb}
 use Rattle.std.proofs.lemmas.Bool.{or_parts}
-use Rattle.rewriting.specs.Prelude.{Term, var, app, Terms, nil, cons, count, size, size_all, Substitution, apply, apply_all, occurs, occurs_in, IsMostGeneralOfAll}
+use Rattle.rewriting.specs.Prelude.{Term, var, app, Terms, nil, cons, count, size, size_all, Substitution, apply, apply_all, occurs, occurs_in, IsMostGeneralOfAll, replacing, append}
 use Rattle.rewriting.proofs.Instances.{apply-apply, apply-agree, or_cases, inj_app, inj_symbol}
 use Rattle.rewriting.proofs.Over.{count-apply}
-use Rattle.unifier_run.specs.Run.{Binding, value, only, extended, Binds, DoRootsDiffer, HaveArguments, unifier, clash, ends, goes_on, Takes, equal_sides, occurs_inside, binding}
-use Rattle.unifier_run.specs.Run.{roots_differ, arguments, append, Runs, no_equation, last_equation, next_equation}
+use Rattle.unifier_run.specs.Run.{Binding, value, extended, Binds, DoRootsDiffer, HaveArguments, unifier, clash, ends, goes_on, Takes, equal_sides, occurs_inside, binding}
+use Rattle.unifier_run.specs.Run.{roots_differ, arguments, Runs, no_equation, last_equation, next_equation}
 use Rattle.unifier_run.proofs.Values.{value-extended, apply-extended}
 use Rattle.unifier_run.proofs.Lists.{apply_all-append, part}
 use Rattle.unifier_run.proofs.Agree.{head_of, tail_of}
@@ -17,16 +17,16 @@ Absorbs s m = (x : ℕ) → s x ≡ apply s (m x)
 pub absorbed : (s m : Substitution) → Absorbs s m → (t : Term) → apply s (apply m t) ≡ apply s t
 absorbed s m a t = apply-apply m s t ∙ sym (apply-agree s (λ x. apply s (m x)) t (λ x o. a x))
 
-pub only-same : (x : ℕ) (v : Term) → only x v x ≡ v
-only-same x v = rw (eq-eqb x x refl) refl
+pub replacing-same : (x : ℕ) (v : Term) → replacing x v x ≡ v
+replacing-same x v = rw (eq-eqb x x refl) refl
 
 -- one variable put in for v leaves the instance where s has the two alike
-if_only : (s : Substitution) (x : ℕ) (v : Term) → s x ≡ apply s v → (y : ℕ) (b : Bool) → nat_eq y x ≡ b → apply s (if b then v else var y) ≡ s y
-if_only s x v e y true h = sym e ∙ ap s (sym (eqb-true y x h))
-if_only s x v e y false h = refl
+if_replacing : (s : Substitution) (x : ℕ) (v : Term) → s x ≡ apply s v → (y : ℕ) (b : Bool) → nat_eq y x ≡ b → apply s (if b then v else var y) ≡ s y
+if_replacing s x v e y true h = sym e ∙ ap s (sym (eqb-true y x h))
+if_replacing s x v e y false h = refl
 
-pub absorbs_only : (s : Substitution) (x : ℕ) (v : Term) → s x ≡ apply s v → (t : Term) → apply s (apply (only x v) t) ≡ apply s t
-absorbs_only s x v e t = apply-apply (only x v) s t ∙ apply-agree (λ y. apply s (only x v y)) s t (λ y o. if_only s x v e y (nat_eq y x) refl)
+pub absorbs_replacing : (s : Substitution) (x : ℕ) (v : Term) → s x ≡ apply s v → (t : Term) → apply s (apply (replacing x v) t) ≡ apply s t
+absorbs_replacing s x v e t = apply-apply (replacing x v) s t ∙ apply-agree (λ y. apply s (replacing x v y)) s t (λ y o. if_replacing s x v e y (nat_eq y x) refl)
 
 -- what an equation that binds says
 binds_value : (s : Substitution) (l r : Term) (x : ℕ) (v : Term) → Binds l r x v → apply s l ≡ apply s r → s x ≡ apply s v
@@ -100,7 +100,7 @@ takes_on b c l r xs ys s (equal_sides f e) a u = record { absorbs = a; unifies =
 takes_on b c l r xs ys s (arguments f n us vs h) a u = record { absorbs = a; unifies = arguments_unify s l r xs ys h u; lengths = arguments_count l r xs ys h }
 takes_on b c l r xs ys s (binding f n x v h o d e k) a u =
     record {
-      absorbs = subst (λ z. Absorbs s (value z)) (sym e) (λ y. a y ∙ sym (ap (apply s) (value-extended b x v y) ∙ absorbs_only s x v (binds_value s l r x v h u) (value b y)));
+      absorbs = subst (λ z. Absorbs s (value z)) (sym e) (λ y. a y ∙ sym (ap (apply s) (value-extended b x v y) ∙ absorbs_replacing s x v (binds_value s l r x v h u) (value b y)));
       unifies = refl;
       lengths = refl;
     }
@@ -113,8 +113,8 @@ takes_back b c l r xs ys s (arguments f n us vs h) hl hr a u = (arguments_back s
 takes_back b c l r xs ys s (binding f n x v h o d e k) hl hr a u =
     let same = fixed_variable b l r x v h hl hr in
     let at = subst (λ z. Absorbs s (value z)) e a in
-    let here : s x ≡ apply s v = at x ∙ ap (apply s) (value-extended b x v x ∙ (ap (apply (only x v)) same ∙ only-same x v)) in
-    (binds_back s l r x v h here, λ y. at y ∙ (ap (apply s) (value-extended b x v y) ∙ absorbs_only s x v here (value b y)))
+    let here : s x ≡ apply s v = at x ∙ ap (apply s) (value-extended b x v x ∙ (ap (apply (replacing x v)) same ∙ replacing-same x v)) in
+    (binds_back s l r x v h here, λ y. at y ∙ (ap (apply s) (value-extended b x v y) ∙ absorbs_replacing s x v here (value b y)))
   where
     fixed_variable : (b : List Binding) (l r : Term) (x : ℕ) (v : Term) → Binds l r x v → apply (value b) l ≡ l → apply (value b) r ≡ r → value b x ≡ var x
     fixed_variable b (var y) r x v (e, h) hl hr = ap (value b) e ∙ (hl ∙ ap var (sym e))
@@ -139,7 +139,7 @@ settled_fixed_all b h (cons t ts) = ap₂ cons (settled_fixed b h t) (settled_fi
 
 -- a term without the variable stays
 mutual
-  pub untouched : (x : ℕ) (v t : Term) → occurs x t ≡ false → apply (only x v) t ≡ t
+  pub untouched : (x : ℕ) (v t : Term) → occurs x t ≡ false → apply (replacing x v) t ≡ t
   untouched x v (var y) o = other (nat_eq y x) refl
     where
       other : (k : Bool) → nat_eq y x ≡ k → if k then v else var y ≡ var y
@@ -147,7 +147,7 @@ mutual
       other false e = refl
   untouched x v (app f ts) o = ap (app f) (untouched_all x v ts o)
 
-  pub untouched_all : (x : ℕ) (v : Term) (ts : Terms) → occurs_in x ts ≡ false → apply_all (only x v) ts ≡ ts
+  pub untouched_all : (x : ℕ) (v : Term) (ts : Terms) → occurs_in x ts ≡ false → apply_all (replacing x v) ts ≡ ts
   untouched_all x v nil o = refl
   untouched_all x v (cons t ts) o = (let p = or_parts (occurs x t) (occurs_in x ts) o in ap₂ cons (untouched x v t p.0) (untouched_all x v ts p.1))
 
@@ -158,13 +158,13 @@ value_binds (app f ts) (app g us) x v h s hl hr = absurd h
 
 settled_extended : (b : List Binding) (x : ℕ) (v : Term) → IsSettled b → value b x ≡ var x → apply (value b) v ≡ v → occurs x v ≡ false → IsSettled (extended b x v)
 settled_extended b x v h free fixed o y = sym (ap (apply (value (extended b x v))) (value-extended b x v y)
-    ∙ (absorbs_only (value (extended b x v)) x v here (value b y) ∙ (apply-extended b x v (value b y) ∙ (ap (apply (only x v)) (sym (h y)) ∙ sym (value-extended b x v y)))))
+    ∙ (absorbs_replacing (value (extended b x v)) x v here (value b y) ∙ (apply-extended b x v (value b y) ∙ (ap (apply (replacing x v)) (sym (h y)) ∙ sym (value-extended b x v y)))))
   where
     left : value (extended b x v) x ≡ v
-    left = value-extended b x v x ∙ (ap (apply (only x v)) free ∙ only-same x v)
+    left = value-extended b x v x ∙ (ap (apply (replacing x v)) free ∙ replacing-same x v)
 
     right : apply (value (extended b x v)) v ≡ v
-    right = apply-extended b x v v ∙ (ap (apply (only x v)) fixed ∙ untouched x v v o)
+    right = apply-extended b x v v ∙ (ap (apply (replacing x v)) fixed ∙ untouched x v v o)
 
     here : value (extended b x v) x ≡ apply (value (extended b x v)) v
     here = left ∙ sym right

@@ -1,7 +1,6 @@
 -- Lists of terms, one behind the other.
 use Rattle.std.proofs.Common.{◌≡◌, ◌+◌, refl, ap, ap₂, arith}
-use Rattle.rewriting.specs.Prelude.{Terms, nil, cons, count, Substitution, apply, apply_all}
-use Rattle.unifier_run.specs.Run.{append}
+use Rattle.rewriting.specs.Prelude.{Terms, nil, cons, count, Substitution, apply, apply_all, append}
 
 pub apply_all-append : (s : Substitution) (ts us : Terms) → apply_all s (append ts us) ≡ append (apply_all s ts) (apply_all s us)
 apply_all-append s nil us = refl

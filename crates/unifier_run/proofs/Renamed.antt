@@ -5,9 +5,9 @@
 --   runs_with_names : Runs [] ts us o → Runs [] (apply_all (names rho) ts) (apply_all (names rho) us) (renamed_outcome rho stays o)
 use Rattle.std.proofs.Common.{ℕ, suc, ◌≡◌, inl, inr, ◌+◌, ◌≤◌, max, Bool, true, false, nat_eq, ◌||◌, if◌then◌else◌, List, [], ◌∷◌, ◌++◌, map, refl, sym, ap, ap₂, ◌∙◌, subst, subst₂, eqb-true, eq-eqb}
 use Rattle.std.proofs.lemmas.Bool.{false≢true}
-use Rattle.rewriting.specs.Prelude.{Term, Terms, var, app, nil, cons, count, size, size_all, depth, depth_all, Fits, Substitution, apply, apply_all, occurs, occurs_in}
-use Rattle.unifier_run.specs.Run.{Binding, value, only, under, extended, DoFit, DoAllFit, Binds, DoRootsDiffer, HaveArguments, Outcome, unifier, clash, too_large, Turn, ends}
-use Rattle.unifier_run.specs.Run.{goes_on, Takes, side_too_large, equal_sides, occurs_inside, binding, binding_too_large, roots_differ, arguments, append, Runs, no_equation}
+use Rattle.rewriting.specs.Prelude.{Term, Terms, var, app, nil, cons, count, size, size_all, depth, depth_all, Fits, Substitution, apply, apply_all, occurs, occurs_in, replacing, append}
+use Rattle.unifier_run.specs.Run.{Binding, value, under, extended, DoFit, DoAllFit, Binds, DoRootsDiffer, HaveArguments, Outcome, unifier, clash, too_large, Turn, ends}
+use Rattle.unifier_run.specs.Run.{goes_on, Takes, side_too_large, equal_sides, occurs_inside, binding, binding_too_large, roots_differ, arguments, Runs, no_equation}
 use Rattle.unifier_run.specs.Run.{last_equation, next_equation}
 
 module _ (rho sigma : ℕ → ℕ) where
@@ -92,8 +92,8 @@ module _ (rho sigma : ℕ → ℕ) (one_to_one : (x y : ℕ) → rho x ≡ rho y
   value-renamed (e ∷ b) x =
       ap₂ (λ c t. if c then new e.term else t) (same_test x e.variable) (value-renamed b x) ∙ either (nat_eq x e.variable) e.term (value b x)
 
-  only-renamed : (x : ℕ) (v : Term) (y : ℕ) → only (rho x) (new v) (rho y) ≡ new (only x v y)
-  only-renamed x v y = ap (λ c. if c then new v else var (rho y)) (same_test y x) ∙ either (nat_eq y x) v (var y)
+  replacing-renamed : (x : ℕ) (v : Term) (y : ℕ) → replacing (rho x) (new v) (rho y) ≡ new (replacing x v y)
+  replacing-renamed x v y = ap (λ c. if c then new v else var (rho y)) (same_test y x) ∙ either (nat_eq y x) v (var y)
 
   mutual
     apply-renamed : (s r : Substitution) → ((x : ℕ) → r (rho x) ≡ new (s x)) → (t : Term) → apply r (new t) ≡ new (apply s t)
@@ -110,7 +110,7 @@ module _ (rho sigma : ℕ → ℕ) (one_to_one : (x y : ℕ) → rho x ≡ rho y
   extended-renamed : (b c : List Binding) (x : ℕ) (v : Term) → map (under (rho x) (new v)) (new_bindings b) ++ new_bindings c ≡ new_bindings (map (under x v) b ++ c)
   extended-renamed [] c x v = refl
   extended-renamed (e ∷ b) c x v =
-      ap₂ (λ t r. (record { variable = rho e.variable; term = t }) ∷ r) (apply-renamed (only x v) (only (rho x) (new v)) (only-renamed x v) e.term) (extended-renamed b c x v)
+      ap₂ (λ t r. (record { variable = rho e.variable; term = t }) ∷ r) (apply-renamed (replacing x v) (replacing (rho x) (new v)) (replacing-renamed x v) e.term) (extended-renamed b c x v)
 
   all_fit_to : (b : List Binding) → DoAllFit b → DoAllFit (new_bindings b)
   all_fit_to [] h = tt

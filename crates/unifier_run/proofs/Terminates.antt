@@ -4,11 +4,11 @@ use Rattle.std.proofs.Common.{ℕ, zero, suc, ◌≡◌, ◌≢◌, ◌+◌, ◌
 use Rattle.std.proofs.lemmas.Bool.{or_right, or_left}
 use native.Mathlib.Decide.{ℕ_discrete}
 use Rattle.general_lemmas.proofs.Decisions.{dec_and}
-use Rattle.rewriting.specs.Prelude.{Term, var, app, Terms, nil, cons, count, size, size_all, apply, apply_all, occurs, occurs_in, IsAmong}
+use Rattle.rewriting.specs.Prelude.{Term, var, app, Terms, nil, cons, count, size, size_all, apply, apply_all, occurs, occurs_in, IsAmong, replacing, append}
 use Rattle.rewriting.proofs.Instances.{or_cases, inj_app}
 use Rattle.rewriting.proofs.Equality.{same, fits_decided}
-use Rattle.unifier_run.specs.Run.{Binding, value, only, extended, DoFit, DoAllFit, Binds, Outcome, unifier, clash, too_large, ends, goes_on, Takes, side_too_large, equal_sides}
-use Rattle.unifier_run.specs.Run.{occurs_inside, binding, binding_too_large, roots_differ, arguments, append, Runs, no_equation, last_equation, next_equation}
+use Rattle.unifier_run.specs.Run.{Binding, value, extended, DoFit, DoAllFit, Binds, Outcome, unifier, clash, too_large, ends, goes_on, Takes, side_too_large, equal_sides}
+use Rattle.unifier_run.specs.Run.{occurs_inside, binding, binding_too_large, roots_differ, arguments, Runs, no_equation, last_equation, next_equation}
 use Rattle.unifier_run.proofs.Values.{apply_all-extended}
 use Rattle.unifier_run.proofs.Lists.{apply_all-append, count-append}
 use Rattle.unifier_run.proofs.General.{IsSettled, settled_fixed, takes_settled}
@@ -88,20 +88,20 @@ HasAll vs ts = (x : ℕ) → occurs_in x ts ≡ true → IsAmong x vs
 
 -- a variable of an instance by one binding
 mutual
-  from_only : (x : ℕ) (v : Term) (z : ℕ) (t : Term) → occurs z (apply (only x v) t) ≡ true → (occurs z v ≡ true) ⊎ ((occurs z t ≡ true) × (nat_eq z x ≡ false))
-  from_only x v z (var y) o = go (nat_eq y x) refl o
+  from_replacing : (x : ℕ) (v : Term) (z : ℕ) (t : Term) → occurs z (apply (replacing x v) t) ≡ true → (occurs z v ≡ true) ⊎ ((occurs z t ≡ true) × (nat_eq z x ≡ false))
+  from_replacing x v z (var y) o = go (nat_eq y x) refl o
     where
       go : (b : Bool) → nat_eq y x ≡ b → occurs z (if b then v else var y) ≡ true → (occurs z v ≡ true) ⊎ ((nat_eq z y ≡ true) × (nat_eq z x ≡ false))
       go true e o = inl o
       go false e o = inr (o, subst (λ k. nat_eq k x ≡ false) (sym (eqb-true z y o)) e)
-  from_only x v z (app f ts) o = from_only_all x v z ts o
+  from_replacing x v z (app f ts) o = from_replacing_all x v z ts o
 
-  from_only_all : (x : ℕ) (v : Term) (z : ℕ) (ts : Terms) → occurs_in z (apply_all (only x v) ts) ≡ true → (occurs z v ≡ true) ⊎ ((occurs_in z ts ≡ true) × (nat_eq z x ≡ false))
-  from_only_all x v z nil o = absurd (cc)
-  from_only_all x v z (cons t ts) o =
-      or_cases (occurs z (apply (only x v) t)) (occurs_in z (apply_all (only x v) ts)) o
-      (λ q. in_head (from_only x v z t q))
-      (λ q. in_tail (from_only_all x v z ts q))
+  from_replacing_all : (x : ℕ) (v : Term) (z : ℕ) (ts : Terms) → occurs_in z (apply_all (replacing x v) ts) ≡ true → (occurs z v ≡ true) ⊎ ((occurs_in z ts ≡ true) × (nat_eq z x ≡ false))
+  from_replacing_all x v z nil o = absurd (cc)
+  from_replacing_all x v z (cons t ts) o =
+      or_cases (occurs z (apply (replacing x v) t)) (occurs_in z (apply_all (replacing x v) ts)) o
+      (λ q. in_head (from_replacing x v z t q))
+      (λ q. in_tail (from_replacing_all x v z ts q))
     where
       in_head : (occurs z v ≡ true) ⊎ ((occurs z t ≡ true) × (nat_eq z x ≡ false)) → (occurs z v ≡ true) ⊎ ((occurs_in z (cons t ts) ≡ true) × (nat_eq z x ≡ false))
       in_head (inl h) = inl h
@@ -129,7 +129,7 @@ of_sides vs l r ls rs z hl hr (inr o) = hr z (or_left _ _ o)
 -- the variables that are left after a binding
 after_binding : (vs : List ℕ) (b : List Binding) (x : ℕ) (v : Term) (ts : Terms) → occurs x v ≡ false → ((z : ℕ) → occurs z v ≡ true → IsAmong z vs) → HasAll vs (apply_all (value b) ts)
     → HasAll (without x vs) (apply_all (value (extended b x v)) ts)
-after_binding vs b x v ts free inside all z o = go (from_only_all x v z (apply_all (value b) ts) (subst (λ k. occurs_in z k ≡ true) (apply_all-extended b x v ts) o))
+after_binding vs b x v ts free inside all z o = go (from_replacing_all x v z (apply_all (value b) ts) (subst (λ k. occurs_in z k ≡ true) (apply_all-extended b x v ts) o))
   where
     differ : (k : Bool) → nat_eq z x ≡ k → occurs z v ≡ true → nat_eq z x ≡ false
     differ false e h = e

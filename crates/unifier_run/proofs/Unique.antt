@@ -1,8 +1,8 @@
 -- Each run has at most one outcome.
 use Rattle.std.proofs.Common.{ℕ, ◌≡◌, inl, inr, true, false, refl, sym, ap, ap₂, ◌∙◌, subst, subst₂, List}
-use Rattle.rewriting.specs.Prelude.{Term, var, app, Terms, nil, count, occurs}
+use Rattle.rewriting.specs.Prelude.{Term, var, app, Terms, nil, count, occurs, append}
 use Rattle.unifier_run.specs.Run.{Binding, extended, Binds, DoAllFit, DoRootsDiffer, HaveArguments, Outcome, Turn, ends, goes_on, Takes, side_too_large, equal_sides, occurs_inside}
-use Rattle.unifier_run.specs.Run.{binding, binding_too_large, roots_differ, arguments, append, Runs, no_equation, last_equation, next_equation}
+use Rattle.unifier_run.specs.Run.{binding, binding_too_large, roots_differ, arguments, Runs, no_equation, last_equation, next_equation}
 
 binds_or_arguments : (l r : Term) (x : ℕ) (v : Term) (xs ys : Terms) → Binds l r x v → HaveArguments l r xs ys → ⊥
 binds_or_arguments (var y) r x v xs ys h k = absurd k

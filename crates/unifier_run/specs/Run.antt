@@ -1,7 +1,7 @@
 -- The run of unification: equations are solved one after the other, with limits on the size of terms
 -- (after Baader and Nipkow, Term Rewriting and All That, sections 4.5 and 4.6).
 use Rattle.std.specs.Prelude.{ℕ, ◌≡◌, ◌≢◌, ◌⊎◌, true, false, nat_eq, if◌then◌else◌, List, [], ◌∷◌, ◌++◌, map}
-use Rattle.rewriting.specs.Prelude.{Term, var, app, Terms, nil, cons, count, Fits, Substitution, apply, occurs}
+use Rattle.rewriting.specs.Prelude.{Term, var, app, Terms, nil, cons, count, Fits, Substitution, apply, occurs, replacing, append}
 
 -- a variable with the term that it is bound to
 pub record Binding : Type 0 where
@@ -13,12 +13,8 @@ abbrev pub value : List Binding → Substitution
 value [] x = var x
 value (e ∷ b) x = if nat_eq x e.variable then e.term else value b x
 
--- the term v for the variable x alone
-abbrev pub only : ℕ → Term → Substitution
-only x v = λ y. if nat_eq y x then v else var y
-
 abbrev pub under : ℕ → Term → Binding → Binding
-under x v e = record { variable = e.variable; term = apply (only x v) e.term }
+under x v e = record { variable = e.variable; term = apply (replacing x v) e.term }
 
 -- a new binding is applied to all earlier bound terms
 abbrev pub extended : List Binding → ℕ → Term → List Binding
@@ -71,11 +67,6 @@ pub data Takes (b : List Binding) (l r : Term) : Turn → Type 0 where
   binding_too_large : DoFit l r → l ≢ r → (x : ℕ) (v : Term) → Binds l r x v → occurs x v ≡ false → (DoAllFit (extended b x v) → ⊥) → Takes b l r (ends too_large)
   roots_differ : DoFit l r → DoRootsDiffer l r → Takes b l r (ends clash)
   arguments : DoFit l r → l ≢ r → (xs ys : Terms) → HaveArguments l r xs ys → Takes b l r (goes_on b xs ys)
-
--- one list of terms, and behind it the other
-abbrev pub append : Terms → Terms → Terms
-append nil us = us
-append (cons t ts) us = cons t (append ts us)
 
 -- the run on the equations between the terms of two lists, from some bindings on
 pub data Runs : List Binding → Terms → Terms → Outcome → Type 0 where

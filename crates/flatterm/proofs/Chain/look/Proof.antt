@@ -6,7 +6,7 @@ use mir.Val.{Val}
 use Rattle.std.proofs.RcSteps.{Ptr-Good}
 use denote.RawPtr.{RawPtr, rawptr_Tells_one}
 use types.Kit.{split3}
-use Rattle.flatterm.specs.contracts.index.Index.{the_row as Ct}
+use Rattle.cc_count.specs.contracts.proof_count.ProofCount.{the_row as Ct}
 use lib.ListN.{length}
 use Rattle.flatterm.proofs.Steps.{[], ◌∷◌, refl, sym, ap, subst, ◌∙◌, proved, after, ftrue, flft, fst∗, never, tables, ‵, ◌⊛◌, at_ret, ◌$◌, ◌∵◌, !, qed, done, move, keep, drop}
 use Rattle.flatterm.proofs.Steps.{use1, split, join, fsplit, fjoin, rewrite, suffices, frame, enter, of_opd, load, look_raw, stop, first, blocks, exec, returns, alloc_all}

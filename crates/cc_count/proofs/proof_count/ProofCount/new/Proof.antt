@@ -1,4 +1,4 @@
--- A new index is 0: nothing in memory stands for it.
+-- A new count is 0: nothing in memory stands for it.
 use Rattle.std.proofs.Common.{[], ◌∷◌, refl}
 use Rattle.std.proofs.raw_atomic.Walks.{proved}
 use base.Fml.{ftrue}
@@ -11,10 +11,10 @@ use denote.RattleType.{owns}
 use denote.Shadow.{pure_i}
 use denote.Triple.Entry.{alive}
 use denote.Triple.Walked.{Stays, says, walk_of, ends_at}
-use Rattle.flatterm.specs.contracts.index.Index.{the_row}
-use Rattle.flatterm.specs.contracts.index.Index.new as f
-use Rattle.flatterm.proofs.index.Index.new.Statement.{statement}
-use Rattle.flatterm.proofs.index.Index.new.Code as code
+use Rattle.cc_count.specs.contracts.proof_count.ProofCount.{the_row}
+use Rattle.cc_count.specs.contracts.proof_count.ProofCount.new as f
+use Rattle.cc_count.proofs.proof_count.ProofCount.new.Statement.{statement}
+use Rattle.cc_count.proofs.proof_count.ProofCount.new.Code as code
 
 abbrev stayed : Stays f.ended.signature.params f.ended.kept
 stayed = tt
@@ -34,6 +34,6 @@ new_spec 𝓤 𝓛 𝓜 𝓡 wired =
     sets ! (agg ! (no_more !)) refl (tt, tt) $
     returns ! (look_at ! 0 refl) $ free_all ! refl $
     suffices ! _ (ends_at 𝓛 f.ended stayed c y (vstruct vnil) made tt tt) $ says ! refl $
-    -- [what the new index owns; the tokens; the parameters]
+    -- [what the new count owns; the tokens; the parameters]
     pure_i ! (the_row.own_val made (vstruct vnil ∷ [])) ((λ vss. (tt, tt)), tt) ((tt, (refl, tt)), tt) $
     move ! (1 ∷ 2 ∷ 0 ∷ []) $ done !))

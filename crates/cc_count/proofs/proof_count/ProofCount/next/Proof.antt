@@ -15,10 +15,10 @@ use denote.Shadow.{pure_i}
 use denote.Signature.{plain, types_at}
 use denote.Triple.Entry.{alive}
 use denote.Triple.Walked.{Stays, says, stay_none_ref, Goes-none_ref, walk_of, ends_at}
-use Rattle.cc_io.specs.contracts.count.CallCount.{the_row}
-use Rattle.cc_io.specs.contracts.count.CallCount.next as f
-use Rattle.cc_io.proofs.count.CallCount.next.Statement.{statement}
-use Rattle.cc_io.proofs.count.CallCount.next.Code as code
+use Rattle.cc_count.specs.contracts.proof_count.ProofCount.{the_row}
+use Rattle.cc_count.specs.contracts.proof_count.ProofCount.next as f
+use Rattle.cc_count.proofs.proof_count.ProofCount.next.Statement.{statement}
+use Rattle.cc_count.proofs.proof_count.ProofCount.next.Code as code
 
 abbrev stayed : Stays f.ended.signature.params f.ended.kept
 stayed = (stay_none_ref (0 ∷ []) tt (plain (λ _. the_row)) yes, tt)
