@@ -82,13 +82,23 @@ module _ {A B : Type 0} (Gives : A → B → Type 0) where
           short = let less = s.short in let sum = cost_append cost xs s.before in omega (arith, less, sum);
         }
 
+    -- of no items none is first
+    pub nil_first : (b : B) (n : ℕ) → IsFirst cost Gives [] b n → ⊥
+    nil_first b n f = go f.before f.split
+      where
+        go : (before : List A) → [] ≡ before ++ f.item ∷ f.behind → ⊥
+        go [] e = cc
+        go (x ∷ before) e = cc
+
+    -- the head gives it, or gives nothing and the rest does
+    abbrev pub IsFirstFrom : A → List A → B → ℕ → Type 0
+    IsFirstFrom a rest b n = (Gives a b × (n ≡ cost a)) ⊎ (GivesNothing Gives a × ((m : ℕ) × IsFirst cost Gives rest b m × (n ≡ cost a + m)))
+
     -- the first of a list is its head, or the first of the rest
-    pub first_cases : (a : A) (rest : List A) (b : B) (n : ℕ) → IsFirst cost Gives (a ∷ rest) b n
-        → (Gives a b × (n ≡ cost a)) ⊎ (GivesNothing Gives a × ((m : ℕ) × IsFirst cost Gives rest b m × (n ≡ cost a + m)))
+    pub first_cases : (a : A) (rest : List A) (b : B) (n : ℕ) → IsFirst cost Gives (a ∷ rest) b n → IsFirstFrom a rest b n
     first_cases a rest b n f = go f.before f.split f.none f.up_to
       where
-        go : (before : List A) → a ∷ rest ≡ before ++ f.item ∷ f.behind → NoneGives Gives before → n ≡ cost_of cost before + cost f.item
-            → (Gives a b × (n ≡ cost a)) ⊎ (GivesNothing Gives a × ((m : ℕ) × IsFirst cost Gives rest b m × (n ≡ cost a + m)))
+        go : (before : List A) → a ∷ rest ≡ before ++ f.item ∷ f.behind → NoneGives Gives before → n ≡ cost_of cost before + cost f.item → IsFirstFrom a rest b n
         go [] e none up = let same : f.item ≡ a = cc in inl (subst (λ z. Gives z b) same f.gives, subst (λ z. n ≡ cost z) same (omega (arith, up)))
         go (x ∷ before) e (bare, none) up =
             let same : x ≡ a = cc in
@@ -104,9 +114,7 @@ module _ {A B : Type 0} (Gives : A → B → Type 0) where
 
     -- the head of a list gives it for both, or the rest does
     heads_once : (a : A) (rest : List A) (b c : B) (n m : ℕ) → ((k l : ℕ) → IsFirst cost Gives rest b k → IsFirst cost Gives rest c l → (k ≡ l) × ((z : A) × Gives z b × Gives z c))
-        → (Gives a b × (n ≡ cost a)) ⊎ (GivesNothing Gives a × ((k : ℕ) × IsFirst cost Gives rest b k × (n ≡ cost a + k)))
-        → (Gives a c × (m ≡ cost a)) ⊎ (GivesNothing Gives a × ((k : ℕ) × IsFirst cost Gives rest c k × (m ≡ cost a + k)))
-        → (n ≡ m) × ((z : A) × Gives z b × Gives z c)
+        → IsFirstFrom a rest b n → IsFirstFrom a rest c m → (n ≡ m) × ((z : A) × Gives z b × Gives z c)
     heads_once a rest b c n m below (inl (x, d)) (inl (y, e)) = (d ∙ sym e, (a, x, y))
     heads_once a rest b c n m below (inl (x, d)) (inr (bare, (k, y, e))) = absurd (bare b x)
     heads_once a rest b c n m below (inr (bare, (k, x, d))) (inl (y, e)) = absurd (bare c y)
@@ -114,15 +122,10 @@ module _ {A B : Type 0} (Gives : A → B → Type 0) where
 
     -- what comes first comes once: at one cost, and from one item
     pub first_once : (items : List A) (b c : B) (n m : ℕ) → IsFirst cost Gives items b n → IsFirst cost Gives items c m → (n ≡ m) × ((a : A) × Gives a b × Gives a c)
-    first_once [] b c n m f g = absurd (nil_first f.before f.split)
-      where
-        nil_first : (before : List A) → [] ≡ before ++ f.item ∷ f.behind → ⊥
-        nil_first [] e = cc
-        nil_first (x ∷ before) e = cc
+    first_once [] b c n m f g = absurd (nil_first b n f)
     first_once (a ∷ rest) b c n m f g = heads_once a rest b c n m (λ k l x y. first_once rest b c k l x y) (first_cases a rest b n f) (first_cases a rest c m g)
 
-    behind_head : (x : A) (rest : List A) (b : B) (n k : ℕ) → GivesNothing Gives x → ((m : ℕ) → IsFirst cost Gives rest b m → k ≤ m)
-        → (Gives x b × (n ≡ cost x)) ⊎ (GivesNothing Gives x × ((m : ℕ) × IsFirst cost Gives rest b m × (n ≡ cost x + m))) → cost x + k ≤ n
+    behind_head : (x : A) (rest : List A) (b : B) (n k : ℕ) → GivesNothing Gives x → ((m : ℕ) → IsFirst cost Gives rest b m → k ≤ m) → IsFirstFrom x rest b n → cost x + k ≤ n
     behind_head x rest b n k bare less (inl (y, e)) = absurd (bare b y)
     behind_head x rest b n k bare less (inr (other, (m, y, e))) = let most = less m y in omega (arith, e, most)
 
@@ -130,7 +133,7 @@ module _ {A B : Type 0} (Gives : A → B → Type 0) where
     after_none : (before : List A) (a : A) (behind : List A) (b : B) (n : ℕ) → NoneGives Gives before → IsFirst cost Gives (before ++ a ∷ behind) b n → cost_of cost before + cost a ≤ n
     after_none [] a behind b n none f = go (first_cases a behind b n f)
       where
-        go : (Gives a b × (n ≡ cost a)) ⊎ (GivesNothing Gives a × ((m : ℕ) × IsFirst cost Gives behind b m × (n ≡ cost a + m))) → 0 + cost a ≤ n
+        go : IsFirstFrom a behind b n → 0 + cost a ≤ n
         go (inl (x, e)) = omega (arith, e)
         go (inr (other, (m, x, e))) = omega (arith, e)
     after_none (x ∷ before) a behind b n (bare, none) f =

@@ -1,10 +1,10 @@
 -- What a walk through a pruned tree comes to: there is one such thing, and it is the first of the list that the leaves are made of.
-use Rattle.std.proofs.Common.{ℕ, suc, ◌≡◌, ◌<◌, ◌≤◌, inl, inr, List, map, length, ap, ◌∙◌, subst, arith}
+use Rattle.std.proofs.Common.{ℕ, suc, ◌≡◌, ◌<◌, ◌≤◌, inl, inr, List, map, length, refl, sym, ap, ◌∙◌, subst, arith}
 use Rattle.std.proofs.lemmas.List.{length-map}
 use Rattle.first_found.specs.Items.{NoneGives, cost_of, IsFirst, one}
 use Rattle.first_found.specs.Trees.{leaves, IsBarrenBelow, IsFirstBelow, IsWhole, EndsOnce, StopsBelow}
 use Rattle.first_found.proofs.Items.{cost_of_ones}
-use Rattle.first_found.proofs.Lists.{none_mapped, first_mapped}
+use Rattle.first_found.proofs.Lists.{none_of_made, first_unmade}
 use Rattle.first_found.proofs.Trees.{IsFull, barren_or_first, barren_once, below_once, stops_in_barren, stops_before_first, there_below, barren_within, nothing_below, place_below}
 
 -- one thing at most is found, at one number of units, or one number shows that there is nothing; it cannot be that there is neither
@@ -50,11 +50,13 @@ module _ {P B : Type 0} (next : P → List P) (Dead : P → Type 0) (Gives : P �
     pub first_of_list : (b : B) (n : ℕ) → First b n → (k : ℕ) × IsFirst one Of xs b k × (n ≤ k)
     first_of_list b n f =
         let at = place_below next Dead Gives empty top b root n full f in
-        (at.0, first_mapped leaf Gives Of there back xs b at.0 (subst (λ z. IsFirst one Gives z b at.0) leaves_list at.1), at.2)
+        let first =
+        first_unmade leaf (λ c. c) one one Gives Of (λ a. refl) back (λ a c g. (c, there a c g, refl)) xs b at.0 (subst (λ z. IsFirst one Gives z b at.0) leaves_list at.1) in
+        (at.0, subst (λ c. IsFirst one Of xs c at.0) (sym first.2) first.1, at.2)
 
     pub none_of_list : (n : ℕ) → Barren n → NoneGives Of xs × (n ≤ length xs)
     none_of_list n h =
         let bare = nothing_below next Dead Gives empty top root n h in
         let most = barren_within next Dead Gives top root n full h in
         let units : cost_of one (leaves next top root) ≡ length xs = cost_of_ones (leaves next top root) ∙ ap (λ (z : List P). length z) leaves_list ∙ length-map xs leaf in
-        (none_mapped leaf Gives Of back xs (subst (NoneGives Gives) leaves_list bare), omega (arith, most, units))
+        (none_of_made leaf (λ c. c) one one Gives Of back xs (subst (NoneGives Gives) leaves_list bare), omega (arith, most, units))

@@ -1,5 +1,5 @@
 -- The first leaf of a tree that gives something: it is the first of the list of leaves, and the units are at most its place.
-use Rattle.std.proofs.Common.{ℕ, zero, suc, ◌≡◌, ◌+◌, ◌<◌, ◌≤◌, inl, inr, List, [], ◌∷◌, flat_map, length, refl, sym, ◌∙◌, arith}
+use Rattle.std.proofs.Common.{ℕ, zero, suc, ◌≡◌, ◌+◌, ◌<◌, ◌≤◌, inl, inr, List, [], ◌∷◌, map, flat_map, length, refl, sym, ◌∙◌, arith}
 use Rattle.first_found.specs.Items.{NoneGives, cost_of, IsFirst, one}
 use Rattle.first_found.proofs.Items.{cost_append, none_append, first_here, first_left, first_right}
 use Rattle.first_found.specs.Trees.{leaves, HaveTogether, IsOneBehind, IsBarrenBelow, IsFirstBelow, StopsBelow}
@@ -8,6 +8,11 @@ use Rattle.first_found.specs.Trees.{leaves, HaveTogether, IsOneBehind, IsBarrenB
 abbrev pub EachNode : {P : Type 0} → (P → Type 0) → List P → Type 0
 EachNode Is [] = Unit {0}
 EachNode Is (p ∷ ps) = Is p × EachNode Is ps
+
+-- where each gives a node that has the property
+pub each_mapped : {X P : Type 0} (Of : X → Type 0) (Is : P → Type 0) (node : X → P) → ((x : X) → Of x → Is (node x)) → (xs : List X) → EachNode Of xs → EachNode Is (map node xs)
+each_mapped Of Is node has [] h = tt
+each_mapped Of Is node has (x ∷ xs) (h, hs) = (has x h, each_mapped Of Is node has xs hs)
 
 -- below each inner node there is something
 abbrev pub IsFull : {P : Type 0} → (P → List P) → ℕ → P → Type 0

@@ -9,12 +9,16 @@ use Rattle.rewriting.proofs.Lists.{among_middle, among_of_map}
 use Rattle.rewriting.proofs.Members.{of_flat, distinct_append}
 use Rattle.measure_grid.specs.Grid.{choices}
 
+-- each item stands so to the list in its place
+abbrev pub StandTo : {X : Type 0} → (X → List X → Type 0) → List X → List (List X) → Type 0
+StandTo So [] [] = Unit {0}
+StandTo So [] (l ∷ ls) = ⊥
+StandTo So (x ∷ xs) [] = ⊥
+StandTo So (x ∷ xs) (l ∷ ls) = So x l × StandTo So xs ls
+
 -- one member of each list
 abbrev pub AreFrom : {X : Type 0} → List X → List (List X) → Type 0
-AreFrom [] [] = Unit {0}
-AreFrom [] (l ∷ ls) = ⊥
-AreFrom (x ∷ xs) [] = ⊥
-AreFrom (x ∷ xs) (l ∷ ls) = IsAmong x l × AreFrom xs ls
+AreFrom xs ls = StandTo (λ x l. IsAmong x l) xs ls
 
 pub choices_from : {X : Type 0} (ls : List (List X)) (c : List X) → IsAmong c (choices ls) → AreFrom c ls
 choices_from [] c (inl e) = subst (λ z. AreFrom z []) (sym e) tt
@@ -102,16 +106,10 @@ module _ {X Y : Type 0} (f : X → List Y) where
 
 -- the first of each list, the last of each
 abbrev pub AreFirsts : {X : Type 0} → List X → List (List X) → Type 0
-AreFirsts [] [] = Unit {0}
-AreFirsts [] (l ∷ ls) = ⊥
-AreFirsts (x ∷ xs) [] = ⊥
-AreFirsts (x ∷ xs) (l ∷ ls) = Begins l x × AreFirsts xs ls
+AreFirsts xs ls = StandTo (λ x l. Begins l x) xs ls
 
 abbrev pub AreLasts : {X : Type 0} → List X → List (List X) → Type 0
-AreLasts [] [] = Unit {0}
-AreLasts [] (l ∷ ls) = ⊥
-AreLasts (x ∷ xs) [] = ⊥
-AreLasts (x ∷ xs) (l ∷ ls) = Ends l x × AreLasts xs ls
+AreLasts xs ls = StandTo (λ x l. Ends l x) xs ls
 
 -- at one place the next member, the same before it, and behind it the firsts in place of the lasts
 abbrev pub Advances : {X : Type 0} → List X → List X → List (List X) → Type 0

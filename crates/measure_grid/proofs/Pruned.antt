@@ -10,7 +10,8 @@ use Rattle.measure_grid.specs.Grid.{columns, grid, GivesMeasure}
 use Rattle.measure_grid.specs.Dead.{IsDead}
 use Rattle.measure_grid.specs.Pruned.{Prefix, extended, extensions, IsDeadPrefix, PrefixGives, start, IsPrunedFirst, IsPrunedBarren, PrunedStops, IsPrunedWhole}
 use Rattle.measure_grid.proofs.Dead.{dead_more, dead_or_good}
-use Rattle.measure_grid.proofs.Grid.{node, leaf, leaves_are, columns_full}
+use Rattle.measure_grid.proofs.Grid.{node, whole, leaves_are, columns_full}
+use Rattle.first_found.proofs.Grown.{leaf}
 use Rattle.first_found.proofs.PrunedTrees.{ComesToOne, comes_to_end, tree_comes_to_one, stopped_before_whole, first_of_list, none_of_list}
 
 module _ (sys : System) where
@@ -40,16 +41,16 @@ module _ (sys : System) where
   empty : (d : ℕ) (p : Prefix) → IsDeadPrefix sys p → NoneGives Gives (leaves extensions (suc d) p)
   empty d p dead = dead_below (suc d) p dead
 
-  leaves_grid : leaves extensions (length (columns sys)) (start sys) ≡ map (leaf []) (grid sys)
+  leaves_grid : leaves extensions (length (columns sys)) (start sys) ≡ map (leaf extensions whole []) (grid sys)
   leaves_grid = leaves_are (columns sys) []
 
   pub firsts_are : (m : MeasureCertificate) (n : ℕ) → IsPrunedFirst sys m n → (k : ℕ) × IsFirst one (GivesMeasure sys) (grid sys) m k × (n ≤ k)
   firsts_are =
-      first_of_list extensions (IsDeadPrefix sys) Gives (length (columns sys)) (start sys) (leaf []) (GivesMeasure sys) (λ a b g. g) (λ a b g. g) (grid sys) leaves_grid (columns_full sys []) empty
+      first_of_list extensions (IsDeadPrefix sys) Gives (length (columns sys)) (start sys) (leaf extensions whole []) (GivesMeasure sys) (λ a b g. g) (λ a b g. g) (grid sys) leaves_grid (columns_full sys []) empty
 
   pub barren_is : (n : ℕ) → IsPrunedBarren sys n → NoneGives (GivesMeasure sys) (grid sys) × (n ≤ length (grid sys))
   barren_is =
-      none_of_list extensions (IsDeadPrefix sys) Gives (length (columns sys)) (start sys) (leaf []) (GivesMeasure sys) (λ a b g. g) (λ a b g. g) (grid sys) leaves_grid (columns_full sys []) empty
+      none_of_list extensions (IsDeadPrefix sys) Gives (length (columns sys)) (start sys) (leaf extensions whole []) (GivesMeasure sys) (λ a b g. g) (λ a b g. g) (grid sys) leaves_grid (columns_full sys []) empty
 
   pub comes_to_one : ComesToOne (IsPrunedFirst sys) (IsPrunedBarren sys)
   comes_to_one = tree_comes_to_one extensions (IsDeadPrefix sys) Gives (length (columns sys)) (start sys) (λ p m k x y. x.0 ∙ sym y.0)
