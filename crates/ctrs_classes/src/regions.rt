@@ -101,10 +101,10 @@ fn first_repeated_among(args: &[Term], next: u32) -> Result<u32, u32>
 {
     match args {
         [] => Ok(next),
-        [first, rest @ ..] => match first_repeated(first, next) {
-            Ok(after) => first_repeated_among(rest, after),
-            Err(x) => Err(x),
-        },
+        [first, rest @ ..] => {
+            let after = first_repeated(first, next)?;
+            first_repeated_among(rest, after)
+        }
     }
 }
 
