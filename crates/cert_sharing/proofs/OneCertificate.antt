@@ -1,5 +1,5 @@
 -- Bytes are the text of one certificate at most.
-use Rattle.std.proofs.Common.{◌≡◌, ◌⊎◌, inl, inr, ℕ, suc, Bool, true, false, List, [], ◌∷◌, ◌++◌, length, codes, Option, Some, None, refl, sym, ap, ◌∙◌, append_assoc, arith}
+use Rattle.std.proofs.Common.{◌≡◌, ℕ, suc, Bool, true, false, List, [], ◌∷◌, ◌++◌, length, codes, Option, Some, None, refl, sym, ap, ◌∙◌, append_assoc, arith}
 use Rattle.std.proofs.lemmas.List.{append-nil}
 use Rattle.rewriting.specs.Prelude.{Term, Position, Head, file, auxiliary}
 use Rattle.certificates.specs.Prelude.{Derivation, Automaton, InfeasibilityEvidence, by_caps, by_automaton, PairEvidence, trivial_pair, infeasible_pair, conflicting_pair, joined_pair}
@@ -8,14 +8,13 @@ use Rattle.certificates.specs.Prelude.{Peak, Simplification, dropped, inlined, C
 use Rattle.cops_names.specs.NameTable.{NameTable}
 use Rattle.cert_grammar.specs.Prelude.{name_of, Version, first_version, second_version, Uses, in_full, by_number, used_by, used_by_evidence, used_by_pairs, used_by_redexes, used_by_apart}
 use Rattle.cert_grammar.specs.Prelude.{used_by_steps, automata_of, automaton_text, IsAutomaton, IsMeasured, AreEntries, AreHeads, IsMeasure, IsWithin, IsCertificateText, Naming, shares}
-use Rattle.cert_grammar.specs.Prelude.{automaton_ends, Mark, fixed, closed, mark_text, marks_text, term_marks, derivation_marks, closing, use_marks, automaton_marks, automata_marks}
+use Rattle.cert_grammar.specs.Prelude.{automaton_ends, Mark, fixed, closed, marks_text, term_marks, derivation_marks, closing, use_marks, automaton_marks, automata_marks}
 use Rattle.cert_grammar.specs.Prelude.{infeasibility_marks, evidence_marks, pairs_marks, coefficients_marks, measured_marks, entries_marks, heads_marks, measure_marks, redexes_marks}
 use Rattle.cert_grammar.specs.Prelude.{apart_marks, simplifications_marks, body_marks, answer_marks, certificate_marks, is_among, texts_of, shared_by, number_in, uses_of, AreAutomata}
 use Rattle.cert_grammar.specs.Prelude.{HaveNames, Skeleton, states_line}
 use Rattle.cert_laws.proofs.AlikePaths.{same_marks, same_skeletons}
 use Rattle.cert_laws.proofs.SkeletonPaths.{nothing_left, automaton_path}
 use Rattle.cert_laws.proofs.SpeltWhole.{spelt_automaton}
-use Rattle.cert_laws.proofs.Spelt.{text_both}
 use Rattle.cert_laws.proofs.PassEvidence.{AllOf, all_of}
 use Rattle.cert_laws.proofs.Moves.{tail_same}
 use Rattle.cert_sharing.proofs.FirstUses.{AreAmong, place_text}
