@@ -1,24 +1,18 @@
 -- What marks each item of a stack spells, and what stacks that begin with an item are made of.
-use Rattle.std.proofs.Common.{◌≡◌, ℕ, zero, suc, ◌+◌, Bool, List, [], ◌∷◌, ◌++◌, length, codes, Option, refl, sym, ap, ◌∙◌, subst, arith}
-use Rattle.std.proofs.lemmas.List.{append-nil}
-use Rattle.rewriting.specs.Prelude.{Term, Terms, count, size, size_all, Position, Head}
-use Rattle.certificates.specs.Prelude.{Derivation, no_steps, first_step, Step, Derivations, no_derivations, first_derivation, Transition, Automaton, InfeasibilityEvidence, PairEvidence}
-use Rattle.certificates.specs.Prelude.{PairEntry, LinearEntry, MeasureCertificate, Redex, Apartness, Peak, Simplification, Certificate, derivation_count, step_count}
-use Rattle.cert_grammar.specs.Prelude.{largest, Version, first_version, second_version, Uses, in_full, by_number, HasMeasure, IsUnsimplified, IsOfVersion, Naming, numbers, steps, states}
-use Rattle.cert_grammar.specs.Prelude.{transitions, shared_automata, simplifications, automaton_ends, Demand, has_arity, in_range, is_few, shares, Mark, fixed, word, symbol, behind, closed}
-use Rattle.cert_grammar.specs.Prelude.{number, number_for, position, are_places, term_marks, arguments_marks, further_marks, steps_marks, derivations_marks, derivation_marks, closing}
-use Rattle.cert_grammar.specs.Prelude.{use_mark, automata_marks, heading_marks, heads_marks, measure_marks, simplifications_marks, state, accepting_marks, further_states_marks}
-use Rattle.cert_grammar.specs.Prelude.{states_marks, transitions_marks, automaton_marks, infeasibility_marks, evidence_marks, pairs_marks, coefficients_marks, entries_marks, redexes_marks}
-use Rattle.cert_grammar.specs.Prelude.{apart_marks, peak_marks, body_marks, certificate_marks, number_begins, place_begins, value, places, Frame, Item, opening, heading}
-use Rattle.cert_grammar.specs.Prelude.{shared_line, shared_count, automata_left, automaton_end, simplified, simplification_count, simplifications_left, body, between, any_number}
-use Rattle.cert_grammar.specs.Prelude.{any_position, pairs_from, entries_from, heads_from, redexes_from, last_line, measure, head_name, measured_name, measured_condition}
-use Rattle.cert_grammar.specs.Prelude.{coefficients_behind, coefficient, evidence, infeasibility, shared_use, states_line, state_count, accepting_line, accepting, accepted_state}
-use Rattle.cert_grammar.specs.Prelude.{transition_count, transitions_left, target, states_behind, argument_state, further_states, head_closed, derivations_left, nesting_count, steps_left}
-use Rattle.cert_grammar.specs.Prelude.{condition_count, start_line, node, name_behind, term_behind, term_closed, next_argument, symbol_end, apart, Lead, between_text, is_short, derivations}
-use Rattle.cert_grammar.specs.Prelude.{steps_of, transitions_of, simplifications_of, behind_automata, mode_of, mark_of, items_of}
-use Rattle.cert_grammar.specs.WordMarks.{numeral}
-use Rattle.cert_grammar.proofs.ScanLaws.{IsWordOf}
-use Rattle.cert_grammar.proofs.ScanWords.{number_is, place_is}
+use Rattle.cert_laws.proofs.Prelude.{◌≡◌, ℕ, zero, suc, ◌+◌, Bool, List, [], ◌∷◌, ◌++◌, length, codes, Option, refl, sym, ap, ◌∙◌, subst, arith, append-nil, Term, Terms, count, size, size_all}
+use Rattle.cert_laws.proofs.Prelude.{Position, Head, Derivation, no_steps, first_step, Step, Derivations, no_derivations, first_derivation, Transition, Automaton, InfeasibilityEvidence, PairEvidence}
+use Rattle.cert_laws.proofs.Prelude.{PairEntry, LinearEntry, MeasureCertificate, Redex, Apartness, Peak, Simplification, Certificate, derivation_count, step_count, largest, Version, first_version}
+use Rattle.cert_laws.proofs.Prelude.{second_version, Uses, in_full, by_number, HasMeasure, IsUnsimplified, IsOfVersion, Naming, numbers, steps, states, transitions, shared_automata, simplifications}
+use Rattle.cert_laws.proofs.Prelude.{automaton_ends, Demand, has_arity, in_range, is_few, shares, Mark, fixed, word, symbol, behind, closed, number, number_for, position, are_places, term_marks}
+use Rattle.cert_laws.proofs.Prelude.{arguments_marks, further_marks, steps_marks, derivations_marks, derivation_marks, closing, use_mark, automata_marks, heading_marks, heads_marks, measure_marks}
+use Rattle.cert_laws.proofs.Prelude.{simplifications_marks, state, accepting_marks, further_states_marks, states_marks, transitions_marks, automaton_marks, infeasibility_marks, evidence_marks}
+use Rattle.cert_laws.proofs.Prelude.{pairs_marks, coefficients_marks, entries_marks, redexes_marks, apart_marks, peak_marks, body_marks, certificate_marks, number_begins, place_begins, value, places}
+use Rattle.cert_laws.proofs.Prelude.{Frame, Item, opening, heading, shared_line, shared_count, automata_left, automaton_end, simplified, simplification_count, simplifications_left, body, between}
+use Rattle.cert_laws.proofs.Prelude.{any_number, any_position, pairs_from, entries_from, heads_from, redexes_from, last_line, measure, head_name, measured_name, measured_condition}
+use Rattle.cert_laws.proofs.Prelude.{coefficients_behind, coefficient, evidence, infeasibility, shared_use, states_line, state_count, accepting_line, accepting, accepted_state, transition_count}
+use Rattle.cert_laws.proofs.Prelude.{transitions_left, target, states_behind, argument_state, further_states, head_closed, derivations_left, nesting_count, steps_left, condition_count, start_line}
+use Rattle.cert_laws.proofs.Prelude.{node, name_behind, term_behind, term_closed, next_argument, symbol_end, apart, Lead, between_text, is_short, derivations, steps_of, transitions_of}
+use Rattle.cert_laws.proofs.Prelude.{simplifications_of, behind_automata, mode_of, mark_of, items_of, numeral, IsWordOf, number_is, place_is}
 
 -- automata by their numbers of states: each number is that of one
 abbrev pub every_number : Automaton → ℕ

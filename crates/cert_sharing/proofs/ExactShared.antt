@@ -1,22 +1,13 @@
 -- The reader that stops at the first refusal, shared automata judged, is exact.
-use Rattle.std.proofs.Common.{◌≡◌, ◌⊎◌, inl, inr, ℕ, zero, suc, ◌+◌, ◌*◌, ◌<◌, true, List, [], ◌∷◌, ◌++◌, length, drop, Option, Some, None, refl, sym, ap, ◌∙◌, subst, arith, append-nil}
-use Rattle.cops_names.specs.NameTable.{NameTable}
-use Rattle.cert_grammar.specs.Prelude.{CertificateCause, syntax, Mark, demands_of, verdict, Shared, nothing_shared, share_verdict, behind_mark, behind_marks}
-use Rattle.cert_grammar.specs.Prelude.{PassShares, GoesTo, Pass, marks_of, marks_text, goes_on, IsPlainlyRefused, IsRefusedShared, IsCertificateRefused, Item, opening, Lead, leads, is_there}
-use Rattle.cert_grammar.specs.Prelude.{first_there, longest, taken}
-use Rattle.cert_grammar.specs.Prelude.{mark_of, items_of, Left, refuses, behind_lead, judged, step_lead, step, Reading, accepted, refused, whole_text, SharedStep, ends, further}
-use Rattle.cert_grammar.specs.Prelude.{shared_judged, after_step, shared_step, shared_reading, read_shared, read_text}
-use Rattle.cert_laws.proofs.LeadTables.{In}
-use Rattle.cert_laws.proofs.OneRefusal.{passed_anywhere}
-use Rattle.cert_laws.proofs.Spelt.{pass_both}
-use Rattle.cert_laws.proofs.Paths.{path-append, first_sound}
-use Rattle.cert_laws.proofs.Reached.{moves_path, moves_text, moves_more}
+use Rattle.cert_sharing.proofs.Prelude.{◌≡◌, ◌⊎◌, inl, inr, ℕ, zero, suc, ◌+◌, ◌*◌, ◌<◌, true, List, [], ◌∷◌, ◌++◌, length, drop, Option, Some, None, refl, sym, ap, ◌∙◌, subst, arith, append-nil}
+use Rattle.cert_sharing.proofs.Prelude.{NameTable, CertificateCause, syntax, Mark, demands_of, verdict, Shared, nothing_shared, share_verdict, behind_mark, behind_marks, PassShares, GoesTo, Pass}
+use Rattle.cert_sharing.proofs.Prelude.{marks_of, marks_text, goes_on, IsPlainlyRefused, IsRefusedShared, IsCertificateRefused, Item, opening, Lead, leads, is_there, first_there, longest, taken}
+use Rattle.cert_sharing.proofs.Prelude.{mark_of, items_of, Left, refuses, behind_lead, judged, step_lead, step, Reading, accepted, refused, whole_text, SharedStep, ends, further, shared_judged}
+use Rattle.cert_sharing.proofs.Prelude.{after_step, shared_step, shared_reading, read_shared, read_text, In, passed_anywhere, pass_both, path-append, first_sound, moves_path, moves_text, moves_more}
+use Rattle.cert_sharing.proofs.Prelude.{skeleton_path, skeleton_of, read_of, Reached, reached_start, next_reached, lead_move, is_judged, IsMetText, IsAnswer}
 use Rattle.cert_laws.proofs.Completions.{completes}
-use Rattle.cert_laws.proofs.SkeletonPaths.{skeleton_path}
-use Rattle.cert_laws.proofs.FirstRefusals.{skeleton_of, read_of, Reached, reached_start, next_reached, lead_move, is_judged}
 use Rattle.cert_laws.proofs.StuckReaders.{refused_where_stuck, refused_behind_end}
 use Rattle.cert_laws.proofs.ExactReader.{weight, lighter}
-use Rattle.cert_sharing.specs.SharedLaws.{IsMetText, IsAnswer}
 use Rattle.cert_sharing.proofs.OneShared.{shares_anywhere}
 use Rattle.cert_sharing.proofs.UseMarks.{behind_both, pass_join}
 use Rattle.cert_sharing.proofs.Reaches.{moves_goes, no_shared, stops}

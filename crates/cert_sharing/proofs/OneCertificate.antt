@@ -1,22 +1,15 @@
 -- Bytes are the text of one certificate at most.
-use Rattle.std.proofs.Common.{◌≡◌, ℕ, suc, Bool, true, false, List, [], ◌∷◌, ◌++◌, length, codes, Option, Some, None, refl, sym, ap, ◌∙◌, append_assoc, arith}
+use Rattle.cert_sharing.proofs.Prelude.{◌≡◌, ℕ, suc, Bool, true, false, List, [], ◌∷◌, ◌++◌, length, codes, Option, Some, None, refl, sym, ap, ◌∙◌, append_assoc, arith, Term, Position, Head, file}
+use Rattle.cert_sharing.proofs.Prelude.{auxiliary, Derivation, Automaton, InfeasibilityEvidence, by_caps, by_automaton, PairEvidence, trivial_pair, infeasible_pair, conflicting_pair, joined_pair}
+use Rattle.cert_sharing.proofs.Prelude.{unfeasible_pair, PairEntry, LinearEntry, MeasureCertificate, linear_measure, precedence_measure, Redex, Apartness, by_normal_forms, by_rigid_caps, Peak}
+use Rattle.cert_sharing.proofs.Prelude.{Simplification, dropped, inlined, Certificate, ortho_certificate, quasi_certificate, peak_certificate, simplified_certificate, NameTable, name_of, Version}
+use Rattle.cert_sharing.proofs.Prelude.{first_version, second_version, Uses, in_full, by_number, used_by, used_by_evidence, used_by_pairs, used_by_redexes, used_by_apart, used_by_steps, automata_of}
+use Rattle.cert_sharing.proofs.Prelude.{automaton_text, IsAutomaton, IsMeasured, AreEntries, AreHeads, IsMeasure, IsWithin, IsCertificateText, Naming, shares, automaton_ends, Mark, fixed, closed}
+use Rattle.cert_sharing.proofs.Prelude.{marks_text, term_marks, derivation_marks, closing, use_marks, automaton_marks, automata_marks, infeasibility_marks, evidence_marks, pairs_marks}
+use Rattle.cert_sharing.proofs.Prelude.{coefficients_marks, measured_marks, entries_marks, heads_marks, measure_marks, redexes_marks, apart_marks, simplifications_marks, body_marks, answer_marks}
+use Rattle.cert_sharing.proofs.Prelude.{certificate_marks, is_among, texts_of, shared_by, number_in, uses_of, AreAutomata, HaveNames, Skeleton, states_line, same_marks, same_skeletons, nothing_left}
+use Rattle.cert_sharing.proofs.Prelude.{automaton_path, spelt_automaton, AllOf, all_of, tail_same}
 use Rattle.std.proofs.lemmas.List.{append-nil}
-use Rattle.rewriting.specs.Prelude.{Term, Position, Head, file, auxiliary}
-use Rattle.certificates.specs.Prelude.{Derivation, Automaton, InfeasibilityEvidence, by_caps, by_automaton, PairEvidence, trivial_pair, infeasible_pair, conflicting_pair, joined_pair}
-use Rattle.certificates.specs.Prelude.{unfeasible_pair, PairEntry, LinearEntry, MeasureCertificate, linear_measure, precedence_measure, Redex, Apartness, by_normal_forms, by_rigid_caps}
-use Rattle.certificates.specs.Prelude.{Peak, Simplification, dropped, inlined, Certificate, ortho_certificate, quasi_certificate, peak_certificate, simplified_certificate}
-use Rattle.cops_names.specs.NameTable.{NameTable}
-use Rattle.cert_grammar.specs.Prelude.{name_of, Version, first_version, second_version, Uses, in_full, by_number, used_by, used_by_evidence, used_by_pairs, used_by_redexes, used_by_apart}
-use Rattle.cert_grammar.specs.Prelude.{used_by_steps, automata_of, automaton_text, IsAutomaton, IsMeasured, AreEntries, AreHeads, IsMeasure, IsWithin, IsCertificateText, Naming, shares}
-use Rattle.cert_grammar.specs.Prelude.{automaton_ends, Mark, fixed, closed, marks_text, term_marks, derivation_marks, closing, use_marks, automaton_marks, automata_marks}
-use Rattle.cert_grammar.specs.Prelude.{infeasibility_marks, evidence_marks, pairs_marks, coefficients_marks, measured_marks, entries_marks, heads_marks, measure_marks, redexes_marks}
-use Rattle.cert_grammar.specs.Prelude.{apart_marks, simplifications_marks, body_marks, answer_marks, certificate_marks, is_among, texts_of, shared_by, number_in, uses_of, AreAutomata}
-use Rattle.cert_grammar.specs.Prelude.{HaveNames, Skeleton, states_line}
-use Rattle.cert_laws.proofs.AlikePaths.{same_marks, same_skeletons}
-use Rattle.cert_laws.proofs.SkeletonPaths.{nothing_left, automaton_path}
-use Rattle.cert_laws.proofs.SpeltWhole.{spelt_automaton}
-use Rattle.cert_laws.proofs.PassEvidence.{AllOf, all_of}
-use Rattle.cert_laws.proofs.Moves.{tail_same}
 use Rattle.cert_sharing.proofs.FirstUses.{AreAmong, place_text}
 use Rattle.cert_sharing.proofs.SpeltShares.{of_certificate, shared_are, shared_numbered, spelt_marks}
 use Rattle.cert_sharing.proofs.SameParts.{same_symbol, regroup, differ, clash, place_same, same_terms, same_derivation, same_automata}

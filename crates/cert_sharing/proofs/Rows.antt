@@ -1,5 +1,5 @@
 -- Worked texts are answered as they are to be.
-use Rattle.std.proofs.Common.{refl}
+use Rattle.cert_sharing.proofs.Prelude.{refl}
 use Rattle.cert_sharing.specs.SharedRows.{AreAnswered}
 
 pub all_rows : AreAnswered

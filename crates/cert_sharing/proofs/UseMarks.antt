@@ -1,20 +1,13 @@
 -- What the marks of a certificate ask of its shared automata: the numbers of its uses, in order.
-use Rattle.std.proofs.Common.{◌≡◌, ℕ, suc, ◌+◌, ◌-◌, ◌≤◌, max, Bool, true, false, cond, not, List, [], ◌∷◌, ◌++◌, length, map, codes, Option, Some, None, refl, sym}
-use Rattle.std.proofs.Common.{arith, ap, ◌∙◌, subst, append_assoc, append-nil, le-leb}
-use Rattle.std.proofs.lemmas.List.{map-append}
-use Rattle.std.proofs.lemmas.Bool.{not-true}
-use Rattle.rewriting.specs.Prelude.{Term, Position}
-use Rattle.certificates.specs.Prelude.{Derivation, Automaton}
-use Rattle.certificates.specs.Prelude.{InfeasibilityEvidence, by_caps, by_automaton, PairEvidence, trivial_pair, infeasible_pair, conflicting_pair, joined_pair, unfeasible_pair, PairEntry}
-use Rattle.certificates.specs.Prelude.{MeasureCertificate, Redex, Apartness, by_normal_forms, by_rigid_caps, Simplification, dropped}
-use Rattle.certificates.specs.Prelude.{inlined, Certificate, ortho_certificate, quasi_certificate, peak_certificate, simplified_certificate}
-use Rattle.cert_grammar.specs.Prelude.{Uses, in_full, by_number, used_by, used_by_evidence, used_by_pairs, used_by_redexes, used_by_apart, used_by_steps, automata_of, largest, Naming}
-use Rattle.cert_grammar.specs.Prelude.{Counted, limit, unfolded, CertificateCause, bad_share, automaton_begins, automaton_ends, Demand}
-use Rattle.cert_grammar.specs.Prelude.{in_range, is_few, fits_answer, shares, Mark, fixed, word, closed, mark_text, marks_text, demands_of, are_places, number, number_for}
-use Rattle.cert_grammar.specs.Prelude.{position, term_marks, derivation_marks, use_mark, accepting_marks}
-use Rattle.cert_grammar.specs.Prelude.{transitions_marks, automaton_marks, automata_marks, infeasibility_marks, evidence_marks, pairs_marks}
-use Rattle.cert_grammar.specs.Prelude.{measure_marks, redexes_marks, apart_marks, simplifications_marks, body_marks}
-use Rattle.cert_grammar.specs.Prelude.{is_among, AllNew, Shared, text_at, first_of, share_verdict, effects, behind_mark, behind_marks, PassShares}
+use Rattle.cert_sharing.proofs.Prelude.{◌≡◌, ℕ, suc, ◌+◌, ◌-◌, ◌≤◌, max, Bool, true, false, cond, not, List, [], ◌∷◌, ◌++◌, length, map, codes, Option, Some, None, refl, sym, arith, ap, ◌∙◌, subst}
+use Rattle.cert_sharing.proofs.Prelude.{append_assoc, append-nil, le-leb, map-append, not-true, Term, Position, Derivation, Automaton, InfeasibilityEvidence, by_caps, by_automaton, PairEvidence}
+use Rattle.cert_sharing.proofs.Prelude.{trivial_pair, infeasible_pair, conflicting_pair, joined_pair, unfeasible_pair, PairEntry, MeasureCertificate, Redex, Apartness, by_normal_forms, by_rigid_caps}
+use Rattle.cert_sharing.proofs.Prelude.{Simplification, dropped, inlined, Certificate, ortho_certificate, quasi_certificate, peak_certificate, simplified_certificate, Uses, in_full, by_number}
+use Rattle.cert_sharing.proofs.Prelude.{used_by, used_by_evidence, used_by_pairs, used_by_redexes, used_by_apart, used_by_steps, automata_of, largest, Naming, Counted, limit, unfolded}
+use Rattle.cert_sharing.proofs.Prelude.{CertificateCause, bad_share, automaton_begins, automaton_ends, Demand, in_range, is_few, fits_answer, shares, Mark, fixed, word, closed, mark_text, marks_text}
+use Rattle.cert_sharing.proofs.Prelude.{demands_of, are_places, number, number_for, position, term_marks, derivation_marks, use_mark, accepting_marks, transitions_marks, automaton_marks}
+use Rattle.cert_sharing.proofs.Prelude.{automata_marks, infeasibility_marks, evidence_marks, pairs_marks, measure_marks, redexes_marks, apart_marks, simplifications_marks, body_marks, is_among}
+use Rattle.cert_sharing.proofs.Prelude.{AllNew, Shared, text_at, first_of, share_verdict, effects, behind_mark, behind_marks, PassShares}
 use Rattle.cert_grammar.specs.WordMarks.{numeral}
 use Rattle.cert_laws.proofs.Asking.{AllAsk, MarksAsk, term_asks, derivation_asks, measure_asks, behind_word_ask}
 use Rattle.cert_sharing.proofs.FirstUses.{greatest}
