@@ -8,9 +8,10 @@ use Rattle.cert_sharing.proofs.Prelude.{skeleton_path, skeleton_of, read_of, Rea
 use Rattle.cert_laws.proofs.Completions.{completes}
 use Rattle.cert_laws.proofs.StuckReaders.{refused_where_stuck, refused_behind_end}
 use Rattle.cert_laws.proofs.ExactReader.{weight, lighter}
-use Rattle.cert_sharing.proofs.OneShared.{shares_anywhere}
+use Rattle.cert_sharing.proofs.OneShared.{by_shares, shares_anywhere}
 use Rattle.cert_sharing.proofs.UseMarks.{behind_both, pass_join}
-use Rattle.cert_sharing.proofs.Reaches.{moves_goes, no_shared, stops}
+use Rattle.cert_sharing.proofs.Reaches.{moves_goes, stops}
+use Rattle.cert_laws.proofs.Reached.{no_refusal}
 use Rattle.cert_sharing.proofs.Exact.{met_never, one_certificate_refusal}
 
 -- where the reader is, with what it knows of shared automata
@@ -29,8 +30,9 @@ plain : (names : NameTable) (bytes : List ℕ) (l : Left) (s : Shared) (e : Cert
 plain names bytes l s e at p q h = inr (
   h,
   λ f place (t, k).
-      no_shared p.reached.front names nothing_shared (opening ∷ []) l.items bytes l.bytes (marks_of t) k.front k.mark (f, place) (length (marks_text k.front)) p.reached.moves
-      p.passed (stops names l.at l.items l.bytes (λ m g. let both : goes_on m ≡ refuses e at = sym g ∙ q in absurd cc)) (skeleton_path t) k.goes k.passed k.refused,
+      no_refusal by_shares (λ m. verdict names 0 (demands_of m) ≡ None) (Pass names) (λ m ms v. v) p.reached.front nothing_shared (opening ∷ []) l.items bytes l.bytes (marks_of t)
+          k.front k.mark (f, place) (length (marks_text k.front)) p.reached.moves p.passed
+          (stops names l.at l.items l.bytes (λ m g. let both : goes_on m ≡ refuses e at = sym g ∙ q in absurd cc)) (skeleton_path t) k.goes k.passed k.refused,
 )
 
 -- where it accepts, the text is one in which all is met
