@@ -13,7 +13,7 @@ use Rattle.cert_laws.proofs.Prelude.{numeral, name_is}
 use Rattle.std.proofs.Common.{append-nil}
 use Rattle.rewriting.specs.Unraveling.{Head, file, auxiliary}
 use Rattle.cert_laws.proofs.Spelt.{Spells, nothing, put_bytes, put_word, put_two, put_number, put_count, put_position, put_symbol, put_arity, numeral_fits, met_first, pass_range, pass_few}
-use Rattle.cert_laws.proofs.SpeltTerms.{spelt_term, spelt_derivation, same_text}
+use Rattle.cert_laws.proofs.Spelt.{spelt_term, spelt_derivation, same_text}
 
 put_state : {names : NameTable} {ms : List Mark} {t : List ℕ} (bound q : ℕ) → bound ≤ 1000 → q < bound → Spells names ms t → Spells names (state bound q ∷ ms) (decimal q ++ t)
 put_state {names = names} bound q few lt h = put_word (numeral q) (decimal q) (in_range 0 0 bound q ∷ []) (numeral_fits q (omega arith)) (pass_range names 0 0 bound q [] (omega arith) lt refl) h
@@ -106,13 +106,10 @@ spelt_coefficients (k ∷ ks) names n few h =
     (pass_range names 0 0 (suc largest) k (is_few Counted.numbers n ∷ []) (omega arith) (omega arith) (pass_few names Counted.numbers n [] (omega arith) refl))
     (spelt_coefficients ks names (suc n) (omega arith) h.1))
 
-name_there : (names : NameTable) (f : ℕ) (name : List ℕ) → IsName names f name → name_of names f ≡ name
-name_there names f name h = ap (λ (o : Option (List ℕ)). unwrap_or o []) h.named
-
 spelt_measured : (a : Head) (names : NameTable) (n : ℕ) → n ≤ 25000 → IsMeasured names a → Spells names (measured_marks (name_of names) n a) (measured_text names a)
 spelt_measured (file f) names n few h =
     same_text (ap (λ (w : List ℕ). codes "fun " ++ w) (append-nil (name_of names f))) (put_counted (codes "fun") Counted.entries n few
-    (put_bytes (codes " ") (put_symbol f h.0 [] (name_there names f h.0 h.1) h.1.identifier h.1.found refl nothing)))
+    (put_bytes (codes " ") (put_symbol f h.0 [] (ap (λ (o : Option (List ℕ)). unwrap_or o []) h.1.named) h.1.identifier h.1.found refl nothing)))
 spelt_measured (auxiliary r c) names n few h =
     same_text (ap (λ (w : List ℕ). codes "aux " ++ (decimal r ++ (codes " " ++ w))) (append-nil (decimal c))) (put_counted (codes "aux") Counted.entries n few
     (put_bytes (codes " ") (put_number r h.0 (put_bytes (codes " ") (put_number c h.1 nothing)))))

@@ -1,18 +1,76 @@
 -- The reader that stops at the first refusal, shared automata judged, is exact.
-use Rattle.cert_sharing.proofs.Prelude.{◌≡◌, ◌⊎◌, inl, inr, ℕ, zero, suc, ◌+◌, ◌*◌, ◌<◌, true, List, [], ◌∷◌, ◌++◌, length, drop, Option, Some, None, refl, sym, ap, ◌∙◌, subst, arith, append-nil}
-use Rattle.cert_sharing.proofs.Prelude.{NameTable, CertificateCause, syntax, Mark, demands_of, verdict, Shared, nothing_shared, share_verdict, behind_mark, behind_marks, PassShares, GoesTo, Pass}
-use Rattle.cert_sharing.proofs.Prelude.{marks_of, marks_text, goes_on, IsPlainlyRefused, IsRefusedShared, IsCertificateRefused, Item, opening, Lead, leads, is_there, first_there, longest, taken}
-use Rattle.cert_sharing.proofs.Prelude.{mark_of, items_of, Left, refuses, behind_lead, judged, step_lead, step, Reading, accepted, refused, whole_text, SharedStep, ends, further, shared_judged}
-use Rattle.cert_sharing.proofs.Prelude.{after_step, shared_step, shared_reading, read_shared, read_text, In, passed_anywhere, pass_both, path-append, first_sound, moves_path, moves_text, moves_more}
-use Rattle.cert_sharing.proofs.Prelude.{skeleton_path, skeleton_of, read_of, Reached, reached_start, next_reached, lead_move, is_judged, IsMetText, IsAnswer}
+use Rattle.cert_sharing.proofs.Prelude.{◌≡◌, ◌⊎◌, inl, inr, ℕ, zero, suc, ◌+◌, ◌*◌, ◌<◌, true, List, [], ◌∷◌, ◌++◌, length, drop, Option, Some, None, refl, sym, ap, ◌∙◌, subst, arith, append-nil, NameTable, CertificateCause, syntax, Mark, demands_of, verdict, Shared, nothing_shared, share_verdict, behind_mark, behind_marks, PassShares, GoesTo, Pass, marks_of, marks_text, goes_on, IsPlainlyRefused, IsRefusedShared, IsCertificateRefused, Item, opening, Lead, leads, is_there, first_there, longest, taken, mark_of, items_of, Left, refuses, behind_lead, judged, step_lead, step, Reading, accepted, refused, whole_text, SharedStep, ends, further, shared_judged, after_step, shared_step, shared_reading, read_shared, read_text, In, passed_anywhere, pass_both, path-append, first_sound, moves_path, moves_text, moves_more, skeleton_path, skeleton_of, read_of, Reached, reached_start, next_reached, lead_move, is_judged, IsMetText, IsAnswer, append_assoc, append_cancel_left, mark_text, IsWhole, IsReached, text, check, at_once, keyword, mode_of, ends_here, closes, leads_close, Takes, Path, text_is, There, starts, starts_text, close_in, takes_along, tail_goes, head_is, only_is, tail_text, nowhere, Move, Moves, same_taken, there_first, whole_of}
 use Rattle.cert_laws.proofs.Completions.{completes}
 use Rattle.cert_laws.proofs.StuckReaders.{refused_where_stuck, refused_behind_end}
 use Rattle.cert_laws.proofs.ExactReader.{weight, lighter}
 use Rattle.cert_sharing.proofs.OneShared.{by_shares, shares_anywhere}
 use Rattle.cert_sharing.proofs.UseMarks.{behind_both, pass_join}
-use Rattle.cert_sharing.proofs.Reaches.{moves_goes, stops}
-use Rattle.cert_laws.proofs.Reached.{no_refusal}
+use Rattle.cert_laws.proofs.Reached.{no_refusal, StopsFor}
 use Rattle.cert_sharing.proofs.Exact.{met_never, one_certificate_refusal}
+use Rattle.cert_grammar.proofs.ScanLaws.{IsWordOf}
+
+-- the bytes behind a word are those behind its mark
+behind_word : (w bytes v rest : List ℕ) → bytes ≡ w ++ rest → bytes ≡ w ++ v → ends_here rest ≡ true → IsWhole v
+behind_word w bytes v rest e f h = whole_of v (ap ends_here (append_cancel_left w v rest (sym f ∙ e)) ∙ h)
+
+lead_reached : (a : Lead) (w bytes v : List ℕ) (s : List Item) (back : List Mark) → IsWordOf (mode_of a) w → closes w a ≡ true → There a w bytes
+    → bytes ≡ mark_text (mark_of a w) ++ v → Path back (items_of a w ++ s) [] → IsReached (mark_of a w) back v
+lead_reached (text bs items) w bytes v s back h c t e p = tt
+lead_reached (check demand b items) w bytes v s back h c t e p =
+    let there = starts_text b items s back (starts b items c) p in
+    (b, t.rest, there.0, sym e ∙ t.parts ∙ ap (λ (x : List ℕ). x ++ t.rest) (text_is (b ∷ []) w h), there.1)
+lead_reached (at_once demand items) w bytes v s back h c t e p = tt
+lead_reached (keyword bs demands items) w bytes v s back h c t e p = behind_word bs bytes v t.rest (t.parts ∙ ap (λ (x : List ℕ). x ++ t.rest) (text_is bs w h)) e t.ends
+lead_reached _ w bytes v s back h c t e p = behind_word w bytes v t.rest t.parts e t.ends
+
+move_reached : (i : Item) (m : Mark) (bytes v : List ℕ) (new s : List Item) (back : List Mark) → Move i m bytes v new → Path back (new ++ s) [] → IsReached m back v
+move_reached i m bytes v new s back h p =
+    let k = h.takes in
+    subst (λ (x : Mark). IsReached x back v) (sym k.mark)
+    (lead_reached k.lead k.word_of bytes v s back k.spelt (close_in k.word_of k.lead (leads i) k.among (leads_close i k.word_of)) h.there (h.text ∙ ap (λ (x : Mark). mark_text x ++ v) k.mark)
+    (subst (λ (x : List Item). Path back (x ++ s) []) k.items p))
+
+-- bytes go to each mark that was moved over
+pub moves_goes : (before : List Mark) (mark : Mark) (after back : List Mark) (s t : List Item) (bytes rest : List ℕ) → Moves (before ++ mark ∷ after) s bytes t rest
+    → Path back t [] → GoesTo ((before ++ mark ∷ after) ++ back) bytes before mark
+moves_goes [] mark after back [] t bytes rest h q = absurd h
+moves_goes [] mark after back (i ∷ s) t bytes rest h q =
+    record {
+      back = after ++ back;
+      parts = refl;
+      rest = h.1;
+      text = h.2.text;
+      reached = move_reached i mark bytes h.1 h.0 s (after ++ back) h.2
+          (path-append after back (h.0 ++ s) t [] (moves_path after (h.0 ++ s) t h.1 rest h.3) q);
+    }
+moves_goes (f ∷ before) mark after back [] t bytes rest h q = absurd h
+moves_goes (f ∷ before) mark after back (i ∷ s) t bytes rest h q =
+    let g = moves_goes before mark after back (h.0 ++ s) t h.1 rest h.3 q in
+    record {
+      back = g.back;
+      parts = ap (λ (l : List Mark). f ∷ l) g.parts;
+      rest = g.rest;
+      text = cc (append_assoc (mark_text f) (marks_text before) (mark_text mark ++ g.rest));
+      reached = g.reached;
+    }
+
+-- a reader that does not go on stops
+pub stops : (names : NameTable) (at : ℕ) (items : List Item) (left : List ℕ) → ((l : Left) → step names (record { at = at; items = items; bytes = left }) ≡ goes_on l → ⊥) → StopsFor (λ m. verdict names 0 (demands_of m) ≡ None) items left
+stops names at [] left f = tt
+stops names at (i ∷ items) left f = λ m new h t v. by (first_there (leads i) left) refl m new h t v
+  where
+    l : Left
+    l = record { at = at; items = i ∷ items; bytes = left }
+
+    by : (o : Option Lead) → first_there (leads i) left ≡ o → (m : Mark) (new : List Item) (h : Takes i m new) → There h.lead h.word_of left → verdict names 0 (demands_of m) ≡ None → ⊥
+    by None q m new h t v = let both : None ≡ Some h.lead = sym q ∙ there_first i m new left h t in absurd cc
+    by (Some a) q m new h t v =
+        let there = first_sound (leads i) a left q in
+        let move = lead_move i a left there.0 there.1 in
+        let same = same_taken i m (mark_of a (read_of a left)) new (items_of a (read_of a left)) left h move.takes t move.there in
+        let passes : verdict names at (demands_of (mark_of a (read_of a left))) ≡ None = passed_anywhere names 0 at (demands_of (mark_of a (read_of a left)))
+        (subst (λ (x : Mark). verdict names 0 (demands_of x) ≡ None) same.marks v) in
+        f (behind_lead l a items) (ap (λ (o : Option Lead). step_lead names l o i items) q ∙ ap (λ (o : Option (CertificateCause × ℕ)). judged o (behind_lead l a items)) passes)
 
 -- where the reader is, with what it knows of shared automata
 pub record At (names : NameTable) (bytes : List ℕ) (l : Left) (s : Shared) : Type 0 where

@@ -1,18 +1,190 @@
 -- Bytes are the text of one certificate at most.
-use Rattle.cert_sharing.proofs.Prelude.{◌≡◌, ℕ, suc, Bool, true, false, List, [], ◌∷◌, ◌++◌, length, codes, Option, Some, None, refl, sym, ap, ◌∙◌, append_assoc, arith, Term, Position, Head, file}
-use Rattle.cert_sharing.proofs.Prelude.{auxiliary, Derivation, Automaton, InfeasibilityEvidence, by_caps, by_automaton, PairEvidence, trivial_pair, infeasible_pair, conflicting_pair, joined_pair}
-use Rattle.cert_sharing.proofs.Prelude.{unfeasible_pair, PairEntry, LinearEntry, MeasureCertificate, linear_measure, precedence_measure, Redex, Apartness, by_normal_forms, by_rigid_caps, Peak}
-use Rattle.cert_sharing.proofs.Prelude.{Simplification, dropped, inlined, Certificate, ortho_certificate, quasi_certificate, peak_certificate, simplified_certificate, NameTable, name_of, Version}
-use Rattle.cert_sharing.proofs.Prelude.{first_version, second_version, Uses, in_full, by_number, used_by, used_by_evidence, used_by_pairs, used_by_redexes, used_by_apart, used_by_steps, automata_of}
-use Rattle.cert_sharing.proofs.Prelude.{automaton_text, IsAutomaton, IsMeasured, AreEntries, AreHeads, IsMeasure, IsWithin, IsCertificateText, Naming, shares, automaton_ends, Mark, fixed, closed}
-use Rattle.cert_sharing.proofs.Prelude.{marks_text, term_marks, derivation_marks, closing, use_marks, automaton_marks, automata_marks, infeasibility_marks, evidence_marks, pairs_marks}
-use Rattle.cert_sharing.proofs.Prelude.{coefficients_marks, measured_marks, entries_marks, heads_marks, measure_marks, redexes_marks, apart_marks, simplifications_marks, body_marks, answer_marks}
-use Rattle.cert_sharing.proofs.Prelude.{certificate_marks, is_among, texts_of, shared_by, number_in, uses_of, AreAutomata, HaveNames, Skeleton, states_line, same_marks, same_skeletons, nothing_left}
-use Rattle.cert_sharing.proofs.Prelude.{automaton_path, spelt_automaton, AllOf, all_of, tail_same}
+use Rattle.cert_sharing.proofs.Prelude.{◌≡◌, ℕ, suc, Bool, true, false, List, [], ◌∷◌, ◌++◌, length, codes, Option, Some, None, refl, sym, ap, ◌∙◌, append_assoc, arith, Term, Position, Head, file, auxiliary, Derivation, Automaton, InfeasibilityEvidence, by_caps, by_automaton, PairEvidence, trivial_pair, infeasible_pair, conflicting_pair, joined_pair, unfeasible_pair, PairEntry, LinearEntry, MeasureCertificate, linear_measure, precedence_measure, Redex, Apartness, by_normal_forms, by_rigid_caps, Peak, Simplification, dropped, inlined, Certificate, ortho_certificate, quasi_certificate, peak_certificate, simplified_certificate, NameTable, name_of, Version, first_version, second_version, Uses, in_full, by_number, used_by, used_by_evidence, used_by_pairs, used_by_redexes, used_by_apart, used_by_steps, automata_of, automaton_text, IsAutomaton, IsMeasured, AreEntries, AreHeads, IsMeasure, IsWithin, IsCertificateText, Naming, shares, automaton_ends, Mark, fixed, closed, marks_text, term_marks, derivation_marks, closing, use_marks, automaton_marks, automata_marks, infeasibility_marks, evidence_marks, pairs_marks, coefficients_marks, measured_marks, entries_marks, heads_marks, measure_marks, redexes_marks, apart_marks, simplifications_marks, body_marks, answer_marks, certificate_marks, is_among, texts_of, shared_by, number_in, uses_of, AreAutomata, HaveNames, Skeleton, states_line, same_marks, same_skeletons, nothing_left, automaton_path, spelt_automaton, AllOf, all_of, tail_same, ◌+◌, ◌==◌, cond, subst, eq-eqb, var, app, Terms, nil, cons, count, size, no_steps, first_step, Step, by_rule, by_hypothesis, Derivations, no_derivations, first_derivation, derivation_count, step_count, Transition, name_at, number_of, IsSpelt, AreSpelt, IsHead, AreTransitions, Counted, Demand, has_arity, behind, mark_text, number_for, places_text, position, places, arguments_marks, further_marks, steps_marks, step_marks, derivations_marks, state, accepting_marks, further_states_marks, states_marks, head_marks, transitions_marks}
 use Rattle.std.proofs.lemmas.List.{append-nil}
 use Rattle.cert_sharing.proofs.FirstUses.{AreAmong, place_text}
 use Rattle.cert_sharing.proofs.SpeltShares.{of_certificate, shared_are, shared_numbered, spelt_marks}
-use Rattle.cert_sharing.proofs.SameParts.{same_symbol, regroup, differ, clash, place_same, same_terms, same_derivation, same_automata}
+use Rattle.std.specs.Prelude.{unwrap_or}
+use Rattle.cert_grammar.proofs.ScanWords.{places_of_text}
+
+-- a symbol is told by its name
+pub same_symbol : (names : NameTable) (f g : ℕ) (u v : List ℕ) → name_at names f ≡ Some u → number_of names.symbols u ≡ Some f → name_at names g ≡ Some v
+    → number_of names.symbols v ≡ Some g → name_of names f ≡ name_of names g → f ≡ g
+same_symbol names f g u v a b c d e =
+    let mine : name_of names f ≡ u = ap (λ (o : Option (List ℕ)). unwrap_or o []) a in
+    let yours : name_of names g ≡ v = ap (λ (o : Option (List ℕ)). unwrap_or o []) c in
+    cc
+
+pub regroup : (a b k c d l : List Mark) → (a ++ b) ++ k ≡ (c ++ d) ++ l → a ++ (b ++ k) ≡ c ++ (d ++ l)
+regroup a b k c d l e = sym (append_assoc a b k) ∙ e ∙ append_assoc c d l
+
+-- two texts that part
+abbrev pub differ : List ℕ → List ℕ → Bool
+differ [] u = false
+differ (a ∷ t) [] = false
+differ (a ∷ t) (b ∷ u) = cond (a == b) (differ t u) true
+
+differ_self : (t : List ℕ) → differ t t ≡ false
+differ_self [] = refl
+differ_self (b ∷ t) = ap (λ (v : Bool). cond v (differ t t) true) (eq-eqb b b refl) ∙ differ_self t
+
+-- marks with other texts
+pub clash : (m n : Mark) (k l : List Mark) → differ (mark_text m) (mark_text n) ≡ true → m ∷ k ≡ n ∷ l → ⊥
+clash m n k l d e = let self = differ_self (mark_text m) in cc
+
+pub place_same : (p q : Position) → position p ≡ position q → p ≡ q
+place_same p q e = let texts : places_text p ≡ places_text q = cc in sym (places_of_text p) ∙ ap places texts ∙ places_of_text q
+
+-- ---- terms
+
+-- arguments as further ones
+arguments_further : (ts us : Terms) (x : Naming) (depth n : ℕ) (c d : Demand) (k l : List Mark) → arguments_marks x depth n ts ++ (behind c ∷ k) ≡ arguments_marks x depth n us ++ (behind d ∷ l)
+    → further_marks x depth n ts ++ (behind c ∷ k) ≡ further_marks x depth n us ++ (behind d ∷ l)
+arguments_further nil nil x depth n c d k l e = cc
+arguments_further nil (cons u us) x depth n c d k l e = absurd cc
+arguments_further (cons t ts) nil x depth n c d k l e = absurd cc
+arguments_further (cons t ts) (cons u us) x depth n c d k l e = cc
+
+mutual
+  pub same_terms : (t u : Term) (names : NameTable) (depth n : ℕ) (k l : List Mark) → IsSpelt names t → IsSpelt names u
+      → term_marks (name_of names) depth n t ++ k ≡ term_marks (name_of names) depth n u ++ l → (t ≡ u) × (k ≡ l)
+  same_terms (var a) (var b) names depth n k l h i e = (cc, cc)
+  same_terms (var a) (app g us) names depth n k l h i e = absurd cc
+  same_terms (app f ts) (var b) names depth n k l h i e = absurd cc
+  same_terms (app f ts) (app g us) names depth n k l h i e =
+      let x = name_of names in
+      let same = same_symbol names f g h.0.0 i.0.0 h.0.1.named h.0.1.found i.0.1.named i.0.1.found (cc) in
+      let rest = regroup (arguments_marks x (suc depth) (suc n) ts) (behind (has_arity (x f) (count ts)) ∷ []) k (arguments_marks x (suc depth) (suc n) us)
+      (behind (has_arity (x g) (count us)) ∷ []) l (cc) in
+      let args = same_further ts us names (suc depth) (suc n) (has_arity (x f) (count ts)) (has_arity (x g) (count us)) k l h.1 i.1
+      (arguments_further ts us x (suc depth) (suc n) (has_arity (x f) (count ts)) (has_arity (x g) (count us)) k l rest) in
+      (cc, args.1)
+
+  same_further : (ts us : Terms) (names : NameTable) (depth n : ℕ) (c d : Demand) (k l : List Mark) → AreSpelt names ts → AreSpelt names us
+      → further_marks (name_of names) depth n ts ++ (behind c ∷ k) ≡ further_marks (name_of names) depth n us ++ (behind d ∷ l) → (ts ≡ us) × (k ≡ l)
+  same_further nil nil names depth n c d k l h i e = (refl, cc)
+  same_further nil (cons u us) names depth n c d k l h i e = absurd (clash _ _ _ _ refl e)
+  same_further (cons t ts) nil names depth n c d k l h i e = absurd (clash _ _ _ _ refl e)
+  same_further (cons t ts) (cons u us) names depth n c d k l h i e =
+      let x = name_of names in
+      let rest = regroup (term_marks x depth n t) (further_marks x depth (n + size t) ts) (behind c ∷ k) (term_marks x depth n u) (further_marks x depth (n + size u) us)
+      (behind d ∷ l) (cc) in
+      let first = same_terms t u names depth n _ _ h.0 i.0 rest in
+      let others = same_further ts us names depth (n + size t) c d k l h.1 i.1 (cc) in
+      (cc, others.1)
+
+-- ---- derivations
+
+mutual
+  same_steps : (d e : Derivation) (level : ℕ) (k l : List Mark) → step_count d ≡ step_count e → steps_marks level d ++ k ≡ steps_marks level e ++ l → (d ≡ e) × (k ≡ l)
+  same_steps no_steps no_steps level k l n e = (refl, e)
+  same_steps no_steps (first_step t f) level k l n e = absurd (let q : 0 ≡ suc (step_count f) = n in omega arith)
+  same_steps (first_step s d) no_steps level k l n e = absurd (let q : suc (step_count d) ≡ 0 = n in omega arith)
+  same_steps (first_step s d) (first_step t f) level k l n e =
+      let first = same_step s t level _ _ (regroup (step_marks level s) (steps_marks level d) k (step_marks level t) (steps_marks level f) l e) in
+      let others = same_steps d f level k l (let q : suc (step_count d) ≡ suc (step_count f) = n in omega arith) first.1 in
+      (cc, others.1)
+
+  same_step : (s t : Step) (level : ℕ) (k l : List Mark) → step_marks level s ++ k ≡ step_marks level t ++ l → (s ≡ t) × (k ≡ l)
+  same_step (by_rule i p ds) (by_rule j q es) level k l e =
+      let place = place_same p q (cc) in
+      let others = same_derivations ds es (suc level) k l (cc) (cc) in
+      (cc, others.1)
+  same_step (by_rule i p ds) (by_hypothesis j q) level k l e = absurd cc
+  same_step (by_hypothesis i p) (by_rule j q es) level k l e = absurd cc
+  same_step (by_hypothesis i p) (by_hypothesis j q) level k l e = let place = place_same p q (cc) in (cc, cc)
+
+  same_derivations : (ds es : Derivations) (level : ℕ) (k l : List Mark) → derivation_count ds ≡ derivation_count es
+      → derivations_marks level ds ++ k ≡ derivations_marks level es ++ l → (ds ≡ es) × (k ≡ l)
+  same_derivations no_derivations no_derivations level k l n e = (refl, e)
+  same_derivations no_derivations (first_derivation f es) level k l n e = absurd (let q : 0 ≡ suc (derivation_count es) = n in omega arith)
+  same_derivations (first_derivation d ds) no_derivations level k l n e = absurd (let q : suc (derivation_count ds) ≡ 0 = n in omega arith)
+  same_derivations (first_derivation d ds) (first_derivation f es) level k l n e =
+      let first = same_steps d f level _ _ (cc) (regroup (steps_marks level d) (derivations_marks level ds) k (steps_marks level f) (derivations_marks level es) l (cc)) in
+      let others = same_derivations ds es level k l (let q : suc (derivation_count ds) ≡ suc (derivation_count es) = n in omega arith) first.1 in
+      (cc, others.1)
+
+pub same_derivation : (d e : Derivation) (k l : List Mark) → derivation_marks d ++ k ≡ derivation_marks e ++ l → (d ≡ e) × (k ≡ l)
+same_derivation d f k l e = same_steps d f 1 k l (cc) (cc)
+
+-- ---- automata
+
+same_accepting : (qs rs : List ℕ) (bound : ℕ) (k l : List Mark)
+    → accepting_marks bound qs ++ (fixed (codes "\ntransitions ") ∷ k) ≡ accepting_marks bound rs ++ (fixed (codes "\ntransitions ") ∷ l) → (qs ≡ rs) × (k ≡ l)
+same_accepting [] [] bound k l e = (refl, tail_same _ _ _ _ e)
+same_accepting [] (r ∷ rs) bound k l e = absurd cc
+same_accepting (q ∷ qs) [] bound k l e = absurd cc
+same_accepting (q ∷ qs) (r ∷ rs) bound k l e = let others = same_accepting qs rs bound k l (cc) in (cc, others.1)
+
+same_further_states : (qs rs : List ℕ) (bound : ℕ) (k l : List Mark) → further_states_marks bound qs ++ k ≡ further_states_marks bound rs ++ l → (qs ≡ rs) × (k ≡ l)
+same_further_states [] [] bound k l e = (refl, tail_same _ _ _ _ e)
+same_further_states [] (r ∷ rs) bound k l e = absurd (clash _ _ _ _ refl e)
+same_further_states (q ∷ qs) [] bound k l e = absurd (clash _ _ _ _ refl e)
+same_further_states (q ∷ qs) (r ∷ rs) bound k l e = let others = same_further_states qs rs bound k l (cc) in (cc, others.1)
+
+states_further : (qs rs : List ℕ) (bound : ℕ) (c d : Demand) (k l : List Mark) → states_marks bound qs ++ (behind c ∷ k) ≡ states_marks bound rs ++ (behind d ∷ l)
+    → further_states_marks bound qs ++ (behind c ∷ k) ≡ further_states_marks bound rs ++ (behind d ∷ l)
+states_further [] [] bound c d k l e = cc
+states_further [] (r ∷ rs) bound c d k l e = absurd cc
+states_further (q ∷ qs) [] bound c d k l e = absurd cc
+states_further (q ∷ qs) (r ∷ rs) bound c d k l e = cc
+
+-- a head with its states, and what is behind it
+record SameHead (f g : Option ℕ) (qs rs : List ℕ) (k l : List Mark) : Type 0 where
+  symbols : f ≡ g
+  states : qs ≡ rs
+  rest : k ≡ l
+
+same_head : (f g : Option ℕ) (names : NameTable) (bound : ℕ) (qs rs : List ℕ) (k l : List Mark) → IsHead names f qs → IsHead names g rs
+    → head_marks (name_of names) bound f qs ++ k ≡ head_marks (name_of names) bound g rs ++ l → SameHead f g qs rs k l
+same_head None None names bound qs rs k l h i e = record { symbols = refl; states = h ∙ sym i; rest = cc }
+same_head None (Some g) names bound qs rs k l h i e = absurd cc
+same_head (Some f) None names bound qs rs k l h i e = absurd cc
+same_head (Some f) (Some g) names bound qs rs k l h i e =
+    let x = name_of names in
+    let same = same_symbol names f g h.0 i.0 h.1.named h.1.found i.1.named i.1.found (cc) in
+    let rest = regroup (states_marks bound qs) (behind (has_arity (x f) (length qs)) ∷ []) k (states_marks bound rs) (behind (has_arity (x g) (length rs)) ∷ []) l (cc) in
+    let states = same_further_states qs rs bound _ _ (states_further qs rs bound (has_arity (x f) (length qs)) (has_arity (x g) (length rs)) k l rest) in
+    record { symbols = ap Some same; states = states.0; rest = cc }
+
+abbrev target_line : ℕ → Transition → List Mark
+target_line bound t = fixed (codes " ") ∷ state bound t.target ∷ fixed (codes "\n") ∷ []
+
+same_transition : {s t : Option ℕ} {qs rs : List ℕ} {m n : ℕ} → s ≡ t → qs ≡ rs → m ≡ n
+    → ◌≡◌ {A = Transition} (record { symbol = s; arguments = qs; target = m }) (record { symbol = t; arguments = rs; target = n })
+same_transition a b c = cc
+
+same_transitions : (ts us : List Transition) (names : NameTable) (bound : ℕ) (k l : List Mark) → AreTransitions names bound ts → AreTransitions names bound us
+    → length ts ≡ length us → transitions_marks (name_of names) bound ts ++ k ≡ transitions_marks (name_of names) bound us ++ l → (ts ≡ us) × (k ≡ l)
+same_transitions [] [] names bound k l h i n e = (refl, e)
+same_transitions [] (u ∷ us) names bound k l h i n e = absurd (let q : 0 ≡ suc (length us) = n in omega arith)
+same_transitions (t ∷ ts) [] names bound k l h i n e = absurd (let q : suc (length ts) ≡ 0 = n in omega arith)
+same_transitions (t ∷ ts) (u ∷ us) names bound k l h i n e =
+    let x = name_of names in
+    let lines = regroup (head_marks x bound t.symbol t.arguments ++ target_line bound t) (transitions_marks x bound ts) k
+    (head_marks x bound u.symbol u.arguments ++ target_line bound u) (transitions_marks x bound us) l e in
+    let heads = same_head t.symbol u.symbol names bound t.arguments u.arguments _ _ h.0 i.0
+    (regroup (head_marks x bound t.symbol t.arguments) (target_line bound t) _ (head_marks x bound u.symbol u.arguments) (target_line bound u) _ lines) in
+    let others = same_transitions ts us names bound k l h.3 i.3 (let q : suc (length ts) ≡ suc (length us) = n in omega arith) (cc) in
+    let target : t.target ≡ u.target = cc in
+    let first : t ≡ u = same_transition heads.symbols heads.states target in
+    (cc, others.1)
+
+same_fields : {m n : ℕ} {qs rs : List ℕ} {ts us : List Transition} → m ≡ n → qs ≡ rs → ts ≡ us
+    → ◌≡◌ {A = Automaton} (record { states = m; accepting = qs; transitions = ts }) (record { states = n; accepting = rs; transitions = us })
+same_fields a b c = cc
+
+pub same_automata : (a b : Automaton) (names : NameTable) (k l : List Mark) → IsAutomaton names a → IsAutomaton names b
+    → automaton_marks (name_of names) a ++ k ≡ automaton_marks (name_of names) b ++ l → (a ≡ b) × (k ≡ l)
+same_automata a b names k l h i e =
+    let x = name_of names in
+    let mine = fixed (codes "\ntransitions ") ∷ number_for Counted.transitions (length a.transitions) ∷ fixed (codes "\n") ∷ transitions_marks x a.states a.transitions in
+    let yours = fixed (codes "\ntransitions ") ∷ number_for Counted.transitions (length b.transitions) ∷ fixed (codes "\n") ∷ transitions_marks x b.states b.transitions in
+    let bounds : a.states ≡ b.states = cc in
+    let parts = regroup (accepting_marks a.states a.accepting) mine k (accepting_marks b.states b.accepting) yours l (cc) in
+    let accepted = same_accepting a.accepting b.accepting a.states (number_for Counted.transitions (length a.transitions) ∷ fixed (codes "\n") ∷ (transitions_marks x a.states a.transitions ++ k))
+    (number_for Counted.transitions (length b.transitions) ∷ fixed (codes "\n") ∷ (transitions_marks x b.states b.transitions ++ l)) (cc) in
+    let trans = same_transitions a.transitions b.transitions names a.states k l h.transitions (subst (λ (n : ℕ). AreTransitions names n b.transitions) (sym bounds) i.transitions) (cc) (cc) in
+    (same_fields bounds accepted.0 trans.0, trans.1)
 
 -- ---- parts that use automata
 
@@ -187,25 +359,25 @@ same_apart (by_normal_forms rs) by_rigid_caps names u w P Q s h i e = absurd (cl
 same_apart by_rigid_caps (by_normal_forms ss) names u w P Q s h i e = absurd (clash _ _ _ _ refl e)
 same_apart by_rigid_caps by_rigid_caps names u w P Q s h i e = refl
 
-same_steps : (ss ts : List Simplification) (names : NameTable) (u w : Uses) (P Q : Automaton → Type 0) (k l : List Mark) → SameUses names u w P Q → length ss ≡ length ts
+same_simplifications : (ss ts : List Simplification) (names : NameTable) (u w : Uses) (P Q : Automaton → Type 0) (k l : List Mark) → SameUses names u w P Q → length ss ≡ length ts
     → AllOf P (used_by_steps ss) → AllOf Q (used_by_steps ts)
     → simplifications_marks (name_of names) u ss ++ k ≡ simplifications_marks (name_of names) w ts ++ l → (ss ≡ ts) × (k ≡ l)
-same_steps [] [] names u w P Q k l s n h i e = (refl, e)
-same_steps [] (t ∷ ts) names u w P Q k l s n h i e = absurd (let q : 0 ≡ suc (length ts) = n in omega arith)
-same_steps (t ∷ ss) [] names u w P Q k l s n h i e = absurd (let q : suc (length ss) ≡ 0 = n in omega arith)
-same_steps (dropped r a ∷ ss) (dropped q b ∷ ts) names u w P Q k l s n h i e =
+same_simplifications [] [] names u w P Q k l s n h i e = (refl, e)
+same_simplifications [] (t ∷ ts) names u w P Q k l s n h i e = absurd (let q : 0 ≡ suc (length ts) = n in omega arith)
+same_simplifications (t ∷ ss) [] names u w P Q k l s n h i e = absurd (let q : suc (length ss) ≡ 0 = n in omega arith)
+same_simplifications (dropped r a ∷ ss) (dropped q b ∷ ts) names u w P Q k l s n h i e =
     let x = name_of names in
     let mine = all_of P (used_by a) (used_by_steps ss) h in
     let yours = all_of Q (used_by b) (used_by_steps ts) i in
     let shown = same_infeasibility a b names u w P Q _ _ s mine.0 yours.0 (regroup (infeasibility_marks x u a) (simplifications_marks x u ss) k (infeasibility_marks x w b)
     (simplifications_marks x w ts) l (cc)) in
-    let others = same_steps ss ts names u w P Q k l s (let q : suc (length ss) ≡ suc (length ts) = n in omega arith) mine.1 yours.1 shown.1 in
+    let others = same_simplifications ss ts names u w P Q k l s (let q : suc (length ss) ≡ suc (length ts) = n in omega arith) mine.1 yours.1 shown.1 in
     (cc, others.1)
-same_steps (inlined r j ∷ ss) (inlined q m ∷ ts) names u w P Q k l s n h i e =
-    let others = same_steps ss ts names u w P Q k l s (let q : suc (length ss) ≡ suc (length ts) = n in omega arith) h i (cc) in
+same_simplifications (inlined r j ∷ ss) (inlined q m ∷ ts) names u w P Q k l s n h i e =
+    let others = same_simplifications ss ts names u w P Q k l s (let q : suc (length ss) ≡ suc (length ts) = n in omega arith) h i (cc) in
     (cc, others.1)
-same_steps (dropped r a ∷ ss) (inlined q m ∷ ts) names u w P Q k l s n h i e = absurd (clash _ _ _ _ refl e)
-same_steps (inlined r j ∷ ss) (dropped q b ∷ ts) names u w P Q k l s n h i e = absurd (clash _ _ _ _ refl e)
+same_simplifications (dropped r a ∷ ss) (inlined q m ∷ ts) names u w P Q k l s n h i e = absurd (clash _ _ _ _ refl e)
+same_simplifications (inlined r j ∷ ss) (dropped q b ∷ ts) names u w P Q k l s n h i e = absurd (clash _ _ _ _ refl e)
 
 same_peak : {t u : Term} {a b c d : Derivation} {v w : Apartness} → t ≡ u → a ≡ b → c ≡ d → v ≡ w
     → ◌≡◌ {A = Peak} (record { start = t; first = a; second = c; apart = v }) (record { start = u; first = b; second = d; apart = w })
@@ -233,7 +405,7 @@ same_bodies (simplified_certificate ss c) (simplified_certificate ts d) names u 
     let x = name_of names in
     let mine = all_of P (used_by_steps ss) (automata_of c) h in
     let yours = all_of Q (used_by_steps ts) (automata_of d) i in
-    let steps = same_steps ss ts names u w P Q _ _ s (cc) mine.0 yours.0 (regroup (simplifications_marks x u ss) (body_marks x u given c) closing (simplifications_marks x w ts)
+    let steps = same_simplifications ss ts names u w P Q _ _ s (cc) mine.0 yours.0 (regroup (simplifications_marks x u ss) (body_marks x u given c) closing (simplifications_marks x w ts)
     (body_marks x w given d) closing (cc)) in
     let bodies = same_bodies c d names u w P Q given s a.3 b.3 mine.1 yours.1 steps.1 in
     cc

@@ -11,6 +11,7 @@ use Rattle.cert_sharing.proofs.Prelude.{AllNew, Shared, text_at, first_of, share
 use Rattle.cert_grammar.specs.WordMarks.{numeral}
 use Rattle.cert_laws.proofs.Asking.{AllAsk, MarksAsk, term_asks, derivation_asks, measure_asks, behind_word_ask}
 use Rattle.cert_sharing.proofs.FirstUses.{greatest}
+use Rattle.cert_laws.proofs.PassWhole.{pair_front, redex_front, steps_front}
 
 abbrev pub state : List (List ℕ) → List ℕ → ℕ → ℕ → Shared
 state ts b u w = record { texts = ts; begun = b; used = u; unfolds_to = w }
@@ -280,15 +281,13 @@ counts_front front ms ns h k = counts_both front ms [] ns (counts_still front h)
 pub counts_pairs : (ps : List PairEntry) (x : Naming) (u : Uses) (n : ℕ) → Counts (pairs_marks x u n ps) (numbers_of u (used_by_pairs ps))
 counts_pairs [] x u n = no_numbers u [] tt
 counts_pairs (p ∷ ps) x u n =
-    counts_front (word (codes "pair") (is_few Counted.pairs n ∷ []) ∷ fixed (codes " ") ∷ number p.inner ∷ fixed (codes " ") ∷ position p.position ∷ fixed (codes " ")
-    ∷ number p.outer ∷ fixed (codes " ") ∷ []) _ _ (tt, (tt, (tt, (tt, (places_still p.position 0, (tt, (tt, (tt, tt))))))))
+    counts_front (pair_front n p) _ _ (tt, (tt, (tt, (tt, (places_still p.position 0, (tt, (tt, (tt, tt))))))))
     (counts_mapped u (used_by_evidence p.evidence) (used_by_pairs ps) (evidence_marks x u p.evidence) (pairs_marks x u (suc n) ps) (counts_evidence p.evidence x u) (counts_pairs ps x u (suc n)))
 
 pub counts_redexes : (rs : List Redex) (x : Naming) (u : Uses) (n : ℕ) → Counts (redexes_marks x u n rs) (numbers_of u (used_by_redexes rs))
 counts_redexes [] x u n = no_numbers u [] tt
 counts_redexes (r ∷ rs) x u n =
-    counts_front (word (codes "redex") (is_few Counted.redexes n ∷ []) ∷ fixed (codes " ") ∷ number r.which ∷ fixed (codes " ") ∷ position r.position ∷ fixed (codes " ")
-    ∷ number r.rule ∷ fixed (codes " ") ∷ []) _ _ (tt, (tt, (tt, (tt, (places_still r.position 0, (tt, (tt, (tt, tt))))))))
+    counts_front (redex_front n r) _ _ (tt, (tt, (tt, (tt, (places_still r.position 0, (tt, (tt, (tt, tt))))))))
     (counts_mapped u (used_by r.evidence) (used_by_redexes rs) (infeasibility_marks x u r.evidence) (redexes_marks x u (suc n) rs) (counts_infeasibility r.evidence x u)
     (counts_redexes rs x u (suc n)))
 
@@ -313,6 +312,5 @@ counts_body (peak_certificate p) x u given =
     (counts_front (term_marks x 1 1 p.start) _ _ (term_still p.start x 1 1) (counts_put _ _ _ tt
     (counts_front (derivation_marks p.first) _ _ (derivation_still p.first) (counts_front (derivation_marks p.second) _ _ (derivation_still p.second) (counts_apart p.apart x u)))))
 counts_body (simplified_certificate ss c) x u given =
-    counts_front (fixed (codes "simplify ") ∷ word (numeral (length ss)) (in_range 0 1 (suc largest) (length ss) ∷ is_few Counted.simplifications (length ss) ∷ []) ∷ fixed
-    (codes "\n") ∷ []) _ _ (tt, (tt, (tt, tt)))
+    counts_front (steps_front (length ss)) _ _ (tt, (tt, (tt, tt)))
     (counts_mapped u (used_by_steps ss) (automata_of c) (simplifications_marks x u ss) (body_marks x u given c) (counts_steps ss x u) (counts_body c x u given))
