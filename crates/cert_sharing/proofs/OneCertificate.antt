@@ -149,10 +149,6 @@ same_head (Some f) (Some g) names bound qs rs k l h i e =
 abbrev target_line : ℕ → Transition → List Mark
 target_line bound t = fixed (codes " ") ∷ state bound t.target ∷ fixed (codes "\n") ∷ []
 
-same_transition : {s t : Option ℕ} {qs rs : List ℕ} {m n : ℕ} → s ≡ t → qs ≡ rs → m ≡ n
-    → ◌≡◌ {A = Transition} (record { symbol = s; arguments = qs; target = m }) (record { symbol = t; arguments = rs; target = n })
-same_transition a b c = cc
-
 same_transitions : (ts us : List Transition) (names : NameTable) (bound : ℕ) (k l : List Mark) → AreTransitions names bound ts → AreTransitions names bound us
     → length ts ≡ length us → transitions_marks (name_of names) bound ts ++ k ≡ transitions_marks (name_of names) bound us ++ l → (ts ≡ us) × (k ≡ l)
 same_transitions [] [] names bound k l h i n e = (refl, e)
@@ -166,12 +162,9 @@ same_transitions (t ∷ ts) (u ∷ us) names bound k l h i n e =
     (regroup (head_marks x bound t.symbol t.arguments) (target_line bound t) _ (head_marks x bound u.symbol u.arguments) (target_line bound u) _ lines) in
     let others = same_transitions ts us names bound k l h.3 i.3 (let q : suc (length ts) ≡ suc (length us) = n in omega arith) (cc) in
     let target : t.target ≡ u.target = cc in
-    let first : t ≡ u = same_transition heads.symbols heads.states target in
+    let first : ◌≡◌ {A = Transition} (record { symbol = t.symbol; arguments = t.arguments; target = t.target })
+        (record { symbol = u.symbol; arguments = u.arguments; target = u.target }) = cc (heads.symbols, heads.states) in
     (cc, others.1)
-
-same_fields : {m n : ℕ} {qs rs : List ℕ} {ts us : List Transition} → m ≡ n → qs ≡ rs → ts ≡ us
-    → ◌≡◌ {A = Automaton} (record { states = m; accepting = qs; transitions = ts }) (record { states = n; accepting = rs; transitions = us })
-same_fields a b c = cc
 
 pub same_automata : (a b : Automaton) (names : NameTable) (k l : List Mark) → IsAutomaton names a → IsAutomaton names b
     → automaton_marks (name_of names) a ++ k ≡ automaton_marks (name_of names) b ++ l → (a ≡ b) × (k ≡ l)
@@ -184,7 +177,9 @@ same_automata a b names k l h i e =
     let accepted = same_accepting a.accepting b.accepting a.states (number_for Counted.transitions (length a.transitions) ∷ fixed (codes "\n") ∷ (transitions_marks x a.states a.transitions ++ k))
     (number_for Counted.transitions (length b.transitions) ∷ fixed (codes "\n") ∷ (transitions_marks x b.states b.transitions ++ l)) (cc) in
     let trans = same_transitions a.transitions b.transitions names a.states k l h.transitions (subst (λ (n : ℕ). AreTransitions names n b.transitions) (sym bounds) i.transitions) (cc) (cc) in
-    (same_fields bounds accepted.0 trans.0, trans.1)
+    let same : ◌≡◌ {A = Automaton} (record { states = a.states; accepting = a.accepting; transitions = a.transitions })
+        (record { states = b.states; accepting = b.accepting; transitions = b.transitions }) = cc (bounds, accepted.0, trans.0) in
+    (same, trans.1)
 
 -- ---- parts that use automata
 
@@ -223,14 +218,6 @@ same_evidence (infeasible_pair by_caps) _ names u w P Q k l s h i e = absurd (cl
 same_evidence _ (infeasible_pair by_caps) names u w P Q k l s h i e = absurd (clash _ _ _ _ refl e)
 same_evidence _ _ names u w P Q k l s h i e = absurd (clash _ _ _ _ refl e)
 
-same_pair : {a b c d : ℕ} {p q : Position} {e f : PairEvidence} → a ≡ b → p ≡ q → c ≡ d → e ≡ f
-    → ◌≡◌ {A = PairEntry} (record { inner = a; position = p; outer = c; evidence = e }) (record { inner = b; position = q; outer = d; evidence = f })
-same_pair inner place outer shown = cc
-
-same_redex : {a b c d : ℕ} {p q : Position} {e f : InfeasibilityEvidence} → a ≡ b → p ≡ q → c ≡ d → e ≡ f
-    → ◌≡◌ {A = Redex} (record { which = a; position = p; rule = c; evidence = e }) (record { which = b; position = q; rule = d; evidence = f })
-same_redex which place rule shown = cc
-
 same_pairs : (ps qs : List PairEntry) (names : NameTable) (u w : Uses) (P Q : Automaton → Type 0) (n : ℕ) → SameUses names u w P Q → AllOf P (used_by_pairs ps)
     → AllOf Q (used_by_pairs qs) → pairs_marks (name_of names) u n ps ++ closing ≡ pairs_marks (name_of names) w n qs ++ closing → ps ≡ qs
 same_pairs [] [] names u w P Q n s h i e = refl
@@ -246,7 +233,8 @@ same_pairs (p ∷ ps) (q ∷ qs) names u w P Q n s h i e =
     let shown = same_evidence p.evidence q.evidence names u w P Q _ _ s mine.0 yours.0
     (regroup (evidence_marks x u p.evidence) (pairs_marks x u (suc n) ps) closing (evidence_marks x w q.evidence) (pairs_marks x w (suc n) qs) closing (cc)) in
     let others = same_pairs ps qs names u w P Q (suc n) s mine.1 yours.1 shown.1 in
-    let first : p ≡ q = same_pair inner place outer shown.0 in
+    let first : ◌≡◌ {A = PairEntry} (record { inner = p.inner; position = p.position; outer = p.outer; evidence = p.evidence })
+        (record { inner = q.inner; position = q.position; outer = q.outer; evidence = q.evidence }) = cc (shown.0) in
     cc
 
 same_redexes : (ps qs : List Redex) (names : NameTable) (u w : Uses) (P Q : Automaton → Type 0) (n : ℕ) → SameUses names u w P Q → AllOf P (used_by_redexes ps)
@@ -264,7 +252,8 @@ same_redexes (p ∷ ps) (q ∷ qs) names u w P Q n s h i e =
     let shown = same_infeasibility p.evidence q.evidence names u w P Q _ _ s mine.0 yours.0 (regroup (infeasibility_marks x u p.evidence) (redexes_marks x u (suc n) ps) closing
     (infeasibility_marks x w q.evidence) (redexes_marks x w (suc n) qs) closing (cc)) in
     let others = same_redexes ps qs names u w P Q (suc n) s mine.1 yours.1 shown.1 in
-    let first : p ≡ q = same_redex which place rule shown.0 in
+    let first : ◌≡◌ {A = Redex} (record { which = p.which; position = p.position; rule = p.rule; evidence = p.evidence })
+        (record { which = q.which; position = q.position; rule = q.rule; evidence = q.evidence }) = cc (shown.0) in
     cc
 
 -- ---- measures
@@ -303,9 +292,6 @@ flat a b c k = rw (append_assoc, append_assoc, append_assoc)
 flat_line : (a c k : List Mark) → ((a ++ line_end) ++ c) ++ k ≡ a ++ (fixed (codes "\n") ∷ (c ++ k))
 flat_line a c k = rw (append_assoc, append_assoc)
 
-same_entry : {a b : Head} {js ks : List ℕ} → a ≡ b → js ≡ ks → ◌≡◌ {A = LinearEntry} (record { head = a; coefficients = js }) (record { head = b; coefficients = ks })
-same_entry first numbers = cc
-
 same_entries : (ds es : List LinearEntry) (names : NameTable) (u w : Uses) (n : ℕ) (ps qs : List PairEntry) → AreEntries names ds → AreEntries names es
     → entries_marks (name_of names) n ds ++ (pairs_marks (name_of names) u 1 ps ++ closing) ≡ entries_marks (name_of names) n es ++ (pairs_marks (name_of names) w 1 qs ++ closing)
     → (ds ≡ es) × (pairs_marks (name_of names) u 1 ps ++ closing ≡ pairs_marks (name_of names) w 1 qs ++ closing)
@@ -323,7 +309,7 @@ same_entries (d ∷ ds) (c ∷ es) names u w n ps qs h i e =
     let first = same_measured d.head c.head names n _ _ h.0 i.0 (sym mine ∙ e ∙ yours) in
     let numbers = same_coefficients d.coefficients c.coefficients 1 _ _ first.1 in
     let others = same_entries ds es names u w (suc n) ps qs h.3 i.3 numbers.1 in
-    let entry : d ≡ c = same_entry first.0 numbers.0 in
+    let entry : ◌≡◌ {A = LinearEntry} (record { head = d.head; coefficients = d.coefficients }) (record { head = c.head; coefficients = c.coefficients }) = cc (first.0, numbers.0) in
     (cc, others.1)
 
 same_heads : (ds es : List Head) (names : NameTable) (u w : Uses) (n : ℕ) (ps qs : List PairEntry) → AreHeads names ds → AreHeads names es
@@ -379,10 +365,6 @@ same_simplifications (inlined r j ∷ ss) (inlined q m ∷ ts) names u w P Q k l
 same_simplifications (dropped r a ∷ ss) (inlined q m ∷ ts) names u w P Q k l s n h i e = absurd (clash _ _ _ _ refl e)
 same_simplifications (inlined r j ∷ ss) (dropped q b ∷ ts) names u w P Q k l s n h i e = absurd (clash _ _ _ _ refl e)
 
-same_peak : {t u : Term} {a b c d : Derivation} {v w : Apartness} → t ≡ u → a ≡ b → c ≡ d → v ≡ w
-    → ◌≡◌ {A = Peak} (record { start = t; first = a; second = c; apart = v }) (record { start = u; first = b; second = d; apart = w })
-same_peak start first second apart = cc
-
 same_bodies : (c d : Certificate) (names : NameTable) (u w : Uses) (P Q : Automaton → Type 0) (given : Option Bool) → SameUses names u w P Q → IsWithin names c → IsWithin names d
     → AllOf P (automata_of c) → AllOf Q (automata_of d) → body_marks (name_of names) u given c ++ closing ≡ body_marks (name_of names) w given d ++ closing → c ≡ d
 same_bodies (ortho_certificate ps) (ortho_certificate qs) names u w P Q given s a b h i e = ap ortho_certificate (same_pairs ps qs names u w P Q 1 s h i (tail_same _ _ _ _ (tail_same _ _ _ _ e)))
@@ -400,7 +382,10 @@ same_bodies (peak_certificate p) (peak_certificate q) names u w P Q given s a b 
     let first = same_derivation p.first q.first _ _ (regroup (derivation_marks p.first) (derivation_marks p.second ++ apart_marks x u p.apart) closing (derivation_marks q.first)
     (derivation_marks q.second ++ apart_marks x w q.apart) closing (cc)) in
     let second = same_derivation p.second q.second _ _ (regroup (derivation_marks p.second) (apart_marks x u p.apart) closing (derivation_marks q.second) (apart_marks x w q.apart) closing first.1) in
-    ap peak_certificate (same_peak start.0 first.0 second.0 (same_apart p.apart q.apart names u w P Q s h i second.1))
+    let apart = same_apart p.apart q.apart names u w P Q s h i second.1 in
+    let peak : ◌≡◌ {A = Peak} (record { start = p.start; first = p.first; second = p.second; apart = p.apart })
+        (record { start = q.start; first = q.first; second = q.second; apart = q.apart }) = cc (start.0, first.0, second.0, apart) in
+    ap peak_certificate peak
 same_bodies (simplified_certificate ss c) (simplified_certificate ts d) names u w P Q given s a b h i e =
     let x = name_of names in
     let mine = all_of P (used_by_steps ss) (automata_of c) h in
