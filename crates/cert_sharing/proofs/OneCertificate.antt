@@ -2,7 +2,8 @@
 use Rattle.cert_sharing.proofs.Prelude.{◌≡◌, ℕ, suc, Bool, true, false, List, [], ◌∷◌, ◌++◌, length, codes, Option, Some, None, refl, sym, ap, ◌∙◌, append_assoc, arith, Term, Position, Head, file, auxiliary, Derivation, Automaton, InfeasibilityEvidence, by_caps, by_automaton, PairEvidence, trivial_pair, infeasible_pair, conflicting_pair, joined_pair, unfeasible_pair, PairEntry, LinearEntry, MeasureCertificate, linear_measure, precedence_measure, Redex, Apartness, by_normal_forms, by_rigid_caps, Peak, Simplification, dropped, inlined, Certificate, ortho_certificate, quasi_certificate, peak_certificate, simplified_certificate, NameTable, name_of, Version, first_version, second_version, Uses, in_full, by_number, used_by, used_by_evidence, used_by_pairs, used_by_redexes, used_by_apart, used_by_steps, automata_of, automaton_text, IsAutomaton, IsMeasured, AreEntries, AreHeads, IsMeasure, IsWithin, IsCertificateText, Naming, shares, automaton_ends, Mark, fixed, closed, marks_text, term_marks, derivation_marks, closing, use_marks, automaton_marks, automata_marks, infeasibility_marks, evidence_marks, pairs_marks, coefficients_marks, measured_marks, entries_marks, heads_marks, measure_marks, redexes_marks, apart_marks, simplifications_marks, body_marks, answer_marks, certificate_marks, is_among, texts_of, shared_by, number_in, uses_of, AreAutomata, HaveNames, Skeleton, states_line, same_marks, same_skeletons, nothing_left, automaton_path, spelt_automaton, AllOf, all_of, tail_same, ◌+◌, ◌==◌, cond, subst, eq-eqb, var, app, Terms, nil, cons, count, size, no_steps, first_step, Step, by_rule, by_hypothesis, Derivations, no_derivations, first_derivation, derivation_count, step_count, Transition, name_at, number_of, IsSpelt, AreSpelt, IsHead, AreTransitions, Counted, Demand, has_arity, behind, mark_text, number_for, places_text, position, places, arguments_marks, further_marks, steps_marks, step_marks, derivations_marks, state, accepting_marks, further_states_marks, states_marks, head_marks, transitions_marks}
 use Rattle.std.proofs.lemmas.List.{append-nil}
 use Rattle.cert_sharing.proofs.FirstUses.{AreAmong, place_text}
-use Rattle.cert_sharing.proofs.SpeltShares.{of_certificate, shared_are, shared_numbered, spelt_marks}
+use Rattle.cert_sharing.proofs.SpeltShares.{of_certificate, none_left, numbered_with, spelt_whole, spelt_skeleton}
+use Rattle.cert_sharing.proofs.Prelude.{IsShared, uses_with}
 use Rattle.std.specs.Prelude.{unwrap_or}
 use Rattle.cert_grammar.proofs.ScanWords.{places_of_text}
 
@@ -461,8 +462,7 @@ all_known (a ∷ used) all names h k = ((h.0, k.0), all_known used all names h.1
 
 -- how the uses are written where these automata stand before the body
 abbrev pub numbered_in : Version → NameTable → List Automaton → Uses
-numbered_in first_version names bs = in_full
-numbered_in second_version names bs = by_number (number_in names bs)
+numbered_in v names bs = uses_with v names bs
 
 -- these stand there, all that the certificate uses among them
 abbrev pub StandBefore : Version → NameTable → Certificate → List Automaton → Type 0
@@ -497,22 +497,14 @@ marks_tell second_version second_version names c d bs ds f g a b m n e =
     let yours = all_known (automata_of d) ds names (of_certificate d names b) n.1 in
     (refl, same_bodies c d names u w (Known names bs) (Known names ds) f (numbers_same names bs ds all.0) a b mine yours lines, all.0)
 
-own_stand : (v : Version) (names : NameTable) (c : Certificate) → IsWithin names c → StandBefore v names c (shared_by names c)
-own_stand first_version names c a = tt
-own_stand second_version names c a = (shared_are names c a, (shared_numbered names c).each)
-
-same_uses : (v : Version) (names : NameTable) (c : Certificate) → uses_of v names c ≡ numbered_in v names (shared_by names c)
-same_uses first_version names c = refl
-same_uses second_version names c = refl
+own_stand : (v : Version) (names : NameTable) (c : Certificate) → IsWithin names c → IsShared v names c → StandBefore v names c (shared_by names c ++ [])
+own_stand first_version names c a s = tt
+own_stand second_version names c a s = ((none_left second_version names c a s).2, (numbered_with names c []).each)
 
 pub one_certificate : (names : NameTable) (bytes : List ℕ) (c d : Certificate) → IsCertificateText names bytes c → IsCertificateText names bytes d → c ≡ d
 one_certificate names bytes c d (v, h) (w, k) =
-    let x = name_of names in
-    let mine = spelt_marks v names bytes c h in
-    let yours = spelt_marks w names bytes d k in
-    let s : Skeleton = record { names = x; uses = uses_of v names c; shared = shared_by names c; answer = mine.0; certificate = c; allowed = mine.3; named = mine.2 } in
-    let t : Skeleton = record { names = x; uses = uses_of w names d; shared = shared_by names d; answer = yours.0; certificate = d; allowed = yours.3; named = yours.2 } in
-    let marks = same_skeletons s t (mine.1 ∙ sym yours.1) in
-    (marks_tell v w names c d (shared_by names c) (shared_by names d) mine.0 yours.0 h.spelt.1 k.spelt.1 (own_stand v names c h.spelt.1) (own_stand w names d k.spelt.1)
-    (ap (λ (u : Uses). certificate_marks x u (shared_by names c) mine.0 c) (sym (same_uses v names c)) ∙ marks
-    ∙ ap (λ (u : Uses). certificate_marks x u (shared_by names d) yours.0 d) (same_uses w names d))).1
+    let mine = spelt_whole v names bytes c h in
+    let yours = spelt_whole w names bytes d k in
+    let marks = same_skeletons (spelt_skeleton v names bytes c h) (spelt_skeleton w names bytes d k) (mine.spells.text ∙ sym yours.spells.text) in
+    (marks_tell v w names c d (shared_by names c ++ []) (shared_by names d ++ []) mine.given yours.given h.spelt.1 k.spelt.1 (own_stand v names c h.spelt.1 h.spelt.2)
+    (own_stand w names d k.spelt.1 k.spelt.2) marks).1
