@@ -8,51 +8,7 @@ use Rattle.cert_sharing.proofs.UseMarks.{behind_both, pass_join}
 use Rattle.cert_laws.proofs.Reached.{no_refusal, StopsFor}
 use Rattle.cert_sharing.proofs.Exact.{met_never, one_certificate_refusal}
 use Rattle.cert_grammar.proofs.ScanLaws.{IsWordOf}
-
--- the bytes behind a word are those behind its mark
-behind_word : (w bytes v rest : List ℕ) → bytes ≡ w ++ rest → bytes ≡ w ++ v → ends_here rest ≡ true → IsWhole v
-behind_word w bytes v rest e f h = whole_of v (ap ends_here (append_cancel_left w v rest (sym f ∙ e)) ∙ h)
-
-lead_reached : (a : Lead) (w bytes v : List ℕ) (s : List Item) (back : List Mark) → IsWordOf (mode_of a) w → closes w a ≡ true → There a w bytes
-    → bytes ≡ mark_text (mark_of a w) ++ v → Path back (items_of a w ++ s) [] → IsReached (mark_of a w) back v
-lead_reached (text bs items) w bytes v s back h c t e p = tt
-lead_reached (check demand b items) w bytes v s back h c t e p =
-    let there = starts_text b items s back (starts b items c) p in
-    (b, t.rest, there.0, sym e ∙ t.parts ∙ ap (λ (x : List ℕ). x ++ t.rest) (text_is (b ∷ []) w h), there.1)
-lead_reached (at_once demand items) w bytes v s back h c t e p = tt
-lead_reached (keyword bs demands items) w bytes v s back h c t e p = behind_word bs bytes v t.rest (t.parts ∙ ap (λ (x : List ℕ). x ++ t.rest) (text_is bs w h)) e t.ends
-lead_reached _ w bytes v s back h c t e p = behind_word w bytes v t.rest t.parts e t.ends
-
-move_reached : (i : Item) (m : Mark) (bytes v : List ℕ) (new s : List Item) (back : List Mark) → Move i m bytes v new → Path back (new ++ s) [] → IsReached m back v
-move_reached i m bytes v new s back h p =
-    let k = h.takes in
-    subst (λ (x : Mark). IsReached x back v) (sym k.mark)
-    (lead_reached k.lead k.word_of bytes v s back k.spelt (close_in k.word_of k.lead (leads i) k.among (leads_close i k.word_of)) h.there (h.text ∙ ap (λ (x : Mark). mark_text x ++ v) k.mark)
-    (subst (λ (x : List Item). Path back (x ++ s) []) k.items p))
-
--- bytes go to each mark that was moved over
-pub moves_goes : (before : List Mark) (mark : Mark) (after back : List Mark) (s t : List Item) (bytes rest : List ℕ) → Moves (before ++ mark ∷ after) s bytes t rest
-    → Path back t [] → GoesTo ((before ++ mark ∷ after) ++ back) bytes before mark
-moves_goes [] mark after back [] t bytes rest h q = absurd h
-moves_goes [] mark after back (i ∷ s) t bytes rest h q =
-    record {
-      back = after ++ back;
-      parts = refl;
-      rest = h.1;
-      text = h.2.text;
-      reached = move_reached i mark bytes h.1 h.0 s (after ++ back) h.2
-          (path-append after back (h.0 ++ s) t [] (moves_path after (h.0 ++ s) t h.1 rest h.3) q);
-    }
-moves_goes (f ∷ before) mark after back [] t bytes rest h q = absurd h
-moves_goes (f ∷ before) mark after back (i ∷ s) t bytes rest h q =
-    let g = moves_goes before mark after back (h.0 ++ s) t h.1 rest h.3 q in
-    record {
-      back = g.back;
-      parts = ap (λ (l : List Mark). f ∷ l) g.parts;
-      rest = g.rest;
-      text = cc (append_assoc (mark_text f) (marks_text before) (mark_text mark ++ g.rest));
-      reached = g.reached;
-    }
+use Rattle.cert_laws.proofs.FirstRefusals.{goes_there}
 
 -- a reader that does not go on stops
 pub stops : (names : NameTable) (at : ℕ) (items : List Item) (left : List ℕ) → ((l : Left) → step names (record { at = at; items = items; bytes = left }) ≡ goes_on l → ⊥) → StopsFor (λ m. verdict names 0 (demands_of m) ≡ None) items left
@@ -128,24 +84,18 @@ module _ (names : NameTable) (bytes : List ℕ) (at : ℕ) (i : Item) (items : L
 
     -- a demand on shared automata that is not met
     is_shared : (x : CertificateCause × ℕ) → verdict names 0 (demands_of m) ≡ None → share_verdict s at (demands_of m) ≡ Some x → IsRefusedShared names bytes x.0 x.1
-    is_shared x v w =
-        let behind_it = drop (taken a left) left in
-        let rest = items_of a (read_of a left) ++ items in
-        let moves = moves_more front (opening ∷ []) items i bytes left behind_it m (items_of a (read_of a left)) p.reached.moves (lead_move i a left n e) in
-        let back = completes rest in
-        let t = skeleton_of ((front ++ m ∷ []) ++ back.0)
-        (path-append (front ++ m ∷ []) back.0 (opening ∷ []) rest [] (moves_path (front ++ m ∷ []) (opening ∷ []) rest bytes behind_it moves) back.1) in (
-          t.0,
-          record {
-            front = front;
-            mark = m;
-            goes = subst (λ (z : List Mark). GoesTo z bytes front m) (sym t.1) (moves_goes front m [] back.0 (opening ∷ []) rest bytes behind_it moves back.1);
-            passed = pass_both names front (m ∷ []) p.reached.passed (v, tt);
-            shared = p.passed;
-            refused = subst (λ (k : ℕ). share_verdict (behind_marks front nothing_shared) k (demands_of m) ≡ Some x) p.reached.place
-                (subst (λ (y : Shared). share_verdict y at (demands_of m) ≡ Some x) p.is w);
-          },
-        )
+    is_shared x v w = let t = goes_there names bytes at i items left a p.reached n e in (
+      t.0,
+      record {
+        front = front;
+        mark = m;
+        goes = t.1;
+        passed = pass_both names front (m ∷ []) p.reached.passed (v, tt);
+        shared = p.passed;
+        refused = subst (λ (k : ℕ). share_verdict (behind_marks front nothing_shared) k (demands_of m) ≡ Some x) p.reached.place
+            (subst (λ (y : Shared). share_verdict y at (demands_of m) ≡ Some x) p.is w);
+      },
+    )
 
     lead_step : first_there (leads i) left ≡ Some a → IsSharedStepOf names bytes l (after_step l s (Some a) (step_lead names l (Some a) i items))
     lead_step f = by (verdict names at (demands_of m)) refl
