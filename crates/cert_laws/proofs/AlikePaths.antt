@@ -1,9 +1,7 @@
 -- The grammar is deterministic: what two paths from one stack of items spell is alike.
-use Rattle.std.proofs.Common.{◌≡◌, inr, ℕ, true, List, [], ◌∷◌, ◌++◌, refl, sym, ap, ◌∙◌, subst}
-use Rattle.std.proofs.lemmas.List.{append-nil, append_cancel_left}
+use Rattle.cert_laws.proofs.Prelude.{◌≡◌, inr, ℕ, true, List, [], ◌∷◌, ◌++◌, refl, sym, ap, ◌∙◌, subst, append-nil, append_cancel_left, Mark, mark_text, marks_text, Skeleton, marks_of, skeleton_text}
+use Rattle.cert_laws.proofs.Prelude.{Item, opening, Lead, text, ends_lead, Alike, ended, same, parted}
 use Rattle.general_lemmas.proofs.Decisions.{same_numbers}
-use Rattle.cert_grammar.specs.Prelude.{Mark, mark_text, marks_text, Skeleton, marks_of, skeleton_text, Item, opening, Lead, text, ends_lead}
-use Rattle.cert_laws.specs.MarkLaws.{Alike, ended, same, parted}
 use Rattle.cert_laws.proofs.Moves.{There, takes_goes, takes_text}
 use Rattle.cert_laws.proofs.Paths.{Path}
 use Rattle.cert_laws.proofs.Reached.{same_words, same_taken}

@@ -1,19 +1,14 @@
 -- What the marks of a certificate's parts ask: numbers that stand in a word of their length, and whatever is asked of the answer
 -- and of shared automata is allowed.
-use Rattle.std.proofs.Common.{◌≡◌, ℕ, suc, ◌+◌, ◌≤◌, Bool, true, false, cond, ap, subst, List, [], ◌∷◌, ◌++◌, length, drop, Option, Some, None, length-append, arith}
-use Rattle.rewriting.specs.Prelude.{Term, var, app, Terms, nil, cons, size, Position, Head, file, auxiliary}
-use Rattle.certificates.specs.Prelude.{Derivation, no_steps, first_step, Step, by_rule, by_hypothesis, Derivations, no_derivations, first_derivation, Transition, Automaton}
-use Rattle.certificates.specs.Prelude.{InfeasibilityEvidence, by_caps, by_automaton, PairEvidence, trivial_pair, infeasible_pair, conflicting_pair, joined_pair, unfeasible_pair, PairEntry}
-use Rattle.certificates.specs.Prelude.{LinearEntry, MeasureCertificate, linear_measure, precedence_measure, Redex, Apartness, by_normal_forms, by_rigid_caps, Peak, Simplification, dropped}
-use Rattle.certificates.specs.Prelude.{inlined}
-use Rattle.cops_names.specs.NameTable.{NameTable}
-use Rattle.cert_grammar.specs.Prelude.{CertificateCause, meets, refusal_of, refusal_place, verdict, Uses, in_full, by_number, Naming, Share, automaton_begins, is_use, is_light, Demand}
-use Rattle.cert_grammar.specs.Prelude.{in_range, fits_answer, shares, Mark, mark_text, demands_of}
-use Rattle.cert_grammar.specs.Prelude.{dotted, are_places, places_text, term_marks, arguments_marks, further_marks, steps_marks, step_marks, derivations_marks, derivation_marks}
-use Rattle.cert_grammar.specs.Prelude.{automaton_marks, heads_marks, measure_marks, simplifications_marks, accepting_marks, further_states_marks, states_marks, head_marks}
-use Rattle.cert_grammar.specs.Prelude.{transitions_marks, infeasibility_marks, evidence_marks, pairs_marks, coefficients_marks, measured_marks, entries_marks, redexes_marks, apart_marks}
-use Rattle.cert_grammar.specs.Prelude.{peak_marks}
-use Rattle.cert_grammar.specs.WordMarks.{numeral}
+use Rattle.cert_laws.proofs.Prelude.{◌≡◌, ℕ, suc, ◌+◌, ◌≤◌, Bool, true, false, cond, ap, subst, List, [], ◌∷◌, ◌++◌, length, drop, Option, Some, None, length-append, arith, Term, var, app, Terms}
+use Rattle.cert_laws.proofs.Prelude.{nil, cons, size, Position, Head, file, auxiliary, Derivation, no_steps, first_step, Step, by_rule, by_hypothesis, Derivations, no_derivations, first_derivation}
+use Rattle.cert_laws.proofs.Prelude.{Transition, Automaton, InfeasibilityEvidence, by_caps, by_automaton, PairEvidence, trivial_pair, infeasible_pair, conflicting_pair, joined_pair, unfeasible_pair}
+use Rattle.cert_laws.proofs.Prelude.{PairEntry, LinearEntry, MeasureCertificate, linear_measure, precedence_measure, Redex, Apartness, by_normal_forms, by_rigid_caps, Peak, Simplification, dropped}
+use Rattle.cert_laws.proofs.Prelude.{inlined, NameTable, CertificateCause, meets, refusal_of, refusal_place, verdict, Uses, in_full, by_number, Naming, Share, automaton_begins, is_use, is_light}
+use Rattle.cert_laws.proofs.Prelude.{Demand, in_range, fits_answer, shares, Mark, mark_text, demands_of, dotted, are_places, places_text, term_marks, arguments_marks, further_marks, steps_marks}
+use Rattle.cert_laws.proofs.Prelude.{step_marks, derivations_marks, derivation_marks, automaton_marks, heads_marks, measure_marks, simplifications_marks, accepting_marks, further_states_marks}
+use Rattle.cert_laws.proofs.Prelude.{states_marks, head_marks, transitions_marks, infeasibility_marks, evidence_marks, pairs_marks, coefficients_marks, measured_marks, entries_marks, redexes_marks}
+use Rattle.cert_laws.proofs.Prelude.{apart_marks, peak_marks, numeral}
 
 -- a number that is judged stands in a word of this length; the answer and shared automata are asked for where that is allowed
 abbrev pub Asks : Type 0 → (Share → Type 0) → ℕ → Demand → Type 0

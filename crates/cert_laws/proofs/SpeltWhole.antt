@@ -1,23 +1,19 @@
 -- The marks of certificates within limits: all pass, and their text is the certificate's.
-use Rattle.std.proofs.Common.{◌≡◌, ℕ, suc, ◌+◌, ◌<◌, ◌≤◌, Bool, true, false, List, [], ◌∷◌, ◌++◌, length, Option, Some, None, refl, ap, codes, decimal, append-nil, arith}
-use Rattle.std.specs.Prelude.{unwrap_or}
+use Rattle.cert_laws.proofs.Prelude.{◌≡◌, ℕ, suc, ◌+◌, ◌<◌, ◌≤◌, Bool, true, false, List, [], ◌∷◌, ◌++◌, length, Option, Some, None, refl, ap, codes, decimal, arith, unwrap_or, Transition, Automaton}
+use Rattle.cert_laws.proofs.Prelude.{InfeasibilityEvidence, by_caps, by_automaton, PairEvidence, trivial_pair, infeasible_pair, conflicting_pair, joined_pair, unfeasible_pair, PairEntry, LinearEntry}
+use Rattle.cert_laws.proofs.Prelude.{MeasureCertificate, linear_measure, precedence_measure, Redex, Apartness, by_normal_forms, by_rigid_caps, Simplification, dropped, inlined, Certificate}
+use Rattle.cert_laws.proofs.Prelude.{ortho_certificate, quasi_certificate, peak_certificate, simplified_certificate, NameTable, largest, name_of, numbers_text, further_states_text, states_text}
+use Rattle.cert_laws.proofs.Prelude.{head_text, transitions_text, automaton_text, infeasibility_text, evidence_text, pairs_text, AreAtMost, AreStates, IsHead, AreTransitions, IsAutomaton}
+use Rattle.cert_laws.proofs.Prelude.{IsInfeasibility, IsEvidence, ArePairs, IsName, measured_text, entries_text, heads_text, measure_text, redexes_text, apart_text, simplifications_text, body_text}
+use Rattle.cert_laws.proofs.Prelude.{automata_text, heading_text, IsMeasured, AreEntries, AreHeads, IsMeasure, AreRedexEntries, IsApart, AreSimplifications, IsWithin, Uses, in_full, by_number}
+use Rattle.cert_laws.proofs.Prelude.{version_of, AreAutomata, Counted, limit, automaton_begins, is_use, is_light, in_range, is_few, fits_answer, shares, is_answer, Mark, word, automata_marks}
+use Rattle.cert_laws.proofs.Prelude.{heading_marks, heads_marks, simplifications_marks, state, accepting_marks, further_states_marks, states_marks, head_marks, transitions_marks, automaton_marks}
+use Rattle.cert_laws.proofs.Prelude.{infeasibility_marks, evidence_marks, pairs_marks, coefficients_marks, measured_marks, entries_marks, measure_marks, redexes_marks, apart_marks, body_marks}
+use Rattle.cert_laws.proofs.Prelude.{numeral, name_is}
+use Rattle.std.proofs.Common.{append-nil}
 use Rattle.rewriting.specs.Unraveling.{Head, file, auxiliary}
-use Rattle.certificates.specs.Prelude.{Transition, Automaton, InfeasibilityEvidence, by_caps, by_automaton, PairEvidence, trivial_pair, infeasible_pair, conflicting_pair, joined_pair}
-use Rattle.certificates.specs.Prelude.{unfeasible_pair, PairEntry, LinearEntry, MeasureCertificate, linear_measure, precedence_measure, Redex, Apartness, by_normal_forms, by_rigid_caps}
-use Rattle.certificates.specs.Prelude.{Simplification, dropped, inlined, Certificate, ortho_certificate, quasi_certificate, peak_certificate, simplified_certificate}
-use Rattle.cops_names.specs.NameTable.{NameTable}
-use Rattle.cert_grammar.specs.Prelude.{largest, name_of, numbers_text, further_states_text, states_text, head_text, transitions_text, automaton_text, infeasibility_text}
-use Rattle.cert_grammar.specs.Prelude.{evidence_text, pairs_text, AreAtMost, AreStates, IsHead, AreTransitions, IsAutomaton, IsInfeasibility, IsEvidence, ArePairs, IsName}
-use Rattle.cert_grammar.specs.Prelude.{measured_text, entries_text, heads_text, measure_text, redexes_text, apart_text, simplifications_text, body_text, automata_text}
-use Rattle.cert_grammar.specs.Prelude.{heading_text, IsMeasured, AreEntries, AreHeads, IsMeasure, AreRedexEntries, IsApart, AreSimplifications, IsWithin, Uses}
-use Rattle.cert_grammar.specs.Prelude.{in_full, by_number, version_of, AreAutomata, Counted, limit, automaton_begins, is_use, is_light, in_range, is_few, fits_answer}
-use Rattle.cert_grammar.specs.Prelude.{shares, is_answer, Mark, word, automata_marks, heading_marks, heads_marks, simplifications_marks, state, accepting_marks}
-use Rattle.cert_grammar.specs.Prelude.{further_states_marks, states_marks, head_marks, transitions_marks, automaton_marks, infeasibility_marks, evidence_marks, pairs_marks}
-use Rattle.cert_grammar.specs.Prelude.{coefficients_marks, measured_marks, entries_marks, measure_marks, redexes_marks, apart_marks, body_marks}
-use Rattle.cert_grammar.specs.WordMarks.{numeral}
-use Rattle.cert_grammar.proofs.Names.{name_is}
 use Rattle.cert_laws.proofs.Spelt.{Spells, nothing, put_bytes, put_word, put_two, put_number, put_count, put_position, put_symbol, put_arity, numeral_fits, met_first, pass_range, pass_few}
-use Rattle.cert_laws.proofs.SpeltTerms.{spelt_term, spelt_derivation, same_text}
+use Rattle.cert_laws.proofs.Spelt.{spelt_term, spelt_derivation, same_text}
 
 put_state : {names : NameTable} {ms : List Mark} {t : List ℕ} (bound q : ℕ) → bound ≤ 1000 → q < bound → Spells names ms t → Spells names (state bound q ∷ ms) (decimal q ++ t)
 put_state {names = names} bound q few lt h = put_word (numeral q) (decimal q) (in_range 0 0 bound q ∷ []) (numeral_fits q (omega arith)) (pass_range names 0 0 bound q [] (omega arith) lt refl) h
@@ -110,13 +106,10 @@ spelt_coefficients (k ∷ ks) names n few h =
     (pass_range names 0 0 (suc largest) k (is_few Counted.numbers n ∷ []) (omega arith) (omega arith) (pass_few names Counted.numbers n [] (omega arith) refl))
     (spelt_coefficients ks names (suc n) (omega arith) h.1))
 
-name_there : (names : NameTable) (f : ℕ) (name : List ℕ) → IsName names f name → name_of names f ≡ name
-name_there names f name h = ap (λ (o : Option (List ℕ)). unwrap_or o []) h.named
-
 spelt_measured : (a : Head) (names : NameTable) (n : ℕ) → n ≤ 25000 → IsMeasured names a → Spells names (measured_marks (name_of names) n a) (measured_text names a)
 spelt_measured (file f) names n few h =
     same_text (ap (λ (w : List ℕ). codes "fun " ++ w) (append-nil (name_of names f))) (put_counted (codes "fun") Counted.entries n few
-    (put_bytes (codes " ") (put_symbol f h.0 [] (name_there names f h.0 h.1) h.1.identifier h.1.found refl nothing)))
+    (put_bytes (codes " ") (put_symbol f h.0 [] (ap (λ (o : Option (List ℕ)). unwrap_or o []) h.1.named) h.1.identifier h.1.found refl nothing)))
 spelt_measured (auxiliary r c) names n few h =
     same_text (ap (λ (w : List ℕ). codes "aux " ++ (decimal r ++ (codes " " ++ w))) (append-nil (decimal c))) (put_counted (codes "aux") Counted.entries n few
     (put_bytes (codes " ") (put_number r h.0 (put_bytes (codes " ") (put_number c h.1 nothing)))))

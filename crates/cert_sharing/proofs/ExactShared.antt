@@ -1,26 +1,32 @@
 -- The reader that stops at the first refusal, shared automata judged, is exact.
-use Rattle.std.proofs.Common.{◌≡◌, ◌⊎◌, inl, inr, ℕ, zero, suc, ◌+◌, ◌*◌, ◌<◌, true, List, [], ◌∷◌, ◌++◌, length, drop, Option, Some, None, refl, sym, ap, ◌∙◌, subst, arith, append-nil}
-use Rattle.cops_names.specs.NameTable.{NameTable}
-use Rattle.cert_grammar.specs.Prelude.{CertificateCause, syntax, Mark, demands_of, verdict, Shared, nothing_shared, share_verdict, behind_mark, behind_marks}
-use Rattle.cert_grammar.specs.Prelude.{PassShares, GoesTo, Pass, marks_of, marks_text, goes_on, IsPlainlyRefused, IsRefusedShared, IsCertificateRefused, Item, opening, Lead, leads, is_there}
-use Rattle.cert_grammar.specs.Prelude.{first_there, longest, taken}
-use Rattle.cert_grammar.specs.Prelude.{mark_of, items_of, Left, refuses, behind_lead, judged, step_lead, step, Reading, accepted, refused, whole_text, SharedStep, ends, further}
-use Rattle.cert_grammar.specs.Prelude.{shared_judged, after_step, shared_step, shared_reading, read_shared, read_text}
-use Rattle.cert_laws.proofs.LeadTables.{In}
-use Rattle.cert_laws.proofs.OneRefusal.{passed_anywhere}
-use Rattle.cert_laws.proofs.Spelt.{pass_both}
-use Rattle.cert_laws.proofs.Paths.{path-append, first_sound}
-use Rattle.cert_laws.proofs.Reached.{moves_path, moves_text, moves_more}
+use Rattle.cert_sharing.proofs.Prelude.{◌≡◌, ◌⊎◌, inl, inr, ℕ, zero, suc, ◌+◌, ◌*◌, ◌<◌, true, List, [], ◌∷◌, ◌++◌, length, drop, Option, Some, None, refl, sym, ap, ◌∙◌, subst, arith, append-nil, NameTable, CertificateCause, syntax, Mark, demands_of, verdict, Shared, nothing_shared, share_verdict, behind_mark, behind_marks, PassShares, GoesTo, Pass, marks_of, marks_text, goes_on, IsPlainlyRefused, IsRefusedShared, IsCertificateRefused, Item, opening, Lead, leads, is_there, first_there, longest, taken, mark_of, items_of, Left, refuses, behind_lead, judged, step_lead, step, Reading, accepted, refused, whole_text, SharedStep, ends, further, shared_judged, after_step, shared_step, shared_reading, read_shared, read_text, In, passed_anywhere, pass_both, path-append, first_sound, moves_path, moves_text, moves_more, skeleton_path, skeleton_of, read_of, Reached, reached_start, next_reached, lead_move, is_judged, IsMetText, IsAnswer, append_assoc, append_cancel_left, mark_text, IsWhole, IsReached, text, check, at_once, keyword, mode_of, ends_here, closes, leads_close, Takes, Path, text_is, There, starts, starts_text, close_in, takes_along, tail_goes, head_is, only_is, tail_text, nowhere, Move, Moves, same_taken, there_first, whole_of}
 use Rattle.cert_laws.proofs.Completions.{completes}
-use Rattle.cert_laws.proofs.SkeletonPaths.{skeleton_path}
-use Rattle.cert_laws.proofs.FirstRefusals.{skeleton_of, read_of, Reached, reached_start, next_reached, lead_move, is_judged}
 use Rattle.cert_laws.proofs.StuckReaders.{refused_where_stuck, refused_behind_end}
 use Rattle.cert_laws.proofs.ExactReader.{weight, lighter}
-use Rattle.cert_sharing.specs.SharedLaws.{IsMetText, IsAnswer}
-use Rattle.cert_sharing.proofs.OneShared.{shares_anywhere}
+use Rattle.cert_sharing.proofs.OneShared.{by_shares, shares_anywhere}
 use Rattle.cert_sharing.proofs.UseMarks.{behind_both, pass_join}
-use Rattle.cert_sharing.proofs.Reaches.{moves_goes, no_shared, stops}
+use Rattle.cert_laws.proofs.Reached.{no_refusal, StopsFor}
 use Rattle.cert_sharing.proofs.Exact.{met_never, one_certificate_refusal}
+use Rattle.cert_grammar.proofs.ScanLaws.{IsWordOf}
+use Rattle.cert_laws.proofs.FirstRefusals.{goes_there}
+
+-- a reader that does not go on stops
+pub stops : (names : NameTable) (at : ℕ) (items : List Item) (left : List ℕ) → ((l : Left) → step names (record { at = at; items = items; bytes = left }) ≡ goes_on l → ⊥) → StopsFor (λ m. verdict names 0 (demands_of m) ≡ None) items left
+stops names at [] left f = tt
+stops names at (i ∷ items) left f = λ m new h t v. by (first_there (leads i) left) refl m new h t v
+  where
+    l : Left
+    l = record { at = at; items = i ∷ items; bytes = left }
+
+    by : (o : Option Lead) → first_there (leads i) left ≡ o → (m : Mark) (new : List Item) (h : Takes i m new) → There h.lead h.word_of left → verdict names 0 (demands_of m) ≡ None → ⊥
+    by None q m new h t v = let both : None ≡ Some h.lead = sym q ∙ there_first i m new left h t in absurd cc
+    by (Some a) q m new h t v =
+        let there = first_sound (leads i) a left q in
+        let move = lead_move i a left there.0 there.1 in
+        let same = same_taken i m (mark_of a (read_of a left)) new (items_of a (read_of a left)) left h move.takes t move.there in
+        let passes : verdict names at (demands_of (mark_of a (read_of a left))) ≡ None = passed_anywhere names 0 at (demands_of (mark_of a (read_of a left)))
+        (subst (λ (x : Mark). verdict names 0 (demands_of x) ≡ None) same.marks v) in
+        f (behind_lead l a items) (ap (λ (o : Option Lead). step_lead names l o i items) q ∙ ap (λ (o : Option (CertificateCause × ℕ)). judged o (behind_lead l a items)) passes)
 
 -- where the reader is, with what it knows of shared automata
 pub record At (names : NameTable) (bytes : List ℕ) (l : Left) (s : Shared) : Type 0 where
@@ -38,8 +44,9 @@ plain : (names : NameTable) (bytes : List ℕ) (l : Left) (s : Shared) (e : Cert
 plain names bytes l s e at p q h = inr (
   h,
   λ f place (t, k).
-      no_shared p.reached.front names nothing_shared (opening ∷ []) l.items bytes l.bytes (marks_of t) k.front k.mark (f, place) (length (marks_text k.front)) p.reached.moves
-      p.passed (stops names l.at l.items l.bytes (λ m g. let both : goes_on m ≡ refuses e at = sym g ∙ q in absurd cc)) (skeleton_path t) k.goes k.passed k.refused,
+      no_refusal by_shares (λ m. verdict names 0 (demands_of m) ≡ None) (Pass names) (λ m ms v. v) p.reached.front nothing_shared (opening ∷ []) l.items bytes l.bytes (marks_of t)
+          k.front k.mark (f, place) (length (marks_text k.front)) p.reached.moves p.passed
+          (stops names l.at l.items l.bytes (λ m g. let both : goes_on m ≡ refuses e at = sym g ∙ q in absurd cc)) (skeleton_path t) k.goes k.passed k.refused,
 )
 
 -- where it accepts, the text is one in which all is met
@@ -77,24 +84,18 @@ module _ (names : NameTable) (bytes : List ℕ) (at : ℕ) (i : Item) (items : L
 
     -- a demand on shared automata that is not met
     is_shared : (x : CertificateCause × ℕ) → verdict names 0 (demands_of m) ≡ None → share_verdict s at (demands_of m) ≡ Some x → IsRefusedShared names bytes x.0 x.1
-    is_shared x v w =
-        let behind_it = drop (taken a left) left in
-        let rest = items_of a (read_of a left) ++ items in
-        let moves = moves_more front (opening ∷ []) items i bytes left behind_it m (items_of a (read_of a left)) p.reached.moves (lead_move i a left n e) in
-        let back = completes rest in
-        let t = skeleton_of ((front ++ m ∷ []) ++ back.0)
-        (path-append (front ++ m ∷ []) back.0 (opening ∷ []) rest [] (moves_path (front ++ m ∷ []) (opening ∷ []) rest bytes behind_it moves) back.1) in (
-          t.0,
-          record {
-            front = front;
-            mark = m;
-            goes = subst (λ (z : List Mark). GoesTo z bytes front m) (sym t.1) (moves_goes front m [] back.0 (opening ∷ []) rest bytes behind_it moves back.1);
-            passed = pass_both names front (m ∷ []) p.reached.passed (v, tt);
-            shared = p.passed;
-            refused = subst (λ (k : ℕ). share_verdict (behind_marks front nothing_shared) k (demands_of m) ≡ Some x) p.reached.place
-                (subst (λ (y : Shared). share_verdict y at (demands_of m) ≡ Some x) p.is w);
-          },
-        )
+    is_shared x v w = let t = goes_there names bytes at i items left a p.reached n e in (
+      t.0,
+      record {
+        front = front;
+        mark = m;
+        goes = t.1;
+        passed = pass_both names front (m ∷ []) p.reached.passed (v, tt);
+        shared = p.passed;
+        refused = subst (λ (k : ℕ). share_verdict (behind_marks front nothing_shared) k (demands_of m) ≡ Some x) p.reached.place
+            (subst (λ (y : Shared). share_verdict y at (demands_of m) ≡ Some x) p.is w);
+      },
+    )
 
     lead_step : first_there (leads i) left ≡ Some a → IsSharedStepOf names bytes l (after_step l s (Some a) (step_lead names l (Some a) i items))
     lead_step f = by (verdict names at (demands_of m)) refl

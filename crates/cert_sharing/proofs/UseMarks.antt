@@ -1,23 +1,17 @@
 -- What the marks of a certificate ask of its shared automata: the numbers of its uses, in order.
-use Rattle.std.proofs.Common.{◌≡◌, ℕ, suc, ◌+◌, ◌-◌, ◌≤◌, max, Bool, true, false, cond, not, List, [], ◌∷◌, ◌++◌, length, map, codes, Option, Some, None, refl, sym}
-use Rattle.std.proofs.Common.{arith, ap, ◌∙◌, subst, append_assoc, append-nil, le-leb}
-use Rattle.std.proofs.lemmas.List.{map-append}
-use Rattle.std.proofs.lemmas.Bool.{not-true}
-use Rattle.rewriting.specs.Prelude.{Term, Position}
-use Rattle.certificates.specs.Prelude.{Derivation, Automaton}
-use Rattle.certificates.specs.Prelude.{InfeasibilityEvidence, by_caps, by_automaton, PairEvidence, trivial_pair, infeasible_pair, conflicting_pair, joined_pair, unfeasible_pair, PairEntry}
-use Rattle.certificates.specs.Prelude.{MeasureCertificate, Redex, Apartness, by_normal_forms, by_rigid_caps, Simplification, dropped}
-use Rattle.certificates.specs.Prelude.{inlined, Certificate, ortho_certificate, quasi_certificate, peak_certificate, simplified_certificate}
-use Rattle.cert_grammar.specs.Prelude.{Uses, in_full, by_number, used_by, used_by_evidence, used_by_pairs, used_by_redexes, used_by_apart, used_by_steps, automata_of, largest, Naming}
-use Rattle.cert_grammar.specs.Prelude.{Counted, limit, unfolded, CertificateCause, bad_share, automaton_begins, automaton_ends, Demand}
-use Rattle.cert_grammar.specs.Prelude.{in_range, is_few, fits_answer, shares, Mark, fixed, word, closed, mark_text, marks_text, demands_of, are_places, number, number_for}
-use Rattle.cert_grammar.specs.Prelude.{position, term_marks, derivation_marks, use_mark, accepting_marks}
-use Rattle.cert_grammar.specs.Prelude.{transitions_marks, automaton_marks, automata_marks, infeasibility_marks, evidence_marks, pairs_marks}
-use Rattle.cert_grammar.specs.Prelude.{measure_marks, redexes_marks, apart_marks, simplifications_marks, body_marks}
-use Rattle.cert_grammar.specs.Prelude.{is_among, AllNew, Shared, text_at, first_of, share_verdict, effects, behind_mark, behind_marks, PassShares}
+use Rattle.cert_sharing.proofs.Prelude.{◌≡◌, ℕ, suc, ◌+◌, ◌-◌, ◌≤◌, max, Bool, true, false, cond, not, List, [], ◌∷◌, ◌++◌, length, map, codes, Option, Some, None, refl, sym, arith, ap, ◌∙◌, subst}
+use Rattle.cert_sharing.proofs.Prelude.{append_assoc, append-nil, le-leb, map-append, not-true, Term, Position, Derivation, Automaton, InfeasibilityEvidence, by_caps, by_automaton, PairEvidence}
+use Rattle.cert_sharing.proofs.Prelude.{trivial_pair, infeasible_pair, conflicting_pair, joined_pair, unfeasible_pair, PairEntry, MeasureCertificate, Redex, Apartness, by_normal_forms, by_rigid_caps}
+use Rattle.cert_sharing.proofs.Prelude.{Simplification, dropped, inlined, Certificate, ortho_certificate, quasi_certificate, peak_certificate, simplified_certificate, Uses, in_full, by_number}
+use Rattle.cert_sharing.proofs.Prelude.{used_by, used_by_evidence, used_by_pairs, used_by_redexes, used_by_apart, used_by_steps, automata_of, largest, Naming, Counted, limit, unfolded}
+use Rattle.cert_sharing.proofs.Prelude.{CertificateCause, bad_share, automaton_begins, automaton_ends, Demand, in_range, is_few, fits_answer, shares, Mark, fixed, word, closed, mark_text, marks_text}
+use Rattle.cert_sharing.proofs.Prelude.{demands_of, are_places, number, number_for, position, term_marks, derivation_marks, use_mark, accepting_marks, transitions_marks, automaton_marks}
+use Rattle.cert_sharing.proofs.Prelude.{automata_marks, infeasibility_marks, evidence_marks, pairs_marks, measure_marks, redexes_marks, apart_marks, simplifications_marks, body_marks, is_among}
+use Rattle.cert_sharing.proofs.Prelude.{AllNew, Shared, text_at, first_of, share_verdict, effects, behind_mark, behind_marks, PassShares}
 use Rattle.cert_grammar.specs.WordMarks.{numeral}
 use Rattle.cert_laws.proofs.Asking.{AllAsk, MarksAsk, term_asks, derivation_asks, measure_asks, behind_word_ask}
 use Rattle.cert_sharing.proofs.FirstUses.{greatest}
+use Rattle.cert_laws.proofs.PassWhole.{pair_front, redex_front, steps_front}
 
 abbrev pub state : List (List ℕ) → List ℕ → ℕ → ℕ → Shared
 state ts b u w = record { texts = ts; begun = b; used = u; unfolds_to = w }
@@ -287,15 +281,13 @@ counts_front front ms ns h k = counts_both front ms [] ns (counts_still front h)
 pub counts_pairs : (ps : List PairEntry) (x : Naming) (u : Uses) (n : ℕ) → Counts (pairs_marks x u n ps) (numbers_of u (used_by_pairs ps))
 counts_pairs [] x u n = no_numbers u [] tt
 counts_pairs (p ∷ ps) x u n =
-    counts_front (word (codes "pair") (is_few Counted.pairs n ∷ []) ∷ fixed (codes " ") ∷ number p.inner ∷ fixed (codes " ") ∷ position p.position ∷ fixed (codes " ")
-    ∷ number p.outer ∷ fixed (codes " ") ∷ []) _ _ (tt, (tt, (tt, (tt, (places_still p.position 0, (tt, (tt, (tt, tt))))))))
+    counts_front (pair_front n p) _ _ (tt, (tt, (tt, (tt, (places_still p.position 0, (tt, (tt, (tt, tt))))))))
     (counts_mapped u (used_by_evidence p.evidence) (used_by_pairs ps) (evidence_marks x u p.evidence) (pairs_marks x u (suc n) ps) (counts_evidence p.evidence x u) (counts_pairs ps x u (suc n)))
 
 pub counts_redexes : (rs : List Redex) (x : Naming) (u : Uses) (n : ℕ) → Counts (redexes_marks x u n rs) (numbers_of u (used_by_redexes rs))
 counts_redexes [] x u n = no_numbers u [] tt
 counts_redexes (r ∷ rs) x u n =
-    counts_front (word (codes "redex") (is_few Counted.redexes n ∷ []) ∷ fixed (codes " ") ∷ number r.which ∷ fixed (codes " ") ∷ position r.position ∷ fixed (codes " ")
-    ∷ number r.rule ∷ fixed (codes " ") ∷ []) _ _ (tt, (tt, (tt, (tt, (places_still r.position 0, (tt, (tt, (tt, tt))))))))
+    counts_front (redex_front n r) _ _ (tt, (tt, (tt, (tt, (places_still r.position 0, (tt, (tt, (tt, tt))))))))
     (counts_mapped u (used_by r.evidence) (used_by_redexes rs) (infeasibility_marks x u r.evidence) (redexes_marks x u (suc n) rs) (counts_infeasibility r.evidence x u)
     (counts_redexes rs x u (suc n)))
 
@@ -320,6 +312,5 @@ counts_body (peak_certificate p) x u given =
     (counts_front (term_marks x 1 1 p.start) _ _ (term_still p.start x 1 1) (counts_put _ _ _ tt
     (counts_front (derivation_marks p.first) _ _ (derivation_still p.first) (counts_front (derivation_marks p.second) _ _ (derivation_still p.second) (counts_apart p.apart x u)))))
 counts_body (simplified_certificate ss c) x u given =
-    counts_front (fixed (codes "simplify ") ∷ word (numeral (length ss)) (in_range 0 1 (suc largest) (length ss) ∷ is_few Counted.simplifications (length ss) ∷ []) ∷ fixed
-    (codes "\n") ∷ []) _ _ (tt, (tt, (tt, tt)))
+    counts_front (steps_front (length ss)) _ _ (tt, (tt, (tt, tt)))
     (counts_mapped u (used_by_steps ss) (automata_of c) (simplifications_marks x u ss) (body_marks x u given c) (counts_steps ss x u) (counts_body c x u given))
