@@ -74,7 +74,7 @@ unsimplified_more : (o : Opening) (es ps : List PairEntry) → IsUnsimplified (c
 unsimplified_more (simplified_opening steps o) es ps h = absurd h
 unsimplified_more _ es ps h = h
 
-allowed_more : (o : Opening) (es ps : List PairEntry) (v : Version) → IsOfVersion v (certificate_for o es) → IsOfVersion v (certificate_for o ps)
+pub allowed_more : (o : Opening) (es ps : List PairEntry) (v : Version) → IsOfVersion v (certificate_for o es) → IsOfVersion v (certificate_for o ps)
 allowed_more ortho_opening es ps v h = tt
 allowed_more (quasi_opening m) es ps v h = h
 allowed_more (simplified_opening steps o) es ps first_version h = absurd h

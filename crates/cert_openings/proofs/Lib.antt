@@ -1,7 +1,7 @@
 pub mod Lines
+pub mod Along
 pub mod Entries
 pub mod OpeningMarks
-pub mod Walks
 pub mod Late
 pub mod Opened
 pub mod Passes

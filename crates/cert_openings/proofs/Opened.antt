@@ -12,6 +12,7 @@ use Rattle.cert_sharing.proofs.SpeltShares.{front_marks, same_version, spelt_fro
 use Rattle.cert_openings.specs.Openings.{Opening, ortho_opening, quasi_opening, simplified_opening, certificate_for, uses_with, AreLeft, IsRead}
 use Rattle.cert_sharing.proofs.PassShares.{told_marks}
 use Rattle.cert_openings.specs.Laws.{IsReadTo}
+use Rattle.cert_openings.proofs.Along.{Along, along}
 use Rattle.cert_openings.proofs.OpeningMarks.{opening_marks, with_closing}
 
 -- ---- an opening and entries
@@ -62,6 +63,13 @@ gone names bytes o es end h =
 pub gone_rest : (names : NameTable) (bytes : List ℕ) (o : Opening) (es : List PairEntry) (end : ℕ) → (h : IsRead names bytes o es end) → (gone names bytes o es end h).rest ≡ h.rest
 unfolding gone
 gone_rest names bytes o es end h = refl
+
+-- a reader goes along them
+pub gone_along : (names : NameTable) (bytes : List ℕ) (o : Opening) (es : List PairEntry) (end : ℕ) → (h : Gone names bytes o es end)
+    → Along (front_marks (name_of names) h.uses h.shared h.answer (certificate_for o es)) bytes h.rest
+gone_along names bytes o es end h =
+    let s = with_closing (name_of names) h.uses h.shared h.answer (certificate_for o es) h.allowed h.spells.named in
+    along s.0 (front_marks (name_of names) h.uses h.shared h.answer (certificate_for o es)) bytes h.rest s.1 h.text
 
 -- bytes that begin with marks as these
 abbrev pub AreMarked : (names : NameTable) (bytes rest : List ℕ) (given : Option Bool) (left : List Automaton) → Version → Certificate → Type 0
@@ -115,4 +123,4 @@ opened_rest names bytes o end h = gone_rest names bytes o [] end h
 -- with the last line it is a text of the grammar
 pub with_end : (names : NameTable) (bytes : List ℕ) (o : Opening) (end : ℕ) → (h : Opened names bytes o end)
     → (s : Skeleton) × (marks_of s ≡ opening_marks (name_of names) h.uses h.shared h.answer o ++ closing)
-with_end names bytes o end h = with_closing (name_of names) h.uses h.shared h.answer o h.allowed h.spells.named
+with_end names bytes o end h = with_closing (name_of names) h.uses h.shared h.answer (certificate_for o []) h.allowed h.spells.named

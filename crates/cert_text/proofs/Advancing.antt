@@ -36,7 +36,7 @@ use Rattle.cert_reading.proofs.Stopping.{stop_behind, other_stop, stopped_where}
 use Rattle.cert_reading.proofs.EntryItems.{IsSame, symbol_same, symbol_stopped, symbol_run}
 use Rattle.cert_text.specs.Reading.{Reading, HasRead, IsAll, ReadsOn, IsAtEnd}
 use Rattle.cert_text.specs.ReadingView.{place_of, EndsMeasure, IsNext, read_marks, IsUpTo}
-use Rattle.cert_text.proofs.Ends.{read_more}
+use Rattle.cert_openings.proofs.OpeningMarks.{read_more}
 use Rattle.cert_text.proofs.Runs.{run_read, refused_as, refused_as_told, refused_behind}
 use Rattle.cert_text.proofs.EntryStops.{one_rest, entry_stands, in_entry}
 

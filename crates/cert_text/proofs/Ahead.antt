@@ -1,11 +1,9 @@
 -- A reader goes along what stands there, and never stops before its end.
-use Rattle.std.proofs.Common.{◌≡◌, ◌⊎◌, inl, inr, ◌<◌, ◌&&◌, ℕ, suc, Bool, true, List, [], ◌∷◌, ◌++◌, take, Option, Some, None, codes, refl, sym, ap, ◌∙◌, subst, arith, append_assoc}
+use Rattle.std.proofs.Common.{◌≡◌, ◌⊎◌, inl, inr, ◌<◌, ◌&&◌, ℕ, suc, Bool, true, List, [], ◌∷◌, ◌++◌, take, Option, Some, None, codes, refl, sym, ap, ◌∙◌, subst, arith}
 use Rattle.std.proofs.lemmas.Bool.{and_parts}
-use Rattle.std.proofs.lemmas.List.{append-nil, append_cancel_left}
-use Rattle.certificates.specs.Prelude.{PairEntry}
 use Rattle.cops_names.specs.NameTable.{NameTable}
-use Rattle.cert_grammar.specs.Prelude.{name_of, all_used, shares, CertificateCause, Demand, Mark, fixed, word, mark_text, marks_text, demands_of, verdict, Pass, Item, opening, between, line}
-use Rattle.cert_grammar.specs.Prelude.{pairs_from, answer_marks, heading_marks, body_marks, certificate_marks, closing, Skeleton, HaveNames}
+use Rattle.cert_grammar.specs.Prelude.{CertificateCause, Demand, Mark, word, mark_text, demands_of, verdict, Pass, Item, between, line}
+use Rattle.cert_grammar.specs.Prelude.{pairs_from}
 use Rattle.cert_grammar.specs.Prelude.{Lead, text, check, at_once, keyword, numeral_lead, position_lead, variable_lead, name_lead, leads, Version, first_version, second_version}
 use Rattle.cert_grammar.specs.Prelude.{mode_of, first_there, taken, mark_of, items_of, Left, behind_lead, judged, step_lead, Reading as Answer, Shared, share_verdict, behind_mark}
 use Rattle.cert_grammar.specs.Prelude.{behind_marks, PassShares, ends, further}
@@ -15,99 +13,18 @@ use Rattle.cert_laws.proofs.LeadTables.{In}
 use Rattle.cert_laws.proofs.OneRefusal.{passed_anywhere}
 use Rattle.cert_laws.proofs.PassTerms.{pass_append}
 use Rattle.cert_laws.proofs.Paths.{Takes, Path, first_complete}
-use Rattle.cert_laws.proofs.Moves.{There, takes_along}
-use Rattle.cert_laws.proofs.Reached.{Move, Moves, moves_path, same_taken, there_size}
-use Rattle.cert_laws.proofs.SkeletonPaths.{skeleton_path}
-use Rattle.cert_laws.proofs.Spelt.{have_both, text_both}
-use Rattle.cert_openings.specs.Openings.{BeginsEntry, Opening, certificate_for}
+use Rattle.cert_laws.proofs.Moves.{There}
+use Rattle.cert_laws.proofs.Reached.{Move, Moves, moves_path, there_size}
+use Rattle.cert_openings.specs.Openings.{BeginsEntry}
 use Rattle.cert_openings.proofs.Lines.{apart}
-use Rattle.cert_openings.proofs.Opened.{Gone}
+use Rattle.cert_openings.proofs.Along.{Meet, ahead, behind_it, meet, never_ends}
 use Rattle.cert_sharing.proofs.UseMarks.{pass_split}
 use Rattle.cert_words.specs.Walks.{left_at, RefusesAt}
 use Rattle.cert_words.proofs.Walking.{step_on}
 use Rattle.cert_reading.specs.Stops.{lowest, AreAbove, IsBehind, AreBehind, BeginsList}
 use Rattle.cert_reading.proofs.Opening.{same_item}
-use Rattle.cert_text.specs.ReadingView.{read_marks}
-use Rattle.cert_text.proofs.Ends.{read_end}
-
--- ---- from a path to moves
-
--- bytes that begin with the text of marks are read along them, if these end in bytes
-pub moves_along : (front : List Mark) (u : List ℕ) (back : List Mark) (s : List Item) (bytes rest : List ℕ) → Path (front ++ (fixed u ∷ back)) s []
-    → bytes ≡ marks_text front ++ (u ++ rest) → (t : List Item) × Moves (front ++ fixed u ∷ []) s bytes t rest × Path back t []
-moves_along [] u back [] bytes rest p e = absurd p
-moves_along [] u back (i ∷ s) bytes rest p e = (
-  p.0 ++ s,
-  (
-    p.0,
-    rest,
-    record {
-      takes = p.1;
-      there = takes_along i (fixed u) p.0 s back bytes [] (fixed u) p.1 p.2
-          (record { back = back; parts = refl; rest = rest; text = e; reached = tt });
-      text = e;
-    },
-    (refl, refl),
-  ),
-  p.2,
-)
-moves_along (m ∷ front) u back [] bytes rest p e = absurd p
-moves_along (m ∷ front) u back (i ∷ s) bytes rest p e =
-    let behind = marks_text front ++ (u ++ rest) in
-    let whole : bytes ≡ mark_text m ++ behind = e ∙ append_assoc (mark_text m) (marks_text front) (u ++ rest) in
-    let there = takes_along i m p.0 s (front ++ (fixed u ∷ back)) bytes (m ∷ front) (fixed u) p.1 p.2 (record { back = back; parts = refl; rest = rest; text = e; reached = tt }) in
-    let others = moves_along front u back (p.0 ++ s) behind rest p.2 refl in
-    (others.0, (p.0, behind, record { takes = p.1; there = there; text = whole }, others.1), others.2)
-
--- an opening and entries that are read, up to where the last line may stand
-pub along : (names : NameTable) (bytes : List ℕ) (o : Opening) (es : List PairEntry) (at : ℕ) (g : Gone names bytes o es at)
-    → (t : List Item) × Moves (read_marks (name_of names) g.uses g.shared g.answer o es) (opening ∷ []) bytes t g.rest × Path closing t []
-along names bytes o es at g =
-    let x = name_of names in
-    let c = certificate_for o es in
-    let ms = read_marks x g.uses g.shared g.answer o es in
-    let heading = heading_marks x g.uses g.shared in
-    let body = body_marks x g.uses g.answer c in
-    let whole : certificate_marks x g.uses g.shared g.answer c ≡ ms ++ closing = sym (append_assoc (answer_marks g.answer) (heading ++ body) closing
-    ∙ ap (λ (k : List Mark). answer_marks g.answer ++ k) (append_assoc heading body closing)) in
-    let skeleton : Skeleton = record {
-      names = x;
-      uses = g.uses;
-      shared = g.shared;
-      answer = g.answer;
-      certificate = c;
-      allowed = g.allowed;
-      named = subst HaveNames (sym whole)
-          (have_both ms closing g.spells.named tt);
-    } in
-    let end = read_end x g.uses g.shared g.answer o es in
-    let last = end.1 ∷ end.2 in
-    let path = subst (λ (k : List Mark). Path k (opening ∷ []) []) (whole ∙ ap (λ (k : List Mark). k ++ closing) end.3 ∙ append_assoc end.0 (fixed last ∷ []) closing) (skeleton_path skeleton) in
-    let spelt = ap marks_text end.3 ∙ text_both end.0 (fixed last ∷ []) ∙ ap (λ (w : List ℕ). marks_text end.0 ++ w) (append-nil last) in
-    let text : bytes ≡ marks_text end.0 ++ (last ++ g.rest) = g.text ∙ ap (λ (w : List ℕ). w ++ g.rest) spelt ∙ append_assoc (marks_text end.0) last g.rest in
-    let moved = moves_along end.0 last closing (opening ∷ []) bytes g.rest path text in
-    (moved.0, subst (λ (k : List Mark). Moves k (opening ∷ []) bytes moved.0 g.rest) (sym end.3) moved.1, moved.2)
 
 -- ---- two readers of the same bytes
-
--- the first gets to where the other is, or stays before
-pub data Meet (f g : List Mark) (t : List Item) (r : List ℕ) (u : List Item) (q : List ℕ) : Type 0 where
-  ahead : (more : List Mark) → g ≡ f ++ more → Moves more t r u q → Meet f g t r u q
-  behind_it : (m : Mark) (ms : List Mark) → f ≡ g ++ m ∷ ms → Moves (m ∷ ms) u q t r → Meet f g t r u q
-
-meet_more : (m n : Mark) (f g : List Mark) (t : List Item) (r : List ℕ) (u : List Item) (q : List ℕ) → m ≡ n → Meet f g t r u q → Meet (m ∷ f) (n ∷ g) t r u q
-meet_more m n f g t r u q e (ahead more p h) = ahead more (ap (λ (x : Mark). x ∷ g) (sym e) ∙ ap (λ (x : List Mark). m ∷ x) p) h
-meet_more m n f g t r u q e (behind_it k ms p h) = behind_it k ms (ap (λ (x : Mark). x ∷ f) e ∙ ap (λ (x : List Mark). n ∷ x) p) h
-
-pub meet : (f g : List Mark) (s t u : List Item) (b r q : List ℕ) → Moves f s b t r → Moves g s b u q → Meet f g t r u q
-meet [] g s t u b r q h k = ahead g refl (subst (λ (x : List Item). Moves g x r u q) h.0 (subst (λ (x : List ℕ). Moves g s x u q) h.1 k))
-meet (m ∷ f) [] s t u b r q h k = behind_it m f refl (subst (λ (x : List Item). Moves (m ∷ f) x q t r) k.0 (subst (λ (x : List ℕ). Moves (m ∷ f) s x t r) k.1 h))
-meet (m ∷ f) (n ∷ g) [] t u b r q h k = absurd h
-meet (m ∷ f) (n ∷ g) (i ∷ s) t u b r q h k =
-    let same = same_taken i m n h.0 k.0 b h.2.takes k.2.takes h.2.there k.2.there in
-    let rest : h.1 ≡ k.1 = append_cancel_left (mark_text m) h.1 k.1 (sym h.2.text ∙ k.2.text ∙ ap (λ (x : Mark). mark_text x ++ k.1) (sym same.marks)) in
-    meet_more m n f g t r u q same.marks (meet f g (h.0 ++ s) t u h.1 r q h.3
-    (subst (λ (x : List ℕ). Moves g (h.0 ++ s) x u q) (sym rest) (subst (λ (x : List Item). Moves g (x ++ s) k.1 u q) (sym same.items) k.3)))
 
 mark_read : (a : Lead) (w b : List ℕ) → IsWordOf (mode_of a) w → There a w b → mark_of a (take (taken a b) b) ≡ mark_of a w
 mark_read (text bytes items) w b h t = refl
@@ -166,12 +83,6 @@ step_by P i m new h each = subst P (sym h.items) (each_in P m (leads i) h.lead h
 
 -- ---- what stands below
 
-abbrev pub end_mark : Mark
-end_mark = word (codes "end") (shares all_used ∷ [])
-
-abbrev pub line_mark : Mark
-line_mark = fixed (codes "\n")
-
 lowest_behind : (k : Item) (ks : List Item) (j : Item) (s : List Item) → lowest k (ks ++ j ∷ s) ≡ lowest j s
 lowest_behind k [] j s = refl
 lowest_behind k (l ∷ ks) j s = lowest_behind l ks j s
@@ -195,24 +106,6 @@ module _ (P : Item → Type 0) (fits : Mark → Bool) (one : (i : Item) (m : Mar
   above_path (m ∷ ms) [] t f p x = absurd p
   above_path (m ∷ ms) (i ∷ s) t f p x = let both = and_parts (fits m) (all_fit fits ms) f in above_path ms (p.0 ++ s) t both.1 p.2 (above_step i s m p.0 both.0 p.1 x)
 
-nothing_else : (new s : List Item) → new ++ s ≡ [] → s ≡ []
-nothing_else [] s e = e
-nothing_else (i ∷ new) s e = absurd cc
-
--- where the last line may stand one item is left, if no such item begins with the end of a line
-module _ (P : Item → Type 0) (no_line : (i : Item) (new : List Item) → Takes i line_mark new → P i → ⊥) where
-  two_left : (j : Item) (s new : List Item) → P (lowest j s) → Path (line_mark ∷ []) (new ++ j ∷ s) [] → ⊥
-  two_left j s [] x p = no_line j p.0 p.1 (subst (λ (z : List Item). P (lowest j z)) (nothing_else p.0 s p.2) x)
-  two_left j s (k ∷ ks) x p = let none = nothing_else ks (j ∷ s) (nothing_else p.0 (ks ++ j ∷ s) p.2) in cc
-
-  pub one_left : (t : List Item) → AreAbove P t → Path closing t [] → (i : Item) × (t ≡ i ∷ []) × P i × ((new : List Item) × Takes i end_mark new)
-  one_left [] x p = absurd p
-  one_left (i ∷ []) (inl x) p = (i, refl, x, (p.0, p.1))
-  one_left (i ∷ j ∷ s) (inl x) p = absurd (two_left j s p.0 x p.2)
-  one_left (i ∷ []) (inr e) p = absurd (step_by (λ (y : List Item). ⊥) (between line) end_mark p.0
-      (subst (λ (z : Item). Takes z end_mark p.0) (same_item i (between line) e) p.1) ((λ w q. cc), tt))
-  one_left (i ∷ j ∷ s) (inr e) p = absurd cc
-
 -- an overlap is read, or the last line
 pub pair_step : (v : Version) (n k : ℕ) (m : Mark) (new : List Item) → n < suc k → Takes (pairs_from v k) m new → AreBehind v n (new ++ [])
 pair_step v n k m new less h = step_by (λ (x : List Item). AreBehind v n (x ++ [])) (pairs_from v k) m new h ((λ w e. inl (suc k, refl, less)), ((λ w e. inr refl), tt))
@@ -227,11 +120,9 @@ later_moves v n ms s t b r h x = above_path (IsBehind v n) (λ (m : Mark). true)
     each (m ∷ ms) = each ms
 
 -- where the last line may stand behind an overlap, a later overlap alone is left
-pub last_pair : (v : Version) (n : ℕ) (t : List Item) → AreBehind v n t → Path closing t [] → (m : ℕ) × (n < m) × (t ≡ pairs_from v m ∷ [])
-last_pair v n t x p =
-    let one = one_left (IsBehind v n)
-    (λ i new h y. step_by (λ (z : List Item). ⊥) (pairs_from v y.0) line_mark new (subst (λ (j : Item). Takes j line_mark new) y.1 h) ((λ w e. cc), ((λ w e. cc), tt))) t x p in
-    (one.2.0, one.2.2, one.1 ∙ ap (λ (i : Item). i ∷ []) one.2.1)
+pub last_pair : (v : Version) (n : ℕ) (i : Item) → AreBehind v n (i ∷ []) → (never_ends i ≡ true → ⊥) → IsBehind v n i
+last_pair v n i (inl x) e = x
+last_pair v n i (inr q) e = absurd (e (ap never_ends (same_item i (between line) q)))
 
 -- ---- behind an opening
 

@@ -1,5 +1,5 @@
 -- Where an opening stands, no reader stops within it.
-use Rattle.std.proofs.Common.{◌≡◌, inl, ℕ, ◌==◌, Bool, true, false, cond, List, [], ◌∷◌, ◌++◌, length, get_or, Option, Some, None, refl, sym, ap, ◌∙◌, subst}
+use Rattle.std.proofs.Common.{◌≡◌, ℕ, ◌==◌, Bool, true, false, cond, List, [], ◌∷◌, ◌++◌, length, get_or, Option, Some, None, refl, sym, ap, ◌∙◌, subst}
 use Rattle.certificates.specs.Evidence.{Automaton}
 use Rattle.cops_names.specs.NameTable.{NameTable}
 use Rattle.cert_grammar.specs.Prelude.{name_of, Version, first_version, second_version, Uses, in_full, by_number, version_of, CertificateCause, Naming, Mark, marks_text, body_marks}
@@ -8,14 +8,13 @@ use Rattle.cert_laws.proofs.Reached.{Moves, moves_path}
 use Rattle.cert_sharing.proofs.ExactShared.{At}
 use Rattle.cert_openings.specs.Openings.{BeginsEntry, Opening, certificate_for, IsRead, IsOpened}
 use Rattle.cert_openings.proofs.Lines.{apart}
-use Rattle.cert_openings.proofs.Opened.{gone, gone_rest}
+use Rattle.cert_openings.proofs.Opened.{gone, gone_rest, gone_along}
 use Rattle.cert_words.specs.Walks.{left_at}
 use Rattle.cert_words.proofs.Whole.{walks_at, start_at}
 use Rattle.cert_reading.specs.Stops.{BeginsList, WithinOpening, StopsWhere}
 use Rattle.cert_text.specs.ReadingView.{read_marks}
-use Rattle.cert_text.proofs.Low.{low_path, last_list}
-use Rattle.cert_text.proofs.EarlyMarks.{opening_early}
-use Rattle.cert_text.proofs.Ahead.{along, stops_ahead, later_moves, list_step}
+use Rattle.cert_text.proofs.Low.{last_list}
+use Rattle.cert_text.proofs.Ahead.{stops_ahead, later_moves, list_step}
 
 -- ---- an opening is gone along
 
@@ -35,15 +34,13 @@ version_in names bytes o end h = version_of (gone names bytes o [] end h).uses
 along_list : (names : NameTable) (bytes : List ℕ) (o : Opening) (end : ℕ) → (h : IsRead names bytes o [] end) → Along names bytes (version_in names bytes o end h) h.rest
 along_list names bytes o end h =
     let a = gone names bytes o [] end h in
+    let al = gone_along names bytes o [] end a in
     let ms = read_marks (name_of names) a.uses a.shared a.answer o [] in
-    let al = along names bytes o [] end a in
-    let low = last_list (version_of a.uses) al.0 (low_path (version_of a.uses) ms (opening ∷ []) al.0 (opening_early (name_of names) a.uses a.shared a.answer o)
-    (moves_path ms (opening ∷ []) al.0 bytes a.rest al.1) (inl tt)) al.2 in
     record {
       marks = ms;
-      item = low.0;
-      moves = subst (λ (r : List ℕ). Moves ms (opening ∷ []) bytes (low.0 ∷ []) r) (gone_rest names bytes o [] end h) (subst (λ (k : List Item). Moves ms (opening ∷ []) bytes k a.rest) low.1 al.1);
-      is_list = low.2;
+      item = al.item;
+      moves = subst (λ (r : List ℕ). Moves ms (opening ∷ []) bytes (al.item ∷ []) r) (gone_rest names bytes o [] end h) al.moves;
+      is_list = last_list (name_of names) a.uses a.shared a.answer o al.item (moves_path ms (opening ∷ []) (al.item ∷ []) bytes a.rest al.moves) al.may_end;
       passed = a.spells.passed;
       shares = a.pass_shared;
     }

@@ -11,15 +11,16 @@ use Rattle.cert_laws.proofs.FirstRefusals.{read_of, lead_move}
 use Rattle.cert_sharing.proofs.UseMarks.{behind_both}
 use Rattle.cert_openings.specs.Openings.{Opening, uses_with, IsRead}
 use Rattle.cert_openings.proofs.Lines.{bytes_apart}
-use Rattle.cert_openings.proofs.Opened.{Gone, gone, gone_rest}
+use Rattle.cert_openings.proofs.Along.{Meet, ahead, behind_it, meet}
+use Rattle.cert_openings.proofs.OpeningMarks.{read_more}
+use Rattle.cert_openings.proofs.Opened.{Gone, gone, gone_rest, gone_along}
 use Rattle.cert_openings.proofs.OneReading.{one_reading}
 use Rattle.cert_shares.specs.SharesView.{with_begun}
 use Rattle.cert_words.specs.Walks.{left_at, Walks, RefusesAt}
 use Rattle.cert_words.proofs.Walking.{same_begun, goes_where}
 use Rattle.cert_reading.specs.Stops.{AreBehind, BeginsList, WithinEntry, StopsWhere}
 use Rattle.cert_text.specs.ReadingView.{place_of, EndsMeasure, IsNext, read_marks, IsUpTo}
-use Rattle.cert_text.proofs.Ends.{read_more}
-use Rattle.cert_text.proofs.Ahead.{along, Meet, ahead, behind_it, meet, stops_ahead, pair_step, later_moves, last_pair, list_step}
+use Rattle.cert_text.proofs.Ahead.{stops_ahead, pair_step, later_moves, last_pair, list_step}
 use Rattle.cert_text.proofs.SameMarks.{no_front}
 
 -- ---- moves
@@ -85,8 +86,8 @@ module _ (v : Version) (shared : List Automaton) (names : NameTable) (bytes left
   pub one_rest : (at : ℕ) (r : IsRead names bytes u.opening u.entries at) → r.rest ≡ left
   one_rest at r =
       let a = gone names bytes u.opening u.entries at r in
-      let al = along names bytes u.opening u.entries at a in
-      sym (gone_rest names bytes u.opening u.entries at r) ∙ (comes_here u.entries at a al.0 a.rest al.1).1
+      let al = gone_along names bytes u.opening u.entries at a in
+      sym (gone_rest names bytes u.opening u.entries at r) ∙ (comes_here u.entries at a (al.item ∷ []) a.rest al.moves).1
 
   -- an entry that is read more, as it stands behind the same opening and entries
   abbrev More : PairEntry → Type 0
@@ -115,17 +116,17 @@ module _ (v : Version) (shared : List Automaton) (names : NameTable) (bytes left
   entry_there p place a =
       let x = name_of names in
       let more = pairs_marks x a.uses (suc (length u.entries)) (p ∷ []) in
-      let al = along names bytes u.opening (u.entries ++ p ∷ []) place a in
-      let parts = moves_split (read_marks x a.uses a.shared a.answer u.opening u.entries) more (opening ∷ []) al.0 bytes a.rest
-      (subst (λ (k : List Mark). Moves k (opening ∷ []) bytes al.0 a.rest) (sym (read_more x a.uses a.shared a.answer u.opening u.entries p)) al.1) in
+      let al = gone_along names bytes u.opening (u.entries ++ p ∷ []) place a in
+      let parts = moves_split (read_marks x a.uses a.shared a.answer u.opening u.entries) more (opening ∷ []) (al.item ∷ []) bytes a.rest
+      (subst (λ (k : List Mark). Moves k (opening ∷ []) bytes (al.item ∷ []) a.rest) (sym (read_more x a.uses a.shared a.answer u.opening u.entries p)) al.moves) in
       let same = comes_here (u.entries ++ p ∷ []) place a parts.0 parts.1 parts.2 in
-      let on = subst (λ (s : List Item). Moves more s left al.0 a.rest) same.0 (subst (λ (q : List ℕ). Moves more parts.0 q al.0 a.rest) same.1 parts.3) in
-      let behind = entry_behind more al.0 a.rest _ _ refl on in
-      let low = last_pair v (suc count) al.0 behind.0 al.2 in
+      let on = subst (λ (s : List Item). Moves more s left (al.item ∷ []) a.rest) same.0 (subst (λ (q : List ℕ). Moves more parts.0 q (al.item ∷ []) a.rest) same.1 parts.3) in
+      let behind = entry_behind more (al.item ∷ []) a.rest _ _ refl on in
+      let low = last_pair v (suc count) al.item behind.0 al.may_end in
       record {
         number = low.0;
-        later = low.1;
-        moves = subst (λ (t : List Item). Moves (read_marks x a.uses a.shared a.answer u.opening (u.entries ++ p ∷ [])) (opening ∷ []) bytes t a.rest) low.2 al.1;
+        later = low.2;
+        moves = subst (λ (i : Item). Moves (read_marks x a.uses a.shared a.answer u.opening (u.entries ++ p ∷ [])) (opening ∷ []) bytes (i ∷ []) a.rest) low.1 al.moves;
         no_end = λ w e. bytes_apart 112 101 _ _ refl (sym behind.2 ∙ e);
       }
 

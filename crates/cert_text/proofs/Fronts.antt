@@ -4,15 +4,14 @@ use Rattle.std.proofs.lemmas.List.{append-nil}
 use Rattle.certificates.specs.Prelude.{Automaton, PairEntry, Simplification, Certificate, simplified_certificate}
 use Rattle.cops_names.specs.NameTable.{NameTable}
 use Rattle.cert_grammar.specs.Prelude.{name_of, Version, first_version, second_version, Uses, number_in, CertificateCause, Naming, Mark, fixed, marks_text, answer_marks, heading_marks}
-use Rattle.cert_grammar.specs.Prelude.{body_marks, closing, certificate_marks, HaveNames, Item, opening, between, line, Shared, nothing_shared}
+use Rattle.cert_grammar.specs.Prelude.{body_marks, closing, certificate_marks, HaveNames, Item, opening, between, line, nothing_shared}
 use Rattle.cert_laws.proofs.Spelt.{have_append, text_both}
 use Rattle.cert_sharing.proofs.UseMarks.{AreStill, counts_still}
-use Rattle.cert_openings.specs.Openings.{IsLine, IsKindLine, AreHeadingLines, lines_text, Opening, certificate_for, uses_with, IsOpeningEnd, IsOpened}
-use Rattle.cert_openings.proofs.Lines.{line_same, kind_line}
-use Rattle.cert_openings.proofs.EntryLines.{other}
-use Rattle.cert_openings.proofs.OwnLines.{Own, no_lines, own_both, own_answer, own_heading, own_simplify}
+use Rattle.cert_openings.specs.Openings.{lines_text, Opening, certificate_for, uses_with, IsOpeningEnd, IsOpened}
+use Rattle.cert_openings.proofs.Lines.{no_peak}
+use Rattle.cert_openings.proofs.OwnLines.{Own, no_lines, own_marks, own_front, own_simplify}
 use Rattle.cert_sharing.proofs.SpeltShares.{same_version}
-use Rattle.cert_openings.proofs.Bare.{openings_end, no_peak}
+use Rattle.cert_openings.proofs.Bare.{openings_end}
 use Rattle.cert_openings.proofs.BadOpenings.{bad_openings_are_refused}
 use Rattle.cert_words.specs.declared.error.CertError.{CertError}
 use Rattle.cert_words.specs.declared.reading.Reading.{Reading}
@@ -104,47 +103,24 @@ same_told : {P : Place} {names : NameTable} {end : ℕ} {from to : List Item} {f
     → s.refused ≡ Some d → t.refused ≡ Some e → told e ≡ told d
 same_told h d e p q = rw (p, q) at h.on
 
--- ---- a line `peak` before each line that tells a kind
-
-peak_is_line : IsLine (codes "peak")
-peak_is_line = (other 112 refl, (other 101 refl, (other 97 refl, (other 107 refl, tt))))
-
-past_peak : (ls ks : List (List ℕ)) (k r z : List ℕ) → AreHeadingLines ls → AreHeadingLines ks → IsKindLine k → lines_text ls ++ (codes "peak" ++ 10 ∷ r) ≡ lines_text ks ++ (k ++ 10 ∷ z) → ⊥
-past_peak [] [] k r z h j a e = no_peak (subst IsKindLine (sym (line_same (codes "peak") k r z peak_is_line (kind_line k a) e).0) a)
-past_peak [] (l ∷ ks) k r z h j a e = j.2 (sym (line_same (codes "peak") l r (lines_text ks ++ (k ++ 10 ∷ z)) peak_is_line j.0 (e ∙ append_assoc l (10 ∷ lines_text ks) (k ++ 10 ∷ z))).0)
-past_peak (l ∷ ls) [] k r z h j a e = h.1
-    (subst IsKindLine (sym (line_same l k (lines_text ls ++ (codes "peak" ++ 10 ∷ r)) z h.0 (kind_line k a)
-    (sym (append_assoc l (10 ∷ lines_text ls) (codes "peak" ++ 10 ∷ r)) ∙ e)).0) a)
-past_peak (l ∷ ls) (m ∷ ks) k r z h j a e =
-    let q = line_same l m (lines_text ls ++ (codes "peak" ++ 10 ∷ r)) (lines_text ks ++ (k ++ 10 ∷ z)) h.0 j.0 (sym (append_assoc l (10 ∷ lines_text ls) (codes "peak" ++ 10 ∷ r))
-    ∙ e ∙ append_assoc m (10 ∷ lines_text ks) (k ++ 10 ∷ z)) in
-    past_peak ls ks k r z h.3 j.3 a q.1
-
-pub peak_no_end : (bytes w r : List ℕ) (end : ℕ) → Own w → bytes ≡ w ++ (codes "peak" ++ 10 ∷ r) → IsOpeningEnd bytes end → ⊥
-peak_no_end bytes w r end own text h = past_peak own.lines h.heading h.kind r (lines_text h.lines ++ h.rest) own.are h.are_heading h.is_kind
-    (ap (λ (v : List ℕ). v ++ (codes "peak" ++ 10 ∷ r)) (sym own.text) ∙ sym text ∙ h.text)
-
 -- the lines before a body tell no kind
-own_joined : (a b : List Mark) → Own (marks_text a) → Own (marks_text b) → Own (marks_text (a ++ b))
-own_joined a b h k = subst Own (sym (text_both a b)) (own_both (marks_text a) (marks_text b) h k)
-
 own_before : (v : Version) (names : NameTable) (shared : List Automaton) (steps : Option (List Simplification)) → CanStep v shared steps
     → Own (marks_text (steps_marks (name_of names) (uses_with v names shared) steps))
 own_before v names shared None h = no_lines
 own_before first_version names shared (Some ss) h = let e = h.0 in absurd cc
 own_before second_version names shared (Some ss) h = own_simplify ss (name_of names) (number_in names shared)
 
-own_front : (v : Version) (names : NameTable) (shared : List Automaton) (given : Option Bool) (steps : Option (List Simplification)) (further : List Mark) → CanStep v shared steps
+own_lines : (v : Version) (names : NameTable) (shared : List Automaton) (given : Option Bool) (steps : Option (List Simplification)) (further : List Mark) → CanStep v shared steps
     → HaveNames (front_marks (name_of names) (uses_with v names shared) shared given steps ++ further)
     → Own (marks_text (front_marks (name_of names) (uses_with v names shared) shared given steps))
-own_front v names shared given steps further can named =
+own_lines v names shared given steps further can named =
     let x = name_of names in
     let w = uses_with v names shared in
     let heading = heading_marks x w shared in
     let ms = steps_marks x w steps in
     let front = (have_append (answer_marks given ++ (heading ++ ms)) further named).0 in
     let parts = have_append heading ms (have_append (answer_marks given) (heading ++ ms) front).1 in
-    own_joined (answer_marks given) (heading ++ ms) (own_answer given) (own_joined heading ms (own_heading w shared x parts.0) (own_before v names shared steps can))
+    rw (← append_assoc) (own_marks (answer_marks given ++ heading) ms (own_front x w shared given parts.0) (own_before v names shared steps can))
 
 module _ {names : NameTable} {bytes : List ℕ} {v : Version} {shared : List Automaton} {given : Option Bool} {steps : Option (List Simplification)} {further : List Mark}
     {items : List Item} {s : Reading} (b : IsBegun names bytes v shared given steps further items s) where
@@ -229,7 +205,9 @@ module _ {names : NameTable} {bytes : List ℕ} {v : Version} {shared : List Aut
       let line = kind_mark given Peak ∷ fixed (codes "\n") ∷ [] in
       let text : bytes ≡ marks_text front ++ (codes "peak" ++ 10 ∷ s.left.now) = walks_text names (front ++ line) _ _ w ∙ ap (λ (z : List ℕ). z ++ s.left.now)
       (text_both front line) ∙ append_assoc (marks_text front) (codes "peak\n") s.left.now in
-      peak_no_end bytes (marks_text front) s.left.now end (own_front v names shared given steps line (b.can_step none) (walks_named names (front ++ line) _ _ w)) text h
+      let own = own_lines v names shared given steps line (b.can_step none) (walks_named names (front ++ line) _ _ w) in
+      no_peak own.lines h.heading h.kind s.left.now (lines_text h.lines ++ h.rest) own.are h.are_heading h.is_kind
+      (ap (λ (z : List ℕ). z ++ (codes "peak" ++ 10 ∷ s.left.now)) (sym own.text) ∙ sym text ∙ h.text)
 
   pub none_at_peak : {f : Naming → List Mark} {to : List Item} {t : Reading} (e : CertError) → t.refused ≡ Some e → Reads names (length bytes) items f to s t
       → (x : CertificateCause × ℕ) → told e ≡ Some x → (o : Opening) (end : ℕ) → IsOpened names bytes o end → ⊥

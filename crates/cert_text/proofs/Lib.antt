@@ -1,8 +1,6 @@
 pub mod Runs
-pub mod Ends
 pub mod Ahead
 pub mod Low
-pub mod EarlyMarks
 pub mod Begun
 pub mod Advancing
 pub mod OpenedViews

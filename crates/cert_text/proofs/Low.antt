@@ -1,14 +1,22 @@
 -- The item below the others, up to the end of an opening.
-use Rattle.std.proofs.Common.{◌≡◌, inl, inr, ℕ, zero, suc, Bool, true, false, not, cond, List, [], ◌∷◌, ◌++◌, Option, codes, refl, sym, ap, ◌∙◌, subst}
-use Rattle.cert_grammar.specs.Prelude.{Version, first_version, second_version, Demand, all_used, fits_answer, shares, Mark, fixed, word, closing, value, same_bytes, Item, opening, heading}
+use Rattle.std.proofs.Common.{◌≡◌, inl, inr, ℕ, zero, suc, Bool, true, false, not, List, [], ◌∷◌, ◌++◌, length, Option, Some, None, codes, refl, sym, ap, ◌∙◌, subst}
+use Rattle.std.proofs.lemmas.Bool.{and_parts}
+use Rattle.certificates.specs.Prelude.{Automaton}
+use Rattle.cert_grammar.specs.Prelude.{Version, first_version, second_version, Uses, in_full, by_number, version_of, Naming, Demand, fits_answer, Mark, fixed, demands_of, value, same_bytes}
+use Rattle.cert_grammar.specs.Prelude.{measure_marks, simplifications_marks, body_marks, answer_marks, automata_marks, number_for, shared_automata, Item, opening, heading, between, line}
 use Rattle.cert_grammar.specs.Prelude.{shared_line, shared_count, automata_left, automaton_end, simplified, body, pairs_from, entries_from, heads_from, measure, behind_automata, body_leads}
+use Rattle.cert_laws.proofs.Asking.{measure_asks, simplifications_ask}
 use Rattle.cert_laws.proofs.Paths.{Takes, Path}
+use Rattle.cert_openings.specs.Openings.{Opening, ortho_opening, quasi_opening, simplified_opening, certificate_for}
+use Rattle.cert_openings.proofs.Along.{never_ends}
+use Rattle.cert_openings.proofs.Late.{IsInBody, judges, NoKind, none_both, late_none, heading_none}
 use Rattle.cert_reading.specs.Stops.{AreAbove, BeginsList}
-use Rattle.cert_text.proofs.Ahead.{Each, step_by, end_mark, line_mark, all_fit, above_path, one_left}
+use Rattle.cert_reading.proofs.Opening.{same_item}
+use Rattle.cert_text.specs.ReadingView.{read_marks}
+use Rattle.cert_text.proofs.Ahead.{Each, step_by, all_fit, above_path}
 
-abbrev pub IsLow : Version → Item → Type 0
-IsLow v opening = Unit {0}
-IsLow v (heading g) = Unit {0}
+-- behind the first line
+abbrev IsLow : Version → Item → Type 0
 IsLow v (shared_line g) = v ≡ second_version
 IsLow v (shared_count g) = v ≡ second_version
 IsLow v (automata_left n g) = v ≡ second_version
@@ -21,31 +29,18 @@ IsLow v (entries_from u n) = v ≡ u
 IsLow v (heads_from n) = v ≡ second_version
 IsLow v _ = ⊥
 
--- ---- one mark, which is neither the word of a peak nor the first line of the other version
+-- ---- one mark, which is not the word of a peak
 
 abbrev asks_peak : List Demand → Bool
+asks_peak [] = false
 asks_peak (fits_answer told given ∷ ds) = not told
-asks_peak _ = false
+asks_peak (_ ∷ ds) = asks_peak ds
 
-abbrev is_first : Version → Bool
-is_first first_version = true
-is_first second_version = false
-
-abbrev pub is_early : Version → Mark → Bool
-is_early v (fixed bytes) = cond (same_bytes bytes (codes "concon 1\n")) (is_first v) (cond (same_bytes bytes (codes "concon 2\n")) (not (is_first v)) true)
-is_early v (word bytes ds) = not (asks_peak ds)
-is_early v _ = true
+abbrev is_early : Mark → Bool
+is_early m = not (asks_peak (demands_of m))
 
 apart : {m n : Mark} (test : Mark → Bool) → test m ≡ true → m ≡ n → test n ≡ false → {A : Type 0} → A
 apart test h e k = let both : true ≡ false = sym h ∙ ap test e ∙ k in absurd cc
-
-told_first : (v : Version) (m : Mark) → is_early v m ≡ true → m ≡ fixed (codes "concon 1\n") → v ≡ first_version
-told_first first_version m h e = refl
-told_first second_version m h e = apart (is_early second_version) h e refl
-
-told_second : (v : Version) (m : Mark) → is_early v m ≡ true → m ≡ fixed (codes "concon 2\n") → v ≡ second_version
-told_second first_version m h e = apart (is_early first_version) h e refl
-told_second second_version m h e = refl
 
 automata_low : (v : Version) (n : ℕ) (g : Option Bool) → v ≡ second_version → IsLow v (behind_automata n g)
 automata_low v zero g e = e
@@ -54,12 +49,10 @@ automata_low v (suc n) g e = e
 abbrev New : Version → List Item → Type 0
 New v new = AreAbove (IsLow v) (new ++ [])
 
-body_low : (v u : Version) (g : Option Bool) (m : Mark) → is_early v m ≡ true → v ≡ u → Each (New v) m (body_leads u g)
-body_low v u g m f x = ((λ w e. inl x), ((λ w e. inl x), ((λ w e. apart (is_early v) f e refl), tt)))
+body_low : (v u : Version) (g : Option Bool) (m : Mark) → is_early m ≡ true → v ≡ u → Each (New v) m (body_leads u g)
+body_low v u g m f x = ((λ w e. inl x), ((λ w e. inl x), ((λ w e. apart is_early f e refl), tt)))
 
-one_low : (v : Version) (i : Item) (m : Mark) (new : List Item) → is_early v m ≡ true → Takes i m new → IsLow v i → New v new
-one_low v opening m new f h x = step_by (New v) opening m new h ((λ w e. inl tt), ((λ w e. inl tt), ((λ w e. inl (told_first v m f e)), ((λ w e. inl (told_second v m f e)), tt))))
-one_low v (heading g) m new f h x = step_by (New v) (heading g) m new h ((λ w e. inl (told_first v m f e)), ((λ w e. inl (told_second v m f e)), tt))
+one_low : (v : Version) (i : Item) (m : Mark) (new : List Item) → is_early m ≡ true → Takes i m new → IsLow v i → New v new
 one_low v (shared_line g) m new f h x = step_by (New v) (shared_line g) m new h ((λ w e. inl x), tt)
 one_low v (shared_count g) m new f h x = step_by (New v) (shared_count g) m new h ((λ w e. inl (automata_low v (value w) g x)), tt)
 one_low v (automata_left n g) m new f h x = step_by (New v) (automata_left n g) m new h ((λ w e. inl x), tt)
@@ -73,18 +66,111 @@ one_low v (entries_from u n) m new f h x = step_by (New v) (entries_from u n) m 
 one_low v (heads_from n) m new f h x = step_by (New v) (heads_from n) m new h ((λ w e. inl x), ((λ w e. inl x), ((λ w e. inl x), ((λ w e. inr refl), tt))))
 one_low v _ m new f h x = absurd x
 
-pub low_path : (v : Version) (ms : List Mark) (s t : List Item) → all_fit (is_early v) ms ≡ true → Path ms s t → AreAbove (IsLow v) s → AreAbove (IsLow v) t
-low_path v = above_path (IsLow v) (is_early v) (one_low v)
+-- ---- the marks of an opening
 
--- ---- the marks of the last line: its word is one of lists alone, and no such item begins with the end of a line
+abbrev Early : List Mark → Type 0
+Early ms = all_fit is_early ms ≡ true
 
-abbrev is_line : Mark → Bool
-is_line (fixed bytes) = same_bytes bytes (codes "\n")
-is_line _ = false
+no_peak : (ds : List Demand) → judges ds ≡ false → asks_peak ds ≡ false
+no_peak [] e = refl
+no_peak (fits_answer told given ∷ ds) e = absurd cc
+no_peak (_ ∷ ds) e = no_peak ds e
 
-abbrev is_last : Mark → Bool
-is_last (word bytes (shares all_used ∷ ds)) = true
-is_last m = is_line m
+early : (ms : List Mark) → NoKind ms → Early ms
+early [] h = refl
+early (m ∷ ms) h = rw (no_peak (demands_of m) h.0) (early ms h.1)
+
+both : (a b : List Mark) → Early a → Early b → Early (a ++ b)
+both [] b h k = k
+both (m ∷ a) b h k = let parts = and_parts (is_early m) (all_fit is_early a) h in rw parts.0 (both a b parts.1 k)
+
+body_early : (o : Opening) (x : Naming) (u : Uses) (g : Option Bool) → Early (body_marks x u g (certificate_for o []))
+body_early ortho_opening x u g = refl
+body_early (quasi_opening m) x u g = early _ (none_both (measure_marks x m) [] (late_none (measure_marks x m) (measure_asks ⊥ IsInBody m x)) tt)
+body_early (simplified_opening ss o) x u g =
+    let steps = simplifications_marks x u ss in
+    both steps _ (early steps (late_none steps (simplifications_ask ⊥ IsInBody tt (λ n. tt) (λ n. tt) ss x u))) (body_early o x u g)
+
+-- ---- the first line tells the version
+
+abbrev first_line : Version → List ℕ
+first_line first_version = codes "concon 1\n"
+first_line second_version = codes "concon 2\n"
+
+abbrev is_bytes : List ℕ → Mark → Bool
+is_bytes bytes (fixed own) = same_bytes own bytes
+is_bytes bytes _ = false
+
+heading_low : (v : Version) (g : Option Bool) (new : List Item) → Takes (heading g) (fixed (first_line v)) new → New v new
+heading_low first_version g new h = step_by (New first_version) (heading g) _ new h ((λ w e. inl refl), ((λ w e. apart (is_bytes (codes "concon 1\n")) refl e refl), tt))
+heading_low second_version g new h = step_by (New second_version) (heading g) _ new h ((λ w e. apart (is_bytes (codes "concon 2\n")) refl e refl), ((λ w e. inl refl), tt))
+
+opening_low : (v : Version) (new : List Item) → Takes opening (fixed (first_line v)) new → New v new
+opening_low first_version new h =
+    step_by (New first_version) opening _ new h (
+      (λ w e. apart (is_bytes (codes "concon 1\n")) refl e refl),
+      (
+        (λ w e. apart (is_bytes (codes "concon 1\n")) refl e refl),
+        ((λ w e. inl refl), ((λ w e. apart (is_bytes (codes "concon 1\n")) refl e refl), tt)),
+      ),
+    )
+opening_low second_version new h =
+    step_by (New second_version) opening _ new h (
+      (λ w e. apart (is_bytes (codes "concon 2\n")) refl e refl),
+      (
+        (λ w e. apart (is_bytes (codes "concon 2\n")) refl e refl),
+        ((λ w e. apart (is_bytes (codes "concon 2\n")) refl e refl), ((λ w e. inl refl), tt)),
+      ),
+    )
+
+abbrev Headed : List Item → Type 0
+Headed new = (g : Option Bool) × (new ≡ heading g ∷ [])
+
+yes_low : (new : List Item) → Takes opening (fixed (codes "YES\n")) new → Headed new
+yes_low new h = step_by Headed opening _ new h (
+  (λ w e. (Some true, refl)),
+  (
+    (λ w e. (Some false, refl)),
+    (
+      (λ w e. apart (is_bytes (codes "YES\n")) refl e refl),
+      ((λ w e. apart (is_bytes (codes "YES\n")) refl e refl), tt),
+    ),
+  ),
+)
+
+no_low : (new : List Item) → Takes opening (fixed (codes "NO\n")) new → Headed new
+no_low new h = step_by Headed opening _ new h (
+  (λ w e. (Some true, refl)),
+  (
+    (λ w e. (Some false, refl)),
+    (
+      (λ w e. apart (is_bytes (codes "NO\n")) refl e refl),
+      ((λ w e. apart (is_bytes (codes "NO\n")) refl e refl), tt),
+    ),
+  ),
+)
+
+-- behind it all is low
+low_behind : (v : Version) (i : Item) (ms : List Mark) (t : List Item) → ((new : List Item) → Takes i (fixed (first_line v)) new → New v new) → Early ms → Path (fixed (first_line v) ∷ ms) (i ∷ []) t
+    → AreAbove (IsLow v) t
+low_behind v i ms t f e p = above_path (IsLow v) is_early (one_low v) ms (p.0 ++ []) t e p.2 (f p.0 p.1)
+
+headed_low : (v : Version) (new : List Item) (ms : List Mark) (t : List Item) → Headed new → Early ms → Path (fixed (first_line v) ∷ ms) (new ++ []) t → AreAbove (IsLow v) t
+headed_low v new ms t h e p = low_behind v (heading h.0) ms t (heading_low v h.0) e (subst (λ (x : List Item). Path (fixed (first_line v) ∷ ms) (x ++ []) t) h.1 p)
+
+answer_low : (g : Option Bool) (v : Version) (ms : List Mark) (t : List Item) → Early ms → Path (answer_marks g ++ fixed (first_line v) ∷ ms) (opening ∷ []) t → AreAbove (IsLow v) t
+answer_low None v ms t e p = low_behind v opening ms t (opening_low v) e p
+answer_low (Some true) v ms t e p = headed_low v p.0 ms t (yes_low p.0 p.1) e p.2
+answer_low (Some false) v ms t e p = headed_low v p.0 ms t (no_low p.0 p.1) e p.2
+
+read_low : (u : Uses) (x : Naming) (bs : List Automaton) (g : Option Bool) (o : Opening) (t : List Item) → Path (read_marks x u bs g o []) (opening ∷ []) t → AreAbove (IsLow (version_of u)) t
+read_low in_full x bs g o t p = answer_low g first_version _ t (body_early o x in_full g) p
+read_low (by_number f) x bs g o t p =
+    let lines = fixed (codes "shared ") ∷ number_for shared_automata (length bs) ∷ fixed (codes "\n") ∷ automata_marks x bs in
+    let body = body_marks x (by_number f) g (certificate_for o []) in
+    answer_low g second_version (lines ++ body) t (both lines body (early lines (heading_none (by_number f) bs x).1) (body_early o x (by_number f) g)) p
+
+-- ---- one list is left
 
 list_pairs : (v u : Version) (n : ℕ) → v ≡ u → BeginsList v (pairs_from u (suc n))
 list_pairs first_version u n e = inr (n, ap (λ (w : Version). pairs_from w (suc n)) (sym e))
@@ -94,43 +180,24 @@ list_entries : (v u : Version) (n : ℕ) → v ≡ u → BeginsList v (entries_f
 list_entries first_version u n e = inl (n, ap (λ (w : Version). entries_from w n) (sym e))
 list_entries second_version u n e = inl (n, ap (λ (w : Version). entries_from w n) (sym e))
 
-abbrev Last : Version → Item → Mark → List Item → Type 0
-Last v i m new = BeginsList v i × (is_line m ≡ false)
+low_list : (v : Version) (i : Item) → IsLow v i → (never_ends i ≡ true → ⊥) → BeginsList v i
+low_list v (pairs_from u (suc n)) x f = list_pairs v u n x
+low_list v (entries_from u n) x f = list_entries v u n x
+low_list v (heads_from n) x f = subst (λ (u : Version). BeginsList u (heads_from n)) (sym x) (inr (inr (n, refl)))
+low_list v (shared_line g) x f = absurd (f refl)
+low_list v (shared_count g) x f = absurd (f refl)
+low_list v (automata_left n g) x f = absurd (f refl)
+low_list v (automaton_end n g) x f = absurd (f refl)
+low_list v (simplified g) x f = absurd (f refl)
+low_list v (body u g) x f = absurd (f refl)
+low_list v (measure first_version) x f = absurd (f refl)
+low_list v (measure second_version) x f = absurd (f refl)
+low_list v _ x f = absurd x
 
-none_body : (v u : Version) (i : Item) (m : Mark) (g : Option Bool) → is_last m ≡ true → Each (Last v i m) m (body_leads u g)
-none_body v u i m g l = ((λ w e. apart is_last l e refl), ((λ w e. apart is_last l e refl), ((λ w e. apart is_last l e refl), tt)))
-
-one_last : (v : Version) (i : Item) (m : Mark) (new : List Item) → is_last m ≡ true → Takes i m new → IsLow v i → Last v i m new
-one_last v opening m new l h x = step_by (Last v opening m) opening m new h
-    ((λ w e. apart is_last l e refl), ((λ w e. apart is_last l e refl), ((λ w e. apart is_last l e refl), ((λ w e. apart is_last l e refl), tt))))
-one_last v (heading g) m new l h x = step_by (Last v (heading g) m) (heading g) m new h ((λ w e. apart is_last l e refl), ((λ w e. apart is_last l e refl), tt))
-one_last v (shared_line g) m new l h x = step_by (Last v (shared_line g) m) (shared_line g) m new h ((λ w e. apart is_last l e refl), tt)
-one_last v (shared_count g) m new l h x = step_by (Last v (shared_count g) m) (shared_count g) m new h ((λ w e. apart is_last l e refl), tt)
-one_last v (automata_left n g) m new l h x = step_by (Last v (automata_left n g) m) (automata_left n g) m new h ((λ w e. apart is_last l e refl), tt)
-one_last v (automaton_end n g) m new l h x = step_by (Last v (automaton_end n g) m) (automaton_end n g) m new h ((λ w e. apart is_last l e refl), tt)
-one_last v (simplified g) m new l h x = step_by (Last v (simplified g) m) (simplified g) m new h ((λ w e. apart is_last l e refl), none_body v second_version (simplified g) m g l)
-one_last v (body u g) m new l h x = step_by (Last v (body u g) m) (body u g) m new h (none_body v u (body u g) m g l)
-one_last v (measure first_version) m new l h x = step_by (Last v (measure first_version) m) (measure first_version) m new h ((λ w e. apart is_last l e refl), tt)
-one_last v (measure second_version) m new l h x = step_by (Last v (measure second_version) m) (measure second_version) m new h
-    ((λ w e. apart is_last l e refl), ((λ w e. apart is_last l e refl), tt))
-one_last v (pairs_from u (suc n)) m new l h x = step_by (Last v (pairs_from u (suc n)) m) (pairs_from u (suc n)) m new h
-    ((λ w e. apart is_last l e refl), ((λ w e. (list_pairs v u n x, ap is_line e)), tt))
-one_last v (entries_from u n) m new l h x = step_by (Last v (entries_from u n) m) (entries_from u n) m new h
-    ((λ w e. apart is_last l e refl), ((λ w e. apart is_last l e refl), ((λ w e. apart is_last l e refl), ((λ w e. (list_entries v u n x, ap is_line e)), tt))))
-one_last v (heads_from n) m new l h x = step_by (Last v (heads_from n) m) (heads_from n) m new h (
-  (λ w e. apart is_last l e refl),
-  (
-    (λ w e. apart is_last l e refl),
-    (
-      (λ w e. apart is_last l e refl),
-      ((λ w e. (subst (λ (u : Version). BeginsList u (heads_from n)) (sym x) (inr (inr (n, refl))), ap is_line e)), tt),
-    ),
-  ),
-)
-one_last v _ m new l h x = absurd x
-
--- one list is left
-pub last_list : (v : Version) (t : List Item) → AreAbove (IsLow v) t → Path closing t [] → (item : Item) × (t ≡ item ∷ []) × BeginsList v item
-last_list v t x p =
-    let one = one_left (IsLow v) (λ i new h y. let none : true ≡ false = (one_last v i line_mark new refl h y).1 in absurd cc) t x p in
-    (one.0, one.1, (one_last v one.0 end_mark one.3.0 refl one.3.1 one.2).0)
+pub last_list : (x : Naming) (u : Uses) (bs : List Automaton) (g : Option Bool) (o : Opening) (i : Item) → Path (read_marks x u bs g o []) (opening ∷ []) (i ∷ []) → (never_ends i ≡ true → ⊥)
+    → BeginsList (version_of u) i
+last_list x u bs g o i p f = by (read_low u x bs g o (i ∷ []) p)
+  where
+    by : AreAbove (IsLow (version_of u)) (i ∷ []) → BeginsList (version_of u) i
+    by (inl y) = low_list (version_of u) i y f
+    by (inr e) = absurd (f (ap never_ends (same_item i (between line) e)))

@@ -1,0 +1,229 @@
+-- Where the last line may stand one item is left, and the marks before it end in bytes: whatever stands behind these bytes, a reader goes along them.
+use Rattle.std.proofs.Common.{◌≡◌, inl, inr, ℕ, zero, Bool, true, false, not, cond, ◌&&◌, List, [], ◌∷◌, ◌++◌, refl, sym, ap, ◌∙◌, subst, codes, append_assoc, append-nil}
+use Rattle.std.proofs.lemmas.Bool.{and_parts}
+use Rattle.std.proofs.lemmas.List.{append_cancel_left}
+use Rattle.cert_grammar.specs.Prelude.{all_used, shares, same_bytes, Mark, fixed, word, mark_text, marks_text, closing, GoesTo, IsReached, Skeleton, marks_of, Item, opening, between, space, line}
+use Rattle.cert_grammar.specs.Prelude.{automaton_end, any_number, any_position, measure, evidence, infeasibility, node, name_behind, term_behind, term_closed, Lead, text}
+use Rattle.cert_grammar.specs.Prelude.{keyword, numeral_lead, position_lead, variable_lead, leads, first_version, mode_of, mark_of, items_of, number_begins, place_begins, bar_begins}
+use Rattle.cert_grammar.proofs.ScanLaws.{IsWordOf}
+use Rattle.cert_laws.proofs.LeadTables.{In}
+use Rattle.cert_laws.proofs.Moves.{takes_along}
+use Rattle.cert_laws.proofs.Paths.{Takes, Path}
+use Rattle.cert_laws.proofs.Reached.{Moves, same_taken}
+use Rattle.cert_laws.proofs.SkeletonPaths.{skeleton_path}
+use Rattle.cert_laws.proofs.Spelt.{text_both}
+
+-- ---- items at which the last line may stand
+
+abbrev pub end_mark : Mark
+end_mark = word (codes "end") (shares all_used ∷ [])
+
+abbrev is_end : Lead → Bool
+is_end (keyword bytes demands items) = same_bytes bytes (codes "end")
+is_end _ = false
+
+abbrev each : (Lead → Bool) → List Lead → Bool
+each test [] = true
+each test (a ∷ ls) = test a && each test ls
+
+each_in : (test : Lead → Bool) (a : Lead) (ls : List Lead) → In a ls → each test ls ≡ true → test a ≡ true
+each_in test a [] n e = absurd n
+each_in test a (b ∷ ls) (inl q) e = ap test q ∙ (and_parts (test b) (each test ls) e).0
+each_in test a (b ∷ ls) (inr n) e = each_in test a ls n (and_parts (test b) (each test ls) e).1
+
+abbrev pub never_ends : Item → Bool
+never_ends i = each (λ (a : Lead). not (is_end a)) (leads i)
+
+abbrev MayEnd : Item → Type 0
+MayEnd i = never_ends i ≡ true → ⊥
+
+-- behind the word of the last line its end stands alone, and behind another lead that is no text an item at which it may not stand
+abbrev is_line_alone : List Item → Bool
+is_line_alone (between line ∷ []) = true
+is_line_alone _ = false
+
+abbrev next_never : List Item → Bool
+next_never [] = false
+next_never (i ∷ items) = never_ends i
+
+abbrev seals : List ℕ → Lead → Bool
+seals w (text [] items) = false
+seals w (text (b ∷ bytes) items) = true
+seals w a = cond (is_end a) (is_line_alone (items_of a w)) (next_never (items_of a w))
+
+leads_seal : (i : Item) (w : List ℕ) → each (seals w) (leads i) ≡ true
+leads_seal (automaton_end zero given) w = refl
+leads_seal (between space) w = refl
+leads_seal (any_number space) w = refl
+leads_seal (any_position space) w = refl
+leads_seal (measure first_version) w = refl
+leads_seal (evidence first_version) w = refl
+leads_seal (infeasibility first_version) w = refl
+leads_seal (node n []) w = refl
+leads_seal (name_behind n name []) w = refl
+leads_seal (term_behind n []) w = refl
+leads_seal (term_closed n name k []) w = refl
+leads_seal _ w = refl
+
+sealed_by : (i : Item) (m : Mark) (new : List Item) → (h : Takes i m new) → seals h.word_of h.lead ≡ true
+sealed_by i m new h = each_in (seals h.word_of) h.lead (leads i) h.among (leads_seal i h.word_of)
+
+-- the word of the last line is one by a lead for it alone
+spelt_end : (a : Lead) (w : List ℕ) → IsWordOf (mode_of a) w → end_mark ≡ mark_of a w → is_end a ≡ true
+spelt_end (keyword bytes demands items) w h e = let same : codes "end" ≡ bytes = cc in ap (λ (b : List ℕ). same_bytes b (codes "end")) (sym same)
+spelt_end (numeral_lead demands items) w h e = let k = subst (IsWordOf number_begins) (let q : w ≡ codes "end" = cc in q) h in let none = k.goes.1 in absurd cc
+spelt_end (position_lead items) w h e = let k = subst (IsWordOf place_begins) (let q : w ≡ codes "end" = cc in q) h in let none = k.goes.2.1 in absurd cc
+spelt_end (variable_lead demands items) w h e = let k = subst (IsWordOf bar_begins) (let q : w ≡ codes "end" = cc in q) h in let none = k.goes.1 in absurd cc
+spelt_end _ w h e = absurd cc
+
+line_alone : (items : List Item) → is_line_alone items ≡ true → items ≡ between line ∷ []
+line_alone (between line ∷ []) e = refl
+line_alone _ e = absurd cc
+
+line_behind : (a : Lead) (w : List ℕ) → is_end a ≡ true → seals w a ≡ true → items_of a w ≡ between line ∷ []
+line_behind (keyword bytes demands items) w e s = line_alone items (rw e at s)
+line_behind _ w e s = absurd cc
+
+nothing_else : (new s : List Item) → new ++ s ≡ [] → s ≡ []
+nothing_else [] s e = e
+nothing_else (i ∷ new) s e = absurd cc
+
+pub one_left : (t : List Item) → Path closing t [] → (i : Item) × (t ≡ i ∷ []) × MayEnd i
+one_left [] p = absurd p
+one_left (i ∷ s) p =
+    let k = p.1 in
+    let is = spelt_end k.lead k.word_of k.spelt k.mark in
+    let items : p.0 ≡ between line ∷ [] = k.items ∙ line_behind k.lead k.word_of is (sealed_by i end_mark p.0 k) in
+    let last = subst (λ (x : List Item). Path (fixed (codes "\n") ∷ []) (x ++ s) []) items p.2 in
+    let none : s ≡ [] = nothing_else last.0 s last.2 in
+    (i, ap (λ (x : List Item). i ∷ x) none, λ n. absurd (let both : not true ≡ true = ap not (sym is) ∙ each_in (λ (a : Lead). not (is_end a)) k.lead (leads i) k.among n in cc))
+
+-- ---- marks before the last line
+
+-- the last mark is one of bytes, and has some
+abbrev pub EndsInBytes : List Mark → Type 0
+EndsInBytes ms = (front : List Mark) × (b : ℕ) × (t : List ℕ) × (ms ≡ front ++ fixed (b ∷ t) ∷ [])
+
+next_of : (items : List Item) (v : Bool) → cond v (is_line_alone items) (next_never items) ≡ true → next_never items ≡ true
+next_of items true h = ap next_never (line_alone items h)
+next_of items false h = h
+
+not_next : (items s : List Item) (i : Item) → next_never items ≡ true → items ++ s ≡ i ∷ [] → MayEnd i → ⊥
+not_next [] s i h e n = cc
+not_next (k ∷ items) s i h e n = let same : i ≡ k = cc in n (ap never_ends same ∙ h)
+
+last_bytes : (a : Lead) (w : List ℕ) (s : List Item) (i : Item) → seals w a ≡ true → items_of a w ++ s ≡ i ∷ [] → MayEnd i → (b : ℕ) × (t : List ℕ) × (mark_of a w ≡ fixed (b ∷ t))
+last_bytes (text [] items) w s i h e n = absurd cc
+last_bytes (text (b ∷ t) items) w s i h e n = (b, t, refl)
+last_bytes a w s i h e n = absurd (not_next (items_of a w) s i (next_of (items_of a w) (is_end a) h) e n)
+
+ends_in : (m : Mark) (ms : List Mark) (s : List Item) (i : Item) → Path (m ∷ ms) s (i ∷ []) → MayEnd i → EndsInBytes (m ∷ ms)
+ends_in m ms [] i p n = absurd p
+ends_in m [] (j ∷ s) i p n =
+    let k = p.1 in
+    let last = last_bytes k.lead k.word_of s i (sealed_by j m p.0 k) (ap (λ (x : List Item). x ++ s) (sym k.items) ∙ p.2) n in
+    ([], last.0, last.1, ap (λ (x : Mark). x ∷ []) (k.mark ∙ last.2))
+ends_in m (o ∷ ms) (j ∷ s) i p n = let k = ends_in o ms (p.0 ++ s) i p.2 n in (m ∷ k.0, k.1, k.2, ap (λ (x : List Mark). m ∷ x) k.3)
+
+path_split : (a b : List Mark) (s t : List Item) → Path (a ++ b) s t → (u : List Item) × Path a s u × Path b u t
+path_split [] b s t p = (s, refl, p)
+path_split (m ∷ a) b [] t p = absurd p
+path_split (m ∷ a) b (i ∷ s) t p = let r = path_split a b (p.0 ++ s) t p.2 in (r.0, (p.0, p.1, r.1), r.2)
+
+-- bytes that go to a mark are read along the marks up to it
+pub moves_to : (front : List Mark) (mark : Mark) (back : List Mark) (s : List Item) (bytes rest : List ℕ) → Path (front ++ mark ∷ back) s [] → bytes ≡ marks_text front ++ (mark_text mark ++ rest)
+    → IsReached mark back rest → (t : List Item) × Moves (front ++ mark ∷ []) s bytes t rest × Path back t []
+moves_to [] mark back [] bytes rest p e r = absurd p
+moves_to [] mark back (i ∷ s) bytes rest p e r =
+    let there = takes_along i mark p.0 s back bytes [] mark p.1 p.2 (record { back = back; parts = refl; rest = rest; text = e; reached = r }) in
+    (p.0 ++ s, (p.0, rest, record { takes = p.1; there = there; text = e }, (refl, refl)), p.2)
+moves_to (m ∷ front) mark back [] bytes rest p e r = absurd p
+moves_to (m ∷ front) mark back (i ∷ s) bytes rest p e r =
+    let behind = marks_text front ++ (mark_text mark ++ rest) in
+    let there = takes_along i m p.0 s (front ++ mark ∷ back) bytes (m ∷ front) mark p.1 p.2 (record { back = back; parts = refl; rest = rest; text = e; reached = r }) in
+    let others = moves_to front mark back (p.0 ++ s) behind rest p.2 refl r in
+    (others.0, (p.0, behind, record { takes = p.1; there = there; text = e ∙ append_assoc (mark_text m) (marks_text front) (mark_text mark ++ rest) }, others.1), others.2)
+
+-- marks of a text before its last line, up to one item, and the bytes behind them
+pub record Along (own : List Mark) (bytes rest : List ℕ) : Type 0 where
+  pub item : Item
+  pub moves : Moves own (opening ∷ []) bytes (item ∷ []) rest
+  pub closes : Path closing (item ∷ []) []
+  pub may_end : MayEnd item
+  pub last : EndsInBytes own
+
+settled : (own : List Mark) (bytes rest : List ℕ) (front : List Mark) (b : ℕ) (t : List ℕ) → own ≡ front ++ fixed (b ∷ t) ∷ [] → (u : List Item)
+    → Moves (front ++ fixed (b ∷ t) ∷ []) (opening ∷ []) bytes u rest → Path closing u [] → Along own bytes rest
+settled own bytes rest front b t e u h p =
+    let there = one_left u p in
+    record {
+      item = there.0;
+      moves = subst (λ (k : List Mark). Moves k (opening ∷ []) bytes (there.0 ∷ []) rest) (sym e)
+          (subst (λ (v : List Item). Moves (front ++ fixed (b ∷ t) ∷ []) (opening ∷ []) bytes v rest) there.1 h);
+      closes = subst (λ (v : List Item). Path closing v []) there.1 p;
+      may_end = there.2;
+      last = (front, b, t, e);
+    }
+
+pub along : (s : Skeleton) (own : List Mark) (bytes rest : List ℕ) → marks_of s ≡ own ++ closing → bytes ≡ marks_text own ++ rest → Along own bytes rest
+along s own bytes rest e spelt = by own refl
+  where
+    by : (ms : List Mark) → own ≡ ms → Along own bytes rest
+    by [] q =
+        let left = one_left (opening ∷ []) (subst (λ (k : List Mark). Path k (opening ∷ []) []) (e ∙ ap (λ (k : List Mark). k ++ closing) q) (skeleton_path s)) in
+        let same : left.0 ≡ opening = cc in
+        absurd (left.2 (ap never_ends same))
+    by (m ∷ ms) q =
+        let path = path_split (m ∷ ms) closing (opening ∷ []) [] (subst (λ (k : List Mark). Path k (opening ∷ []) []) (e ∙ ap (λ (k : List Mark). k ++ closing) q) (skeleton_path s)) in
+        let left = one_left path.0 path.2 in
+        let last = ends_in m ms (opening ∷ []) left.0 (subst (Path (m ∷ ms) (opening ∷ [])) left.1 path.1) left.2 in
+        let bytes_last = fixed (last.1 ∷ last.2) in
+        let whole : own ≡ last.0 ++ bytes_last ∷ [] = q ∙ last.3 in
+        let moved = moves_to last.0 bytes_last closing (opening ∷ []) bytes rest
+        (subst (λ (k : List Mark). Path k (opening ∷ []) []) (e ∙ ap (λ (k : List Mark). k ++ closing) whole ∙ append_assoc last.0 (bytes_last ∷ []) closing) (skeleton_path s))
+        (cc (spelt, text_both last.0 (bytes_last ∷ []), append_assoc (marks_text last.0) (mark_text bytes_last ++ []) rest, append-nil (mark_text bytes_last))) tt in
+        settled own bytes rest last.0 last.1 last.2 whole moved.0 moved.1 moved.2
+
+-- ---- two readers of the same bytes
+
+-- the first gets to where the other is, or stays before
+pub data Meet (f g : List Mark) (t : List Item) (r : List ℕ) (u : List Item) (q : List ℕ) : Type 0 where
+  ahead : (more : List Mark) → g ≡ f ++ more → Moves more t r u q → Meet f g t r u q
+  behind_it : (m : Mark) (ms : List Mark) → f ≡ g ++ m ∷ ms → Moves (m ∷ ms) u q t r → Meet f g t r u q
+
+meet_more : (m n : Mark) (f g : List Mark) (t : List Item) (r : List ℕ) (u : List Item) (q : List ℕ) → m ≡ n → Meet f g t r u q → Meet (m ∷ f) (n ∷ g) t r u q
+meet_more m n f g t r u q e (ahead more p h) = ahead more (cc) h
+meet_more m n f g t r u q e (behind_it k ms p h) = behind_it k ms (cc) h
+
+pub meet : (f g : List Mark) (s t u : List Item) (b r q : List ℕ) → Moves f s b t r → Moves g s b u q → Meet f g t r u q
+meet [] g s t u b r q h k = ahead g refl (subst (λ (x : List Item). Moves g x r u q) h.0 (subst (λ (x : List ℕ). Moves g s x u q) h.1 k))
+meet (m ∷ f) [] s t u b r q h k = behind_it m f refl (subst (λ (x : List Item). Moves (m ∷ f) x q t r) k.0 (subst (λ (x : List ℕ). Moves (m ∷ f) s x t r) k.1 h))
+meet (m ∷ f) (n ∷ g) [] t u b r q h k = absurd h
+meet (m ∷ f) (n ∷ g) (i ∷ s) t u b r q h k =
+    let same = same_taken i m n h.0 k.0 b h.2.takes k.2.takes h.2.there k.2.there in
+    let rest : h.1 ≡ k.1 = append_cancel_left (mark_text m) h.1 k.1 (sym h.2.text ∙ k.2.text ∙ ap (λ (x : Mark). mark_text x ++ k.1) (sym same.marks)) in
+    meet_more m n f g t r u q same.marks (meet f g (h.0 ++ s) t u h.1 r q h.3
+    (subst (λ (x : List ℕ). Moves g (h.0 ++ s) x u q) (sym rest) (subst (λ (x : List Item). Moves g (x ++ s) k.1 u q) (sym same.items) k.3)))
+
+-- bytes that are read along a text go to a mark of the own ones, or to one behind them
+pub data Walked (own front : List Mark) (mark : Mark) : Type 0 where
+  within : (back : List Mark) → own ≡ front ++ mark ∷ back → Walked own front mark
+  past : (more : List Mark) → front ≡ own ++ more → Walked own front mark
+
+up_to : (front own more : List Mark) (mark : Mark) → front ++ mark ∷ [] ≡ own ++ more → Walked own front mark
+up_to front [] more mark e = past front refl
+up_to [] (o ∷ own) more mark e = within own (cc)
+up_to (f ∷ front) (o ∷ own) more mark e = by (up_to front own more mark (cc))
+  where
+    by : Walked own front mark → Walked (o ∷ own) (f ∷ front) mark
+    by (within back q) = within back (cc)
+    by (past others q) = past others (cc)
+
+pub walk : {own : List Mark} {bytes rest : List ℕ} → Along own bytes rest → (t : Skeleton) (front : List Mark) (mark : Mark) → GoesTo (marks_of t) bytes front mark → Walked own front mark
+walk {own} {bytes} {rest} a t front mark g =
+    let to = moves_to front mark g.back (opening ∷ []) bytes g.rest (subst (λ (k : List Mark). Path k (opening ∷ []) []) g.parts (skeleton_path t)) g.text g.reached in
+    by (meet own (front ++ mark ∷ []) (opening ∷ []) (a.item ∷ []) to.0 bytes rest g.rest a.moves to.1)
+  where
+    by : {u : List Item} → Meet own (front ++ mark ∷ []) (a.item ∷ []) rest u g.rest → Walked own front mark
+    by (ahead more e h) = up_to front own more mark e
+    by (behind_it m ms e h) = within (m ∷ ms) (e ∙ append_assoc front (mark ∷ []) (m ∷ ms))
