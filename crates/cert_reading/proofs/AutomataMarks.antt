@@ -1,11 +1,6 @@
 -- The marks of shared automata, one behind another.
-use Rattle.std.proofs.Common.{◌≡◌, List, [], ◌∷◌, ◌++◌, map, sym, ap, ◌∙◌, subst, append_assoc}
-use Rattle.std.proofs.lemmas.List.{append-nil}
-use Rattle.certificates.specs.Evidence.{Automaton}
-use Rattle.cert_grammar.specs.Prelude.{Naming, Mark, automata_marks, Shared, automaton_marks}
-use Rattle.cert_sharing.proofs.UseMarks.{automaton_behind}
-use Rattle.cert_words.specs.Walks.{BeginsAnew, AreWithoutStates}
-use Rattle.cert_reading.specs.Shared.{sealed_marks, ArePlainAutomata}
+use Rattle.cert_reading.proofs.Prelude.{◌≡◌, List, [], ◌∷◌, ◌++◌, map, sym, ap, ◌∙◌, subst, append_assoc, append-nil, Automaton, Naming, Mark, automata_marks, Shared, automaton_marks}
+use Rattle.cert_reading.proofs.Prelude.{automaton_behind, BeginsAnew, AreWithoutStates, sealed_marks, ArePlainAutomata}
 
 -- an automaton begins with its first word
 pub automaton_anew : (u : Naming) (a : Automaton) → BeginsAnew (automaton_marks u a)

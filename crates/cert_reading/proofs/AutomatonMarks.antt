@@ -1,9 +1,6 @@
 -- The marks of automata, one part behind another.
-use Rattle.cert_words.specs.Walks.{HasNoStates, AreWithoutStates}
-use Rattle.std.proofs.Common.{subst, ◌≡◌, ◌<◌, ℕ, List, [], ◌∷◌, ◌++◌, length, map, codes, refl, sym, ap, ◌∙◌, arith, append_assoc}
-use Rattle.std.proofs.lemmas.List.{append-nil}
-use Rattle.certificates.specs.Evidence.{Transition}
-use Rattle.cert_grammar.specs.Prelude.{Naming, Mark, fixed, state, head_marks, accepting_marks, further_states_marks, states_marks, transitions_marks}
+use Rattle.cert_reading.proofs.Prelude.{HasNoStates, AreWithoutStates, subst, ◌≡◌, ◌<◌, ℕ, List, [], ◌∷◌, ◌++◌, length, map, codes, refl, sym, ap, ◌∙◌, arith, append_assoc, append-nil}
+use Rattle.cert_reading.proofs.Prelude.{Transition, Naming, Mark, fixed, state, head_marks, accepting_marks, further_states_marks, states_marks, transitions_marks}
 
 pub accepting_push : (b : ℕ) (qs : List ℕ) (q : ℕ) → accepting_marks b qs ++ (fixed (codes " ") ∷ state b q ∷ []) ≡ accepting_marks b (qs ++ q ∷ [])
 accepting_push b [] q = refl

@@ -1,11 +1,5 @@
 -- What is chosen past the last text, and of one text.
-use Rattle.std.proofs.Common.{◌≤◌, ℕ, zero, suc, List, [], ◌∷◌, length, codes, arith}
-use Rattle.cops_names.specs.NameTable.{NameTable}
-use Rattle.cert_grammar.specs.Prelude.{Naming, Mark, fixed, Item}
-use Rattle.cert_words.specs.declared.reading.Reading.{Reading}
-use Rattle.cert_words.specs.Choices.{Choice, Chosen}
-use Rattle.cert_words.specs.Walks.{Reads}
-use Rattle.cert_words.proofs.Walking.{already}
+use Rattle.cert_reading.proofs.Prelude.{◌≤◌, ℕ, zero, suc, List, [], ◌∷◌, length, codes, arith, NameTable, Naming, Mark, fixed, Item, Reading, Choice, Chosen, Reads, already}
 
 pub past : (names : NameTable) (end : ℕ) (i : Item) (cs : List Choice) (r : ℕ) (s t : Reading) (to : List Item) (marks : Naming → List Mark) → length cs ≤ r
     → Chosen names end i cs r s t → Reads names end (i ∷ []) marks to s t

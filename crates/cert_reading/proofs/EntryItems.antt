@@ -1,19 +1,11 @@
 -- Behind the entries of a measure, where an overlap or the last line begins, the text goes on as behind nothing.
-use Rattle.std.proofs.Common.{◌≡◌, inl, inr, ◌+◌, ◌-◌, ℕ, suc, List, [], ◌∷◌, ◌++◌, length, codes, max, arith, Option, Some, None, refl, sym, ap, ◌∙◌, subst}
-use Rattle.cops_names.specs.NameTable.{NameTable}
-use Rattle.cert_grammar.specs.Prelude.{name_of, CertificateCause, syntax, Naming, Mark, Item, Lead, keyword, leads, pair_or_end, pairs_from, space, between, any_number, Version}
-use Rattle.cert_grammar.specs.Prelude.{first_version, second_version, HasMeasure, is_few, entries, first_there, longest, Left, Step, accepts, refuses, goes_on, step, step_lead, Shared}
-use Rattle.cert_grammar.specs.Prelude.{behind_marks, PassShares, after_step, shared_step}
-use Rattle.certificates.specs.Certificates.{MeasureCertificate, linear_measure, precedence_measure}
-use Rattle.cert_shares.specs.SharesView.{with_begun}
-use Rattle.cert_openings.specs.Openings.{BeginsEntry}
-use Rattle.cert_words.specs.declared.reading.Reading.{Reading}
-use Rattle.cert_words.specs.Walks.{left_at, Walks, Run, RefusesAt}
-use Rattle.cert_words.proofs.Walking.{goes_as}
-use Rattle.cert_reading.specs.Headings.{entries_of, behind_measure}
-use Rattle.cert_reading.specs.Measures.{SymbolAt}
+use Rattle.cert_grammar.specs.Prelude.{Step}
+use Rattle.cert_reading.proofs.Prelude.{◌≡◌, inl, inr, ◌+◌, ◌-◌, ℕ, suc, List, [], ◌∷◌, ◌++◌, length, codes, max, arith, Option, Some, None, refl, sym, ap, ◌∙◌, subst, NameTable, name_of}
+use Rattle.cert_reading.proofs.Prelude.{CertificateCause, syntax, Naming, Mark, Item, Lead, keyword, leads, pair_or_end, pairs_from, space, between, any_number, Version, first_version}
+use Rattle.cert_reading.proofs.Prelude.{second_version, HasMeasure, is_few, entries, first_there, longest, Left, accepts, refuses, goes_on, step, step_lead, Shared, behind_marks, PassShares}
+use Rattle.cert_reading.proofs.Prelude.{after_step, shared_step, MeasureCertificate, linear_measure, precedence_measure, with_begun, BeginsEntry, Reading, left_at, Walks, Run, RefusesAt}
+use Rattle.cert_reading.proofs.Prelude.{goes_as, entries_of, behind_measure, SymbolAt, Place, StopsWhere, IsStoppedWhere, ReadsWhere}
 use Rattle.cert_reading.proofs.Opening.{entry_at, head_at}
-use Rattle.cert_reading.specs.Stops.{Place, StopsWhere, IsStoppedWhere, ReadsWhere}
 
 zero_most : (x : ℕ) → max 0 (max 0 x) ≡ x
 zero_most x = omega arith

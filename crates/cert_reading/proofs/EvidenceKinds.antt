@@ -1,8 +1,6 @@
 -- The kinds of evidence, with what is behind their words.
-use Rattle.std.proofs.Common.{◌≡◌, List, [], ◌∷◌, codes, map, refl}
-use Rattle.cert_grammar.specs.Prelude.{Version, first_version, second_version, space, line, any_number, derivations_left, text, leads, evidence, infeasibility}
-use Rattle.cert_words.specs.Choices.{Choice, lead_of}
-use Rattle.cert_reading.specs.Uses.{use_between, use_item}
+use Rattle.cert_reading.proofs.Prelude.{◌≡◌, List, [], ◌∷◌, codes, map, refl, Version, first_version, second_version, space, line, any_number, derivations_left, text, leads, evidence}
+use Rattle.cert_reading.proofs.Prelude.{infeasibility, Choice, lead_of, use_between, use_item}
 
 abbrev pub kinds : Version → List Choice
 kinds v =

@@ -1,32 +1,23 @@
 -- What is read along the marks of a certificate is its text: marks that pass, with symbols that are found, mean the certificate itself.
-use Rattle.std.proofs.Common.{◌≡◌, ◌+◌, ℕ, zero, suc, Bool, true, List, [], ◌∷◌, ◌++◌, length, drop, take, Option, None, refl, sym, ap, ◌∙◌, subst, arith}
-use Rattle.std.proofs.lemmas.List.{drop_at, append-nil}
-use Rattle.certificates.specs.Prelude.{Automaton, InfeasibilityEvidence, by_caps, by_automaton, PairEvidence, infeasible_pair, PairEntry, Redex, Apartness, by_normal_forms, by_rigid_caps}
-use Rattle.certificates.specs.Prelude.{Simplification, dropped, inlined, Certificate, ortho_certificate, quasi_certificate, peak_certificate, simplified_certificate}
-use Rattle.cops_names.specs.NameTable.{NameTable}
-use Rattle.cert_grammar.specs.Prelude.{name_of, Version, first_version, second_version, version_of, IsOfVersion, used_by, used_by_evidence, used_by_pairs, used_by_redexes, used_by_apart}
-use Rattle.cert_grammar.specs.Prelude.{used_by_steps, automata_of, number_in, shared_by, AreAutomata, Naming, Mark, marks_text, automata_marks, certificate_marks, HaveNames}
-use Rattle.cert_grammar.specs.Prelude.{Pass, Shared, nothing_shared, behind_marks, PassShares, opening, IsVersionText, IsCertificateText, Lead, name_lead, leads, is_there, mark_of, taken, Left}
+use Rattle.cert_reading.proofs.Prelude.{◌≡◌, ◌+◌, ℕ, zero, suc, Bool, true, List, [], ◌∷◌, ◌++◌, length, drop, take, Option, None, refl, sym, ap, ◌∙◌, subst, arith, drop_at, append-nil}
+use Rattle.cert_reading.proofs.Prelude.{Automaton, InfeasibilityEvidence, by_caps, by_automaton, PairEvidence, infeasible_pair, PairEntry, Redex, Apartness, by_normal_forms, by_rigid_caps}
+use Rattle.cert_reading.proofs.Prelude.{Simplification, dropped, inlined, Certificate, ortho_certificate, quasi_certificate, peak_certificate, simplified_certificate, NameTable, name_of}
+use Rattle.cert_reading.proofs.Prelude.{Version, first_version, second_version, version_of, IsOfVersion, used_by, used_by_evidence, used_by_pairs, used_by_redexes, used_by_apart}
+use Rattle.cert_reading.proofs.Prelude.{used_by_steps, automata_of, number_in, shared_by, AreAutomata, Naming, Mark, marks_text, automata_marks, certificate_marks, HaveNames, Pass, Shared}
+use Rattle.cert_reading.proofs.Prelude.{nothing_shared, behind_marks, PassShares, opening, IsVersionText, IsCertificateText, Lead, name_lead, leads, is_there, mark_of, taken, Left, pick}
+use Rattle.cert_reading.proofs.Prelude.{pick_number, Opening, certificate_for, pick_stands, with_begun, Reading, Walks, Run, walks_text, walks_pass, ArePlainAutomata, IsUsed, HasUsed}
+use Rattle.cert_reading.proofs.Prelude.{EvidenceUses, PairsUse, RedexesUse, ApartUses, StepsUse, IsPlainBy}
 use Rattle.cert_grammar.proofs.ScanWords.{name_is}
-use Rattle.cert_laws.specs.FoundNames.{tagged, AreFound, AreWithoutStates}
-use Rattle.cert_laws.proofs.Paths.{first_sound, found_there}
 use Rattle.cert_laws.proofs.PassEvidence.{AllOf}
-use Rattle.cert_sharing.specs.Fronts.{uses_with, AreLeft}
-use Rattle.cert_sharing.proofs.FirstUses.{pick, pick_number}
-use Rattle.cert_sharing.proofs.SpeltShares.{front_marks, same_version}
-use Rattle.cert_sharing.proofs.PassShares.{Shows, IsCounted, AreShared, MeantFront, front_meant, text_meant, meant_automata}
-use Rattle.cert_openings.specs.Openings.{Opening, certificate_for}
-use Rattle.cert_openings.specs.Laws.{IsReadTo}
-use Rattle.cert_openings.proofs.Entries.{pick_stands}
+use Rattle.cert_laws.proofs.Paths.{first_sound, found_there}
+use Rattle.cert_laws.specs.FoundNames.{tagged, AreFound, AreWithoutStates}
 use Rattle.cert_openings.proofs.Back.{read_meant}
-use Rattle.cert_shares.specs.SharesView.{with_begun}
-use Rattle.cert_words.specs.declared.reading.Reading.{Reading}
-use Rattle.cert_words.specs.Walks.{Walks, Run}
-use Rattle.cert_words.proofs.Whole.{walks_text, walks_pass}
-use Rattle.cert_reading.specs.Shared.{ArePlainAutomata}
-use Rattle.cert_reading.specs.Plain.{IsUsed, HasUsed, EvidenceUses, PairsUse, RedexesUse, ApartUses, StepsUse, IsPlainBy}
-use Rattle.cert_reading.specs.Whole.{CanShare, ReadsCertificate}
+use Rattle.cert_openings.specs.Laws.{IsReadTo}
 use Rattle.cert_reading.proofs.Stopping.{ran}
+use Rattle.cert_reading.specs.Whole.{CanShare, ReadsCertificate}
+use Rattle.cert_sharing.proofs.PassShares.{Shows, IsCounted, AreShared, MeantFront, front_meant, text_meant, meant_automata}
+use Rattle.cert_sharing.proofs.SpeltShares.{front_marks, same_version}
+use Rattle.cert_sharing.specs.Fronts.{uses_with, AreLeft}
 
 -- ---- names that are walked over are identifiers
 

@@ -1,11 +1,6 @@
 -- The marks of a body behind the line of its kind.
-use Rattle.std.proofs.Common.{◌≡◌, Bool, true, false, [], ◌∷◌, Option, Some, None, codes, ap}
-use Rattle.certificates.specs.Certificates.{Certificate, simplified_certificate}
-use Rattle.cert_grammar.specs.Prelude.{Uses, IsUnsimplified, Naming, fixed, body_marks}
-use Rattle.cert_sharing.proofs.UseMarks.{AreStill}
-use Rattle.cert_reading.specs.declared.headings.Kind.{Kind}
-use Rattle.cert_reading.specs.declared.headings.Kind.TheVariants.{Ortho, Quasi, Peak}
-use Rattle.cert_reading.specs.Headings.{first_marks, kind_mark, behind_kind, IsOfKind}
+use Rattle.cert_reading.proofs.Prelude.{◌≡◌, Bool, true, false, [], ◌∷◌, Option, Some, None, codes, ap, Certificate, simplified_certificate, Uses, IsUnsimplified, Naming, fixed, body_marks}
+use Rattle.cert_reading.proofs.Prelude.{AreStill, Kind, Ortho, Quasi, Peak, first_marks, kind_mark, behind_kind, IsOfKind}
 
 pub kind_marks : (u : Naming) (w : Uses) (given : Option Bool) (kind : Kind) (c : Certificate) → IsOfKind kind c
     → kind_mark given kind ∷ fixed (codes "\n") ∷ behind_kind u w c ≡ body_marks u w given c

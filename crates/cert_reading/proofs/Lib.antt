@@ -12,3 +12,5 @@ pub mod EvidenceKinds
 pub mod Found
 pub mod KindMarks
 pub mod SharedKnown
+pub mod Prelude
+pub mod Lemmas

@@ -1,14 +1,8 @@
 -- The marks of lists whose items are counted, one item behind another.
-use Rattle.std.proofs.Common.{◌≡◌, ◌+◌, ℕ, suc, List, [], ◌∷◌, ◌++◌, length, map, codes, refl, sym, ap, ◌∙◌, arith, subst, append_assoc}
-use Rattle.std.proofs.lemmas.List.{append-nil}
-use Rattle.rewriting.specs.Unraveling.{Head}
-use Rattle.certificates.specs.Prelude.{PairEntry, LinearEntry, Redex, Simplification, dropped, inlined, Automaton}
-use Rattle.cert_grammar.specs.Prelude.{largest, Version, Uses, Naming, Mark, fixed, word, numbers, pairs, redexes, in_range, is_few, number, coefficients_marks, entries_marks}
-use Rattle.cert_grammar.specs.Prelude.{heads_marks, simplifications_marks, infeasibility_marks, evidence_marks, pairs_marks, redexes_marks}
-use Rattle.cert_grammar.proofs.Views.{seen_push}
-use Rattle.cert_reading.specs.Lines.{line_marks}
-use Rattle.cert_reading.specs.Plain.{HasUsed, EvidenceUses, PairsUse, RedexesUse, StepsUse}
-use Rattle.cert_grammar.specs.WordMarks.{numeral}
+use Rattle.cert_reading.proofs.Prelude.{◌≡◌, ◌+◌, ℕ, suc, List, [], ◌∷◌, ◌++◌, length, map, codes, refl, sym, ap, ◌∙◌, arith, subst, append_assoc, append-nil, Head, PairEntry, LinearEntry}
+use Rattle.cert_reading.proofs.Prelude.{Redex, Simplification, dropped, inlined, Automaton, largest, Version, Uses, Naming, Mark, fixed, word, numbers, pairs, redexes, in_range, is_few}
+use Rattle.cert_reading.proofs.Prelude.{number, coefficients_marks, entries_marks, heads_marks, simplifications_marks, infeasibility_marks, evidence_marks, pairs_marks, redexes_marks}
+use Rattle.cert_reading.proofs.Prelude.{seen_push, line_marks, HasUsed, EvidenceUses, PairsUse, RedexesUse, StepsUse, numeral}
 
 abbrev pub coefficient_marks : ℕ → ℕ → List Mark
 coefficient_marks n k = fixed (codes " ") ∷ word (numeral k) (in_range 0 0 (suc largest) k ∷ is_few numbers n ∷ []) ∷ []

@@ -1,24 +1,12 @@
 -- The words of an opening, which are refused where they stand.
-use Rattle.std.proofs.Common.{◌≡◌, inl, inr, ◌<◌, ◌==◌, ℕ, zero, suc, Bool, true, false, List, [], ◌∷◌, ◌++◌, Option, Some, None, codes, IfSome, IsTrue, refl, sym, ap, ◌∙◌, subst, arith, eqb-true}
-use Rattle.cops_names.specs.NameTable.{NameTable}
-use Rattle.cert_grammar.specs.Prelude.{Version, first_version, second_version, fits_answer, is_answer, syntax, word, Item, Lead, keyword, leads, pair_or_end, heading, shared_line, body}
-use Rattle.cert_grammar.specs.Prelude.{between, line, any_number, pairs_from, entries_from, heads_from, measured_name, measured_condition, head_name, coefficients_behind, is_there}
-use Rattle.cert_grammar.specs.Prelude.{first_there, behind_automata, Shared}
-use Rattle.cert_openings.specs.Openings.{BeginsEntry}
-use Rattle.cert_words.specs.declared.error.CertError.{CertError}
-use Rattle.cert_words.specs.declared.error.CertError.TheVariants.{CertSyntax}
-use Rattle.cert_words.specs.declared.reading.Reading.{Reading}
-use Rattle.cert_words.specs.Words.{IsLeadRead, told}
-use Rattle.cert_words.specs.Choices.{Choice}
-use Rattle.cert_words.specs.Walks.{Run, IsStuckAt}
-use Rattle.cert_words.proofs.Walking.{front_same, went, stopped}
-use Rattle.cert_words.proofs.Stepping.{keyword_run, keyword_stop, stuck_stops}
-use Rattle.cert_reading.specs.Stops.{Place, ReadsWhere, IsBehind, AreBehind, BeginsList, BeforeEntries, WithinOpening}
-use Rattle.cert_reading.specs.Headings.{item_by}
-use Rattle.cert_reading.specs.Measures.{SymbolAt}
-use Rattle.cert_reading.specs.declared.headings.Kind.{Kind}
-use Rattle.cert_reading.specs.declared.headings.Kind.TheVariants.{Ortho, Quasi, Peak}
+use Rattle.cert_reading.proofs.Prelude.{◌≡◌, inl, inr, ◌<◌, ◌==◌, ℕ, zero, suc, Bool, true, false, List, [], ◌∷◌, ◌++◌, Option, Some, None, codes, IfSome, IsTrue, refl, sym, ap, ◌∙◌, subst}
+use Rattle.cert_reading.proofs.Prelude.{arith, eqb-true, NameTable, Version, first_version, second_version, fits_answer, is_answer, syntax, word, Item, Lead, keyword, pair_or_end, heading}
+use Rattle.cert_reading.proofs.Prelude.{shared_line, body, between, line, any_number, pairs_from, entries_from, heads_from, measured_name, measured_condition, head_name, coefficients_behind}
+use Rattle.cert_reading.proofs.Prelude.{is_there, first_there, behind_automata, Shared, BeginsEntry, CertError, Reading, told, Choice, Run, IsStuckAt, front_same, went, stopped, Front}
+use Rattle.cert_reading.proofs.Prelude.{keyword_run, one_stop, stuck_stops, Place, ReadsWhere, IsBehind, AreBehind, BeginsList, BeforeEntries, WithinOpening, item_by, SymbolAt, Kind, Ortho}
+use Rattle.cert_reading.proofs.Prelude.{Quasi, Peak}
 use Rattle.cert_reading.proofs.Stopping.{word_where, low_unopened, pair_later}
+use Rattle.cert_words.specs.declared.error.CertError.TheVariants.{CertSyntax}
 
 -- ---- places within an opening
 
@@ -116,20 +104,19 @@ pub none_refused : (s : Reading) (P : CertError → Type 0) → s.refused ≡ No
 none_refused s P e = subst (λ (o : Option CertError). IfSome o P) (sym e) tt
 
 -- the word of a kind, behind an answer
-pub kind_read : (P : Place) (names : NameTable) (end : ℕ) (i : Item) (given : Option Bool) (kind : Bool) (w v rest : List ℕ) (new : List Item) (s t : Reading) (met : Bool)
-    → P (i ∷ []) s.left.now → s.refused ≡ None → first_there (leads i) s.left.now ≡ Some (keyword w (fits_answer kind given ∷ []) new)
-    → IsLeadRead (keyword w [] []) s.left.now v rest
+pub kind_read : (P : Place) (names : NameTable) (end : ℕ) (i : Item) (given : Option Bool) (kind : Bool) (w : List ℕ) {v : List ℕ} (rest : List ℕ) (new : List Item) (s t : Reading)
+    (met : Bool) → P (i ∷ []) s.left.now → s.refused ≡ None → Front s.left.now i (keyword w (fits_answer kind given ∷ []) new) v rest
     → met ≡ is_answer kind given → (met ≡ true → (t.left.now ≡ rest) × (t.refused ≡ s.refused) × (t.shares ≡ s.shares))
     → (met ≡ false → (t.left.now ≡ s.left.now) × (t.refused ≡ Some (CertSyntax 0)) × (t.shares ≡ s.shares))
     → ReadsWhere P names end (i ∷ []) (λ u. word w (fits_answer kind given ∷ []) ∷ []) new s t
-kind_read P names end i given kind w v rest new s t met place none first h m goes refused = by met refl
+kind_read P names end i given kind w rest new s t met place none f m goes refused = by met refl
   where
     out : met ≡ false → IsStuckAt names end i s.left.now s.shares (Some (syntax, 0))
-    out q = keyword_stop names end s.left.now s.shares i w v rest (fits_answer kind given ∷ []) new (syntax, 0) first h (rw (sym m ∙ q) refl)
+    out q = one_stop names end f s.shares (Some (syntax, 0)) (rw (sym m ∙ q) refl)
 
     by : (b : Bool) → met ≡ b → ReadsWhere P names end (i ∷ []) (λ u. word w (fits_answer kind given ∷ []) ∷ []) new s t
     by true q =
-        let run = keyword_run names end s.left.now s.shares i w v rest (fits_answer kind given ∷ []) new first h (λ at. rw (sym m ∙ q) refl) tt in
+        let run : Run names end (i ∷ []) (λ u. word w (fits_answer kind given ∷ []) ∷ []) new s.left.now rest s.shares s.shares = keyword_run f (λ at. rw (sym m ∙ q) refl) tt in
         word_where (λ x. place) (λ n. none_refused t (λ e. IsStuckAt names end i s.left.now s.shares (told e)) ((goes q).1 ∙ none))
         (went none ((goes q).1 ∙ none) (front_same s.shares.texts t.shares.texts (ap (λ (z : Shared). z.texts) (goes q).2))
         (subst (Run names end (i ∷ []) (λ u. word w (fits_answer kind given ∷ []) ∷ []) new s.left.now t.left.now s.shares) (sym (goes q).2)

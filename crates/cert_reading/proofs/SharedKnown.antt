@@ -1,20 +1,13 @@
 -- What is known behind the shared automata: their texts, each of them once.
-use Rattle.std.proofs.Common.{◌≡◌, ◌≤◌, ℕ, List, [], ◌∷◌, length, codes, None, sym, ap, ◌∙◌, subst}
-use Rattle.certificates.specs.Evidence.{Automaton}
-use Rattle.cops_names.specs.NameTable.{NameTable}
-use Rattle.cert_grammar.specs.Prelude.{name_of, second_version, Mark, fixed, shared_automata, marks_text, number_for, automata_marks, texts_of, AllNew, AreAutomata, Shared, behind_marks}
-use Rattle.cert_grammar.specs.Prelude.{PassShares, Item}
-use Rattle.cert_sharing.proofs.UseMarks.{state, AreStill, still_marks, pass_split, behind_both, marked_texts, automata_behind, automata_new}
-use Rattle.cert_sharing.proofs.SpeltShares.{marked_are}
-use Rattle.cert_words.specs.declared.reading.Reading.{Reading}
-use Rattle.cert_words.specs.Walks.{Run}
-use Rattle.cert_words.proofs.Whole.{walks_pass}
-use Rattle.cert_reading.specs.Shared.{shared_marks, ArePlainAutomata, IsKnown}
-use Rattle.cert_reading.specs.Uses.{AreShared}
-use Rattle.cert_reading.specs.Stops.{Place, ReadsWhere}
-use Rattle.cert_reading.proofs.Stopping.{open_before_where, ran}
+use Rattle.cert_reading.proofs.Prelude.{◌≡◌, ◌≤◌, ℕ, List, [], ◌∷◌, length, codes, None, sym, ap, ◌∙◌, subst, Automaton, NameTable, name_of, second_version, Mark, fixed, shared_automata}
+use Rattle.cert_reading.proofs.Prelude.{marks_text, number_for, automata_marks, texts_of, AllNew, AreAutomata, Shared, behind_marks, PassShares, Item, AreStill, still_marks, pass_split}
+use Rattle.cert_reading.proofs.Prelude.{behind_both, marked_texts, automata_behind, automata_new, Reading, Run, walks_pass, shared_marks, ArePlainAutomata, IsKnown, AreShared, Place}
+use Rattle.cert_reading.proofs.Prelude.{ReadsWhere}
 use Rattle.cert_reading.proofs.Found.{walks_named, automata_within}
+use Rattle.cert_reading.proofs.Stopping.{open_before_where, ran}
 use Rattle.cert_reading.proofs.UseReads.{run_shorter}
+use Rattle.cert_sharing.proofs.SpeltShares.{marked_are}
+use Rattle.cert_sharing.proofs.UseMarks.{state}
 
 abbrev count_line : List Automaton → List Mark
 count_line all = fixed (codes "shared ") ∷ number_for shared_automata (length all) ∷ fixed (codes "\n") ∷ []

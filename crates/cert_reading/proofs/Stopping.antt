@@ -1,14 +1,9 @@
 -- Parts one behind another, with the places where they are refused.
-use Rattle.std.proofs.Common.{inl, inr, codes, ◌≡◌, ◌≤◌, ℕ, suc, List, [], ◌∷◌, ◌++◌, Option, Some, None, IfSome, refl, subst, arith}
-use Rattle.std.proofs.lemmas.List.{append-nil}
-use Rattle.cops_names.specs.NameTable.{NameTable}
-use Rattle.cert_grammar.specs.Prelude.{name_of, CertificateCause, Naming, Mark, Item, between, line, pairs_from, Version, Shared}
-use Rattle.cert_words.specs.declared.error.CertError.{CertError}
-use Rattle.cert_words.specs.declared.reading.Reading.{Reading}
-use Rattle.cert_words.specs.Words.{told}
-use Rattle.cert_words.specs.Walks.{left_at, Walks, Run, IsStuckAt, IsStuckBehind, IsStopped, ReadsOn, Reads}
-use Rattle.cert_words.proofs.Walking.{walks_then, walks_shorter, stops_then, goes_as, goes_then, goes_open, not_both, run_then, framed_run, as_run, front_then, open_before, read_run}
-use Rattle.cert_reading.specs.Stops.{Place, IsStoppedWhere, ReadsOnWhere, ReadsWhere, Anywhere, lowest, IsBehind, AreBehind, WithinOpening, WithinEntry}
+use Rattle.cert_reading.proofs.Prelude.{inl, inr, codes, ◌≡◌, ◌≤◌, ℕ, suc, List, [], ◌∷◌, ◌++◌, Option, Some, None, IfSome, refl, subst, arith, append-nil, NameTable, name_of}
+use Rattle.cert_reading.proofs.Prelude.{CertificateCause, Naming, Mark, Item, between, line, pairs_from, Version, Shared, CertError, Reading, told, left_at, Walks, Run, IsStuckAt}
+use Rattle.cert_reading.proofs.Prelude.{IsStuckBehind, IsStopped, ReadsOn, Reads, walks_then, walks_shorter, stops_then, goes_as, goes_then, goes_open, not_both, run_then, framed_run}
+use Rattle.cert_reading.proofs.Prelude.{as_run, front_then, open_before, read_run, Place, IsStoppedWhere, ReadsOnWhere, ReadsWhere, Anywhere, lowest, IsBehind, AreBehind, WithinOpening}
+use Rattle.cert_reading.proofs.Prelude.{WithinEntry}
 
 module _ (P : Place) (names : NameTable) (end : ℕ) where
   -- with nothing behind

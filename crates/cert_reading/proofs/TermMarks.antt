@@ -1,15 +1,8 @@
 -- The marks of terms, one argument behind another.
-use Rattle.std.proofs.Common.{◌≡◌, ◌<◌, ◌+◌, ℕ, suc, Bool, true, false, List, [], ◌∷◌, ◌++◌, length, codes, None, refl, sym, ap, ap₂, ◌∙◌, arith, append_assoc}
-use Rattle.std.proofs.lemmas.List.{append-nil}
-use Rattle.rewriting.specs.Terms.{Term, app, nil, terms_of, count, size, size_all}
-use Rattle.cops_names.specs.NameTable.{NameTable}
-use Rattle.cert_grammar.specs.Prelude.{Naming, has_arity, Mark, fixed, symbol, behind, is_node, term_marks, arguments_marks, further_marks, Frame, Item, node, term_closed, with_next}
-use Rattle.cert_words.specs.declared.reading.Reading.{Reading}
+use Rattle.cert_reading.proofs.Prelude.{◌≡◌, ◌<◌, ◌+◌, ℕ, suc, Bool, true, false, List, [], ◌∷◌, ◌++◌, length, codes, None, refl, sym, ap, ap₂, ◌∙◌, arith, append_assoc, append-nil, Term}
+use Rattle.cert_reading.proofs.Prelude.{app, nil, terms_of, count, size, size_all, NameTable, Naming, has_arity, Mark, fixed, symbol, behind, is_node, term_marks, arguments_marks}
+use Rattle.cert_reading.proofs.Prelude.{further_marks, Frame, Item, node, term_closed, with_next, Reading, Reads, then_reads, as_marks, open_before, suc_is, argument_end, behind_argument}
 use Rattle.cert_words.specs.Nodes.{inner_marks}
-use Rattle.cert_words.specs.Walks.{Reads}
-use Rattle.cert_words.proofs.Walking.{then_reads, as_marks, open_before}
-use Rattle.cert_words.proofs.NodeReads.{suc_is}
-use Rattle.cert_reading.specs.Arguments.{argument_end, behind_argument}
 
 -- arguments with a comma behind each
 abbrev pub commas : Naming → ℕ → ℕ → List Term → List Mark

@@ -1,20 +1,10 @@
 -- What is known of shared automata behind a part that is read.
-use Rattle.std.proofs.Common.{◌≡◌, ◌≤◌, ◌-◌, ℕ, List, [], ◌∷◌, ◌++◌, length, codes, slice_get, Some, None, sym, ap, ◌∙◌, arith}
-use Rattle.rewriting.proofs.Once.{same_some}
-use Rattle.certificates.specs.Evidence.{Automaton}
-use Rattle.cops_names.specs.NameTable.{NameTable}
-use Rattle.cert_grammar.specs.Prelude.{name_of, Version, first_version, second_version, Naming, Mark, fixed, demands_of, use_mark, texts_of, number_in, AllNew, Shared, Item}
-use Rattle.cert_sharing.proofs.FirstUses.{texts_length, pick, pick_number}
-use Rattle.cert_sharing.proofs.UseMarks.{IsStill, places_still, Counts, counts_still, counts_both, counts_put, counts_use}
-use Rattle.cert_openings.proofs.Entries.{pick_stands}
-use Rattle.cert_words.specs.declared.reading.Reading.{Reading}
-use Rattle.cert_words.specs.Walks.{left_at, Run, Reads}
-use Rattle.cert_words.proofs.Walking.{read_run, open_before, walks_shorter}
-use Rattle.cert_reading.specs.Shared.{IsKnown}
-use Rattle.cert_reading.specs.Lines.{line_marks}
-use Rattle.cert_reading.specs.Uses.{AreShared}
-use Rattle.cert_reading.specs.Stops.{Place, ReadsWhere}
+use Rattle.cert_reading.proofs.Prelude.{◌≡◌, ◌≤◌, ◌-◌, ℕ, List, [], ◌∷◌, ◌++◌, length, codes, slice_get, Some, None, sym, ap, ◌∙◌, arith, Automaton, NameTable, name_of, Version}
+use Rattle.cert_reading.proofs.Prelude.{first_version, second_version, Naming, Mark, fixed, demands_of, use_mark, texts_of, number_in, AllNew, Shared, Item, texts_length, pick, pick_number}
+use Rattle.cert_reading.proofs.Prelude.{IsStill, places_still, Counts, counts_still, counts_both, counts_put, counts_use, pick_stands, Reading, left_at, Run, Reads, read_run, open_before}
+use Rattle.cert_reading.proofs.Prelude.{walks_shorter, IsKnown, line_marks, AreShared, Place, ReadsWhere}
 use Rattle.cert_reading.proofs.Stopping.{open_before_where, ran}
+use Rattle.rewriting.proofs.Once.{same_some}
 
 -- marks behind which the same automata are known
 run_texts : (names : NameTable) (end : ℕ) (from to : List Item) (f : Naming → List Mark) (b r : List ℕ) (s t : Shared) (ns : List ℕ) → Counts (f (name_of names)) ns

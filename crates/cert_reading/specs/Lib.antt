@@ -7,3 +7,4 @@ pub mod Shared
 pub mod Uses
 pub mod Measures
 pub mod Whole
+pub mod Prelude

@@ -1,13 +1,10 @@
 //! Automata.
 
 ghost use Rattle.std.specs.Prelude.{◌≡◌, ◌++◌, ℕ, [], ◌∷◌, None, map, length, codes};
-ghost use Rattle.cops_names.specs.NameTable.{NameTable, number_of};
-ghost use Rattle.cert_model.specs.EvidenceView.{transition_view, automaton_view};
-ghost use Rattle.cert_grammar.specs.Prelude.{name_of, has_arity, fixed, behind};
+ghost use Rattle.cert_reading.specs.Prelude.{NameTable, number_of, transition_view, automaton_view, name_of, has_arity, fixed, behind, Reads, HasNoStates, AreWithoutStates};
+ghost use Rattle.cert_reading.specs.Shared.{behind_states};
 ghost use Rattle.cert_grammar.specs.CertificateMarks as marks;
 ghost use Rattle.cert_grammar.specs.Items as spec;
-ghost use Rattle.cert_words.specs.Walks.{Reads, HasNoStates, AreWithoutStates};
-ghost use Rattle.cert_reading.specs.Shared.{behind_states};
 
 use cert_model::{Automaton, Transition};
 use cert_words::{

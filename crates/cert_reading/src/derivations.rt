@@ -1,13 +1,11 @@
 //! Derivations: lists of steps, in which others are nested.
 
 ghost use Rattle.std.specs.Prelude.{◌≡◌, ◌≤◌, ◌++◌, ℕ, suc, [], ◌∷◌, None, map, codes};
-ghost use Rattle.cops_names.specs.NameTable.{NameTable};
+ghost use Rattle.cert_reading.specs.Prelude.{NameTable, largest, in_range, fixed, word, Reads};
 ghost use Rattle.certificates.specs.Prelude.{derivations_of, derivation_count, step_count};
 ghost use Rattle.cert_model.specs.DerivationView.{derivation_view, step_view};
-ghost use Rattle.cert_grammar.specs.Prelude.{largest, in_range, fixed, word};
 ghost use Rattle.cert_grammar.specs.WordMarks as marks;
 ghost use Rattle.cert_grammar.specs.Items as spec;
-ghost use Rattle.cert_words.specs.Walks.{Reads};
 
 use cert_grammar::MOST_NESTING;
 use cert_model::{Derivation, Step};

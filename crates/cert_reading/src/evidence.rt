@@ -1,12 +1,9 @@
 //! Evidence for overlaps, and that conditions are never met.
 
 ghost use Rattle.std.specs.Prelude.{◌≡◌, [], ◌∷◌, None};
-ghost use Rattle.cert_model.specs.EvidenceView.{inf_evidence_view, pair_evidence_view};
-ghost use Rattle.cert_grammar.specs.CertificateMarks.{infeasibility_marks, evidence_marks};
+ghost use Rattle.cert_reading.specs.Prelude.{inf_evidence_view, pair_evidence_view, infeasibility_marks, evidence_marks, Reads, HasUsed, EvidenceUses, version_by, automata_by, uses_by};
+ghost use Rattle.cert_reading.specs.Prelude.{AreKnown};
 ghost use Rattle.cert_grammar.specs.Items as spec;
-ghost use Rattle.cert_words.specs.Walks.{Reads};
-ghost use Rattle.cert_reading.specs.Plain.{HasUsed, EvidenceUses};
-ghost use Rattle.cert_reading.specs.Uses.{version_by, automata_by, uses_by, AreKnown};
 
 use crate::derivations::derivation;
 use crate::uses::{Uses, used_automaton};

@@ -1,14 +1,11 @@
 //! The lines before the body of a certificate.
 
 ghost use Rattle.std.specs.Prelude.{◌≡◌, ◌++◌, ◌↔◌, ℕ, true, false, [], ◌∷◌, None, Some, Option, Bool, codes, IsTrue, IfSome, IfNone};
-ghost use Rattle.cops_names.specs.NameTable.{NameTable};
-ghost use Rattle.cert_openings.specs.Openings.{BeginsEntry};
-ghost use Rattle.cert_grammar.specs.Prelude.{Version, is_answer, fixed, Item, leads, body_leads, first_there};
+ghost use Rattle.cert_reading.specs.Prelude.{NameTable, BeginsEntry, Version, is_answer, fixed, Item, leads, body_leads, first_there, ReadsWhere, WithinOpening, BeforeEntries, version_mark};
+ghost use Rattle.cert_reading.specs.Prelude.{behind_version, first_marks, kind_mark, item_by};
 ghost use Rattle.cert_grammar.specs.Versions as versions;
 ghost use Rattle.cert_grammar.specs.Items as spec;
 ghost use Rattle.cert_words.specs.declared.error.CertError.TheVariants as refused;
-ghost use Rattle.cert_reading.specs.Stops.{ReadsWhere, WithinOpening, BeforeEntries};
-ghost use Rattle.cert_reading.specs.Headings.{version_mark, behind_version, first_marks, kind_mark, item_by};
 
 use cert_words::{CertError, Lead, Reading, choose, front, stuck};
 

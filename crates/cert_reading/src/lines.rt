@@ -1,8 +1,7 @@
 //! Lines of overlaps and of redexes.
 
 ghost use Rattle.std.specs.Prelude.{[]};
-ghost use Rattle.cops_names.specs.NameTable.{NameTable};
-ghost use Rattle.cert_words.specs.Walks.{Reads};
+ghost use Rattle.cert_reading.specs.Prelude.{NameTable, Reads};
 ghost use Rattle.cert_reading.specs.Lines.{line_items, line_marks};
 
 use cert_words::{BOUND, Reading, number, position, text};

@@ -1,17 +1,11 @@
 //! The measure of a certificate.
 
 ghost use Rattle.std.specs.Prelude.{◌≡◌, ◌≤◌, ◌++◌, ℕ, suc, [], ◌∷◌, None, map, length, codes, IfSome, IfNone};
-ghost use Rattle.cops_names.specs.NameTable.{NameTable};
-ghost use Rattle.cert_model.specs.CertificateView.{head_view, linear_entry_view, measure_view};
-ghost use Rattle.cert_openings.specs.Openings.{BeginsEntry};
-ghost use Rattle.cert_grammar.specs.Prelude.{is_few, entries, fixed, word, coefficients_marks, measured_marks, entries_marks, heads_marks, measure_marks, Version, HasMeasure, first_version};
-ghost use Rattle.cert_grammar.specs.Prelude.{second_version, Item};
-ghost use Rattle.cert_grammar.specs.Items as spec;
-ghost use Rattle.cert_words.specs.Walks.{Reads};
-ghost use Rattle.cert_reading.specs.Stops.{ReadsWhere, WithinOpening};
-ghost use Rattle.cert_reading.specs.Headings.{behind_measure};
+ghost use Rattle.cert_reading.specs.Prelude.{NameTable, head_view, linear_entry_view, measure_view, BeginsEntry, is_few, entries, fixed, word, coefficients_marks, measured_marks};
+ghost use Rattle.cert_reading.specs.Prelude.{entries_marks, heads_marks, measure_marks, Version, HasMeasure, first_version, second_version, Item, Reads, ReadsWhere, WithinOpening};
+ghost use Rattle.cert_reading.specs.Prelude.{behind_measure, version_by};
 ghost use Rattle.cert_reading.specs.Measures.{SymbolAt};
-ghost use Rattle.cert_reading.specs.Uses.{version_by};
+ghost use Rattle.cert_grammar.specs.Items as spec;
 ghost use Rattle.cert_reading.specs.declared.measures.Measured.TheVariants as measured;
 
 use crate::headings::begins_entry;

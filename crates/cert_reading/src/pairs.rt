@@ -1,13 +1,9 @@
 //! Overlaps.
 
 ghost use Rattle.std.specs.Prelude.{◌≡◌, ◌≤◌, ◌++◌, ℕ, suc, [], ◌∷◌, None, map, length, codes, IfSome, IfNone};
-ghost use Rattle.cert_model.specs.CertificateView.{pair_entry_view};
-ghost use Rattle.cert_grammar.specs.CertificateMarks.{pairs_marks, closing};
+ghost use Rattle.cert_reading.specs.Prelude.{pair_entry_view, pairs_marks, closing, Reads, EvidenceUses, PairsUse, version_by, automata_by, uses_by, AreKnown, ReadsWhere, Anywhere};
+ghost use Rattle.cert_reading.specs.Prelude.{WithinEntry};
 ghost use Rattle.cert_grammar.specs.Items as spec;
-ghost use Rattle.cert_words.specs.Walks.{Reads};
-ghost use Rattle.cert_reading.specs.Plain.{EvidenceUses, PairsUse};
-ghost use Rattle.cert_reading.specs.Uses.{version_by, automata_by, uses_by, AreKnown};
-ghost use Rattle.cert_reading.specs.Stops.{ReadsWhere, Anywhere, WithinEntry};
 
 use crate::evidence::evidence;
 use crate::lines::between_numbers;

@@ -1,12 +1,9 @@
 //! Peaks.
 
 ghost use Rattle.std.specs.Prelude.{◌≡◌, ◌≤◌, ◌++◌, ℕ, suc, [], ◌∷◌, None, map, length, codes, IfSome, IfNone};
-ghost use Rattle.cert_model.specs.CertificateView.{redex_view, apart_view, peak_view};
-ghost use Rattle.cert_grammar.specs.CertificateMarks.{redexes_marks, apart_marks, peak_marks, closing};
+ghost use Rattle.cert_reading.specs.Prelude.{redex_view, apart_view, peak_view, redexes_marks, apart_marks, peak_marks, closing, Reads, HasUsed, RedexesUse, ApartUses, version_by};
+ghost use Rattle.cert_reading.specs.Prelude.{automata_by, uses_by, AreKnown};
 ghost use Rattle.cert_grammar.specs.Items as spec;
-ghost use Rattle.cert_words.specs.Walks.{Reads};
-ghost use Rattle.cert_reading.specs.Plain.{HasUsed, RedexesUse, ApartUses};
-ghost use Rattle.cert_reading.specs.Uses.{version_by, automata_by, uses_by, AreKnown};
 
 use crate::derivations::derivation;
 use crate::evidence::infeasibility;

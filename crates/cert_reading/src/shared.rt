@@ -1,13 +1,9 @@
 //! The shared automata of the second version, which stand before the body.
 
 ghost use Rattle.std.specs.Prelude.{◌≡◌, ℕ, [], ◌∷◌, None, Option, Bool, map, length};
-ghost use Rattle.cert_model.specs.EvidenceView.{automaton_view};
-ghost use Rattle.cert_grammar.specs.Prelude.{automata_marks, second_version};
-ghost use Rattle.cert_grammar.specs.Items as spec;
-ghost use Rattle.cert_words.specs.Walks.{AreWithoutStates};
-ghost use Rattle.cert_reading.specs.Uses.{AreShared};
+ghost use Rattle.cert_reading.specs.Prelude.{automaton_view, automata_marks, second_version, AreWithoutStates, AreShared, ReadsWhere, BeforeEntries};
 ghost use Rattle.cert_reading.specs.Shared.{sealed_marks, shared_marks, ArePlainAutomata};
-ghost use Rattle.cert_reading.specs.Stops.{ReadsWhere, BeforeEntries};
+ghost use Rattle.cert_grammar.specs.Items as spec;
 
 use crate::automata::behind_word;
 use cert_model::Automaton;

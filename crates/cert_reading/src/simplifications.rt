@@ -1,13 +1,8 @@
 //! Steps that simplify the system before the body of a certificate.
 
 ghost use Rattle.std.specs.Prelude.{◌≡◌, ℕ, [], ◌∷◌, None, map, length};
-ghost use Rattle.cert_model.specs.EvidenceView.{automaton_view};
-ghost use Rattle.cert_model.specs.CertificateView.{simp_view};
-ghost use Rattle.cert_grammar.specs.Prelude.{second_version, by_number, number_in, simplifications_marks};
+ghost use Rattle.cert_reading.specs.Prelude.{automaton_view, simp_view, second_version, by_number, number_in, simplifications_marks, Reads, StepsUse, AreShared};
 ghost use Rattle.cert_grammar.specs.Items as spec;
-ghost use Rattle.cert_words.specs.Walks.{Reads};
-ghost use Rattle.cert_reading.specs.Plain.{StepsUse};
-ghost use Rattle.cert_reading.specs.Uses.{AreShared};
 
 use crate::evidence::infeasibility;
 use crate::uses::Uses;

@@ -1,15 +1,13 @@
 //! Terms.
 
 ghost use Rattle.std.specs.Prelude.{◌≡◌, ◌≤◌, ◌<◌, ◌+◌, ◌++◌, ℕ, suc, true, List, [], ◌∷◌, None, length, codes};
-ghost use Rattle.cops_names.specs.NameTable.{NameTable};
-ghost use Rattle.rewriting.specs.Terms.{size, size_all};
-ghost use Rattle.term_core.specs.View.{view, views};
-ghost use Rattle.cert_grammar.specs.Prelude.{name_of, meets, has_arity, fixed, behind, Frame};
+ghost use Rattle.cert_reading.specs.Prelude.{NameTable, name_of, meets, has_arity, fixed, behind, Frame, Reads};
+ghost use Rattle.rewriting.specs.Prelude.{size, size_all};
+ghost use Rattle.term_core.specs.Prelude.{view, views};
+ghost use Rattle.cert_reading.specs.Arguments.{argument_end, behind_argument};
+ghost use Rattle.cert_words.specs.Nodes.{inner_marks};
 ghost use Rattle.cert_grammar.specs.WordMarks as marks;
 ghost use Rattle.cert_grammar.specs.Items as spec;
-ghost use Rattle.cert_words.specs.Walks.{Reads};
-ghost use Rattle.cert_words.specs.Nodes.{inner_marks};
-ghost use Rattle.cert_reading.specs.Arguments.{argument_end, behind_argument};
 
 use cert_words::{
     Next, Node, Reading, checked, closed_or, either, has_so_many, next_node, opened, opened_or,

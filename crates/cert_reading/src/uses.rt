@@ -1,13 +1,8 @@
 //! Uses of automata: all of it stands there, or its number.
 
 ghost use Rattle.std.specs.Prelude.{◌≡◌, ◌≤◌, ◌-◌, ℕ, List, [], ◌∷◌, None, Some, map, length, slice_get};
-ghost use Rattle.cops_names.specs.NameTable.{NameTable};
-ghost use Rattle.cert_model.specs.EvidenceView.{automaton_view};
-ghost use Rattle.cert_grammar.specs.Prelude.{use_marks, Item};
+ghost use Rattle.cert_reading.specs.Prelude.{NameTable, automaton_view, use_marks, Item, Reads, IsUsed, version_by, automata_by, uses_by, use_between, use_item, AreKnown};
 ghost use Rattle.cert_grammar.specs.Items as spec;
-ghost use Rattle.cert_words.specs.Walks.{Reads};
-ghost use Rattle.cert_reading.specs.Plain.{IsUsed};
-ghost use Rattle.cert_reading.specs.Uses.{version_by, automata_by, uses_by, use_between, use_item, AreKnown};
 
 use crate::automata::automaton;
 use cert_model::Automaton;

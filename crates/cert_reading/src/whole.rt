@@ -1,18 +1,11 @@
 //! Whole certificates.
 
 ghost use Rattle.std.specs.Prelude.{◌≡◌, ◌≤◌, ◌++◌, ℕ, List, [], ◌∷◌, None, Option, Bool, map, length, codes};
-ghost use Rattle.cops_names.specs.NameTable.{NameTable};
-ghost use Rattle.certificates.specs.Certificates.{simplified_certificate};
-ghost use Rattle.cert_model.specs.EvidenceView.{automaton_view};
-ghost use Rattle.cert_model.specs.CertificateView.{simp_view, certificate_view};
-ghost use Rattle.cert_grammar.specs.Prelude.{second_version, by_number, IsUnsimplified, number_in, fixed, body_marks, closing, Item, nothing_shared};
-ghost use Rattle.cert_grammar.specs.Items as spec;
-ghost use Rattle.cert_words.specs.Walks.{Reads};
-ghost use Rattle.cert_reading.specs.Plain.{IsPlainBy};
-ghost use Rattle.cert_reading.specs.Uses.{version_by, automata_by, uses_by, AreShared, AreKnown};
-ghost use Rattle.cert_reading.specs.Headings.{item_by, behind_kind, IsOfKind};
-ghost use Rattle.cert_reading.specs.Stops.{ReadsWhere, Anywhere};
+ghost use Rattle.cert_reading.specs.Prelude.{NameTable, automaton_view, simp_view, certificate_view, second_version, by_number, IsUnsimplified, number_in, fixed, body_marks, closing, Item};
+ghost use Rattle.cert_reading.specs.Prelude.{nothing_shared, Reads, IsPlainBy, version_by, automata_by, uses_by, AreShared, AreKnown, item_by, behind_kind, IsOfKind, ReadsWhere, Anywhere};
+ghost use Rattle.certificates.specs.Prelude.{simplified_certificate};
 ghost use Rattle.cert_reading.specs.Whole.{ReadsCertificate};
+ghost use Rattle.cert_grammar.specs.Items as spec;
 
 use crate::headings::{Kind, first_line, kind_word, simplified_word};
 use crate::measures::measure;

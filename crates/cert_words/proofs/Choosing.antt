@@ -1,14 +1,8 @@
 -- Which of some texts comes next.
-use Rattle.std.proofs.Common.{◌≡◌, ◌<◌, ◌≤◌, ℕ, zero, suc, false, List, [], ◌∷◌, length, map, get_or, max, Some, None, refl, ap, arith}
 use Rattle.std.proofs.lemmas.List.{length-map}
-use Rattle.cops_names.specs.NameTable.{NameTable}
-use Rattle.cert_grammar.specs.Prelude.{fixed, spelling, scan, Item, is_there, first_there, longest}
-use Rattle.cert_words.specs.declared.error.CertError.{CertError}
-use Rattle.cert_words.specs.declared.reading.Reading.{Reading}
+use Rattle.cert_words.proofs.Prelude.{◌≡◌, ◌<◌, ◌≤◌, ℕ, zero, suc, false, List, [], ◌∷◌, length, map, get_or, max, Some, None, refl, ap, arith, NameTable, fixed, spelling, scan, Item}
+use Rattle.cert_words.proofs.Prelude.{is_there, first_there, longest, CertError, Reading, bare, IsLeadRead, Reads, Choice, lead_of, bare_of, Chosen, Missed, IsFirst}
 use Rattle.cert_words.specs.declared.leads.Lead as code
-use Rattle.cert_words.specs.Words.{bare, IsLeadRead}
-use Rattle.cert_words.specs.Walks.{Reads}
-use Rattle.cert_words.specs.Choices.{Choice, lead_of, bare_of, Chosen, Missed, IsFirst}
 
 -- none of them is there
 pub none_of : (bytes : List ℕ) (cs : List Choice) (k : ℕ) → length cs ≤ k → Missed bytes k (map bare_of cs) → first_there (map lead_of cs) bytes ≡ None

@@ -1,13 +1,10 @@
 -- Which lead stands at the front of bytes, and how far leads are read.
-use Rattle.cert_grammar.specs.Prelude.{text, check, is_short, is_there, spelling, scan, scan_next, is_word, mode_of, ends_lead, taken, longest}
+use Rattle.cert_words.proofs.Prelude.{text, check, is_short, is_there, spelling, scan, scan_next, is_word, mode_of, ends_lead, taken, longest, text_is, lead_there, found_there}
+use Rattle.cert_words.proofs.Prelude.{length-append, ◌++◌, ◌≡◌, ◌≤◌, ℕ, suc, Bool, true, false, if◌then◌else◌, List, [], ◌∷◌, Some, None, max, map, length, take, drop, refl, sym, ap, ◌∙◌}
+use Rattle.cert_words.proofs.Prelude.{subst, ◌==◌, arith, false_from_ne_true, drop-append_seam, take-append_seam, bare, IsLeadRead}
 use Rattle.cert_grammar.proofs.ScanLaws.{spelling_whole}
-use Rattle.cert_laws.proofs.Paths.{text_is, lead_there, found_there}
-use Rattle.std.proofs.Common.{length-append, ◌++◌, ◌≡◌, ◌≤◌, ℕ, suc, Bool, true, false, if◌then◌else◌, List, [], ◌∷◌, Some, None, max, map, length, take, drop, refl, sym, ap, ◌∙◌, subst, ◌==◌, arith}
-use Rattle.std.proofs.lemmas.Bool.{false_from_ne_true}
-use Rattle.std.proofs.Math.Seq.{drop-append_seam, take-append_seam}
 use Rattle.cert_words.specs.declared.leads.Lead as code
 use Rattle.cert_words.specs.declared.leads.Lead.TheVariants as leading
-use Rattle.cert_words.specs.Words.{bare, IsLeadRead}
 
 -- the longest front of the leads, with the longest one of those that have been seen
 pub record LongestOn (leads : List code.Lead) (bytes : List ℕ) (at most : ℕ) : Type 0 where

@@ -1,7 +1,5 @@
 -- What words must meet, one demand behind another, and the numbers that digits spell.
-use Rattle.std.proofs.Common.{◌≡◌, ◌+◌, ◌*◌, ◌-◌, ◌<◌, ◌≤◌, ℕ, List, [], ◌∷◌, length, drop, get_or, refl, sym, ap, ◌∙◌, add-one, arith}
-use Rattle.std.proofs.Math.Seq.{drop-cons}
-use Rattle.cert_grammar.specs.Prelude.{largest, value_from, value}
+use Rattle.cert_words.proofs.Prelude.{◌≡◌, ◌+◌, ◌*◌, ◌-◌, ◌<◌, ◌≤◌, ℕ, List, [], ◌∷◌, length, drop, get_or, refl, sym, ap, ◌∙◌, add-one, arith, drop-cons, largest, value_from, value}
 
 -- the number that the digits before this place spell, which is not too great
 pub record ValueOn (digits : List ℕ) (at n : ℕ) : Type 0 where

@@ -8,3 +8,5 @@ pub mod NodeReads
 pub mod Choosing
 pub mod Whole
 pub mod Sharings
+pub mod Prelude
+pub mod Lemmas

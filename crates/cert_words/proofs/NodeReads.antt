@@ -1,14 +1,10 @@
 -- Nodes, and what stands behind them.
-use Rattle.std.proofs.Common.{◌≡◌, ◌+◌, ℕ, suc, List, [], ◌∷◌, Some, length, refl, ap, ap₂, zero, ◌≤◌, ◌-◌, arith}
-use Rattle.cops_names.specs.NameTable.{NameTable}
-use Rattle.cert_grammar.specs.Prelude.{Naming, Mark, is_node, Frame, Item, name_lead, variable_lead, leads, node, name_behind, term_behind}
-use Rattle.cert_words.specs.declared.error.CertError.{CertError}
-use Rattle.cert_words.specs.declared.reading.Reading.{Reading}
+use Rattle.cert_words.proofs.Prelude.{◌≡◌, ◌+◌, ℕ, suc, List, [], ◌∷◌, Some, length, refl, ap, ap₂, zero, ◌≤◌, ◌-◌, arith, NameTable, Naming, Mark, is_node, Frame, Item, name_lead}
+use Rattle.cert_words.proofs.Prelude.{variable_lead, leads, node, name_behind, term_behind, CertError, Reading, Reads}
+use Rattle.cert_words.proofs.Walking.{already}
+use Rattle.cert_words.specs.Nodes.{NodeRead}
 use Rattle.cert_words.specs.declared.nodes.Node.{Node}
 use Rattle.cert_words.specs.declared.nodes.Node.TheVariants.{Symbol, Variable}
-use Rattle.cert_words.specs.Walks.{Reads}
-use Rattle.cert_words.specs.Nodes.{NodeRead}
-use Rattle.cert_words.proofs.Walking.{already}
 
 pub suc_is : (n : ℕ) → suc n ≡ n + 1
 suc_is n = omega arith

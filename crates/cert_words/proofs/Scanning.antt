@@ -1,9 +1,7 @@
 -- How far words are read at a place inside bytes.
-use Rattle.std.proofs.Common.{◌≡◌, ◌+◌, ◌<◌, ℕ, suc, List, ◌∷◌, Option, Some, None, option_map, length, drop, get_or, sym, ap, ◌∙◌, add-one, arith}
-use Rattle.std.proofs.Math.Seq.{drop-cons}
+use Rattle.cert_words.proofs.Prelude.{◌≡◌, ◌+◌, ◌<◌, ℕ, suc, List, ◌∷◌, Option, Some, None, option_map, length, drop, get_or, sym, ap, ◌∙◌, add-one, arith, drop-cons, Mode, Scan, scan}
+use Rattle.cert_words.proofs.Prelude.{scan_next, next, mode_view}
 use Rattle.cert_words.specs.declared.scans.Mode as code
-use Rattle.cert_grammar.specs.Scans.{Mode, Scan, scan, scan_next, next}
-use Rattle.cert_words.specs.Words.{mode_view}
 
 -- behind so many bytes of the longest front that begins a word, with the rest of it
 pub record ScansOn (begins : Mode) (bytes : List ℕ) (m : Mode) (at : ℕ) : Type 0 where

@@ -1,20 +1,12 @@
 -- Words at which shared automata are judged.
-use Rattle.std.proofs.Common.{◌≡◌, ◌≤◌, ◌-◌, nat_le, nat_lt, ℕ, suc, Bool, true, false, not, cond, ◌&&◌, List, [], ◌∷◌, ◌++◌, length, take, Option, Some, None, refl, sym, ap, ◌∙◌}
-use Rattle.std.proofs.Common.{subst, arith, length-append}
-use Rattle.std.proofs.Math.Seq.{take-append_seam}
-use Rattle.cops_names.specs.NameTable.{NameTable}
-use Rattle.cert_grammar.specs.Prelude.{largest, name_of, CertificateCause, bad_share, too_many, unfolded, automaton_begins, automaton_ends, is_use, is_light, all_used, Demand, shares}
-use Rattle.cert_grammar.specs.Prelude.{Naming, Mark, word, closed, marks_text, verdict, use_mark, value, Item, Lead, at_once, keyword, numeral_lead, is_short, leads, is_among, Shared}
-use Rattle.cert_grammar.specs.Prelude.{holds, first_of, share_verdict, share_effect, behind_marks, PassShares, is_there, first_there}
-use Rattle.cert_grammar.specs.WordMarks.{numeral}
-use Rattle.cert_shares.specs.SharesView.{with_begun, behind_end}
-use Rattle.cert_sharing.proofs.UseMarks.{behind_both, pass_join, alone_met, two_met}
-use Rattle.cert_words.specs.declared.error.CertError.{CertError}
-use Rattle.cert_words.specs.declared.reading.Reading.{Reading}
-use Rattle.cert_words.specs.Words.{IsLeadRead, told}
-use Rattle.cert_words.specs.Walks.{left_at, tagged, Keeps, Run, RefusesAt, IsStuckAt, IsStopped, IsFront, Reads, BeginsAnew, IsStuckBehind}
+use Rattle.cert_words.proofs.Prelude.{◌≡◌, ◌≤◌, ◌-◌, nat_le, nat_lt, ℕ, suc, Bool, true, false, not, cond, ◌&&◌, List, [], ◌∷◌, ◌++◌, length, take, Option, Some, None, refl, sym, ap, ◌∙◌}
+use Rattle.cert_words.proofs.Prelude.{subst, arith, length-append, take-append_seam, NameTable, largest, name_of, CertificateCause, bad_share, too_many, unfolded, automaton_begins}
+use Rattle.cert_words.proofs.Prelude.{automaton_ends, is_use, is_light, all_used, Demand, shares, Naming, Mark, word, closed, marks_text, verdict, use_mark, value, Item, Lead, at_once}
+use Rattle.cert_words.proofs.Prelude.{keyword, numeral_lead, is_short, leads, is_among, Shared, holds, first_of, share_verdict, share_effect, behind_marks, PassShares, is_there, first_there}
+use Rattle.cert_words.proofs.Prelude.{numeral, with_begun, behind_end, behind_both, pass_join, alone_met, two_met, CertError, Reading, told, left_at, tagged, Keeps, Run, RefusesAt}
+use Rattle.cert_words.proofs.Prelude.{IsStuckAt, IsStopped, IsFront, Reads, BeginsAnew, IsStuckBehind}
+use Rattle.cert_words.proofs.Stepping.{one_walk, number_keeps, shared_stop, in_range_then, Front}
 use Rattle.cert_words.proofs.Walking.{walks_then, walks_shorter, same_begun, found_then, front_same, front_then, went, stopped, open_before, read_run}
-use Rattle.cert_words.proofs.Stepping.{first_one, one_walk, number_keeps, shared_stop, in_range_then}
 use Rattle.cert_words.proofs.Whole.{walks_text}
 
 -- ---- the first word of an automaton, and the last line
@@ -28,13 +20,10 @@ end_keeps w s v e h = λ b. ((alone_met (holds s all_used) (bad_share, 0) (sym e
 first_out : (v : Bool) (x : CertificateCause × ℕ) (o : Option (CertificateCause × ℕ)) → v ≡ false → first_of (cond {A = Option (CertificateCause × ℕ)} v None (Some x)) o ≡ Some x
 first_out v x o e = ap (λ (t : Bool). first_of (cond {A = Option (CertificateCause × ℕ)} t None (Some x)) o) e
 
-pub end_stop : (names : NameTable) (end : ℕ) (bytes : List ℕ) (s : Shared) (i : Item) (w v rest : List ℕ) (new : List Item) (t : Bool)
-    → first_there (leads i) bytes ≡ Some (keyword w (shares all_used ∷ []) new) → IsLeadRead (keyword w [] []) bytes v rest → t ≡ holds s all_used → t ≡ false
-    → IsStuckAt names end i bytes s (Some (bad_share, end - length bytes))
-end_stop names end bytes s i w v rest new t f h e missed = λ items b.
-    shared_stop names end bytes s i (keyword w (shares all_used ∷ []) new) v rest (bad_share, end - length bytes) items (with_begun b s)
-    (record { first = f; word = h.word; rest = h.rest; within = h.within }) refl
-    (first_out (holds s all_used) (bad_share, end - length bytes) None (sym e ∙ missed))
+pub end_stop : (names : NameTable) (end : ℕ) {bytes : List ℕ} (s : Shared) {i : Item} {w v rest : List ℕ} {new : List Item} {t : Bool}
+    → Front bytes i (keyword w (shares all_used ∷ []) new) v rest → t ≡ holds s all_used → t ≡ false → IsStuckAt names end i bytes s (Some (bad_share, end - length bytes))
+end_stop names end {bytes} s f e missed = λ items b.
+    shared_stop names end f (bad_share, end - length bytes) items (with_begun b s) refl (first_out (holds s all_used) (bad_share, end - length bytes) None (sym e ∙ missed))
 
 -- ---- a use
 
@@ -56,35 +45,22 @@ use_keeps w n s t h k e = λ b. ((two_met (holds s (is_use n)) (holds s (is_ligh
 pub use_met : (names : NameTable) (v n : ℕ) → n ≡ v → (nat_le 0 v && nat_lt v (suc largest)) ≡ true → (at : ℕ) → verdict names at (use_demands v) ≡ None
 use_met names v n e h at = in_range_then names at 0 (suc largest) v (shares (is_use v) ∷ shares (is_light v) ∷ []) None h refl
 
-module _ (names : NameTable) (end : ℕ) (s : Reading) (i : Item) (v : List ℕ) (new : ℕ → List Item) (n : ℕ) where
-  use_first : leads i ≡ use_lead new ∷ [] → is_there (numeral_lead (λ k. []) (λ k. [])) s.left.now ≡ true → first_there (leads i) s.left.now ≡ Some (use_lead new)
-  use_first e h = first_one i s.left.now (use_lead new) [] e h
+module _ (names : NameTable) (end : ℕ) (s : Reading) {i : Item} {v rest : List ℕ} {new : ℕ → List Item} {n : ℕ} (f : Front s.left.now i (use_lead new) v rest)
+    (k : (n ≡ value v) × ((nat_le 0 (value v) && nat_lt (value v) (suc largest)) ≡ true)) where
+  pub use_run : {t : Shared} → (holds s.shares (is_use n) ≡ true) × (holds s.shares (is_light n) ≡ true) × (t ≡ share_effect (is_light n) (share_effect (is_use n) s.shares))
+      → Run names end (i ∷ []) (λ u. use_mark n ∷ []) (new n) s.left.now rest s.shares t
+  use_run {t} m = number_keeps f k.0 (use_met names (value v) n k.0 k.1) (use_keeps (numeral n) n s.shares t m.0 m.1 m.2)
 
-  pub use_read : (t : Reading) → leads i ≡ use_lead new ∷ [] → s.refused ≡ None → t.refused ≡ None → IsLeadRead (numeral_lead (λ k. []) (λ k. [])) s.left.now v t.left.now
-      → (n ≡ value v) × ((nat_le 0 (value v) && nat_lt (value v) (suc largest)) ≡ true)
-      → (holds s.shares (is_use n) ≡ true) × (holds s.shares (is_light n) ≡ true) × (t.shares ≡ share_effect (is_light n) (share_effect (is_use n) s.shares))
-      → Reads names end (i ∷ []) (λ u. use_mark n ∷ []) (new n) s t
-  use_read t e q r h k m = went q r (front_same s.shares.texts t.shares.texts (ap (λ (z : Shared). z.texts) m.2))
-      (number_keeps names end s.left.now s.shares i use_demands new v t.left.now n (use_first e h.there) h k.0 (use_met names (value v) n k.0 k.1) t.shares
-      (use_keeps (numeral n) n s.shares t.shares m.0 m.1 m.2))
-
-  out : (x : CertificateCause × ℕ) (rest : List ℕ) → leads i ≡ use_lead new ∷ [] → IsLeadRead (numeral_lead (λ k. []) (λ k. [])) s.left.now v rest
-      → (n ≡ value v) × ((nat_le 0 (value v) && nat_lt (value v) (suc largest)) ≡ true)
-      → ((b : List ℕ) → share_verdict (with_begun b s.shares) (end - length s.left.now) (use_demands n) ≡ Some x) → IsStuckAt names end i s.left.now s.shares (Some x)
-  out x rest e h k w = λ items b.
-      shared_stop names end s.left.now s.shares i (use_lead new) v rest x items (with_begun b s.shares)
-      (record { first = use_first e h.there; word = h.word; rest = h.rest; within = h.within }) (use_met names (value v) n k.0 k.1 (end - length s.left.now))
+  out : (x : CertificateCause × ℕ) → ((b : List ℕ) → share_verdict (with_begun b s.shares) (end - length s.left.now) (use_demands n) ≡ Some x)
+      → IsStuckAt names end i s.left.now s.shares (Some x)
+  out x w = λ items b. shared_stop names end f x items (with_begun b s.shares) (use_met names (value v) n k.0 k.1 (end - length s.left.now))
       (subst (λ (j : ℕ). share_verdict (with_begun b s.shares) (end - length s.left.now) (use_demands j) ≡ Some x) k.0 (w b))
 
-  pub use_bad : (rest : List ℕ) → leads i ≡ use_lead new ∷ [] → IsLeadRead (numeral_lead (λ k. []) (λ k. [])) s.left.now v rest
-      → (n ≡ value v) × ((nat_le 0 (value v) && nat_lt (value v) (suc largest)) ≡ true) → holds s.shares (is_use n) ≡ false
-      → IsStuckAt names end i s.left.now s.shares (Some (bad_share, end - length s.left.now))
-  use_bad rest e h k missed = out (bad_share, end - length s.left.now) rest e h k (λ b. first_out (holds s.shares (is_use n)) (bad_share, end - length s.left.now) _ missed)
+  pub use_bad : holds s.shares (is_use n) ≡ false → IsStuckAt names end i s.left.now s.shares (Some (bad_share, end - length s.left.now))
+  use_bad missed = out (bad_share, end - length s.left.now) (λ b. first_out (holds s.shares (is_use n)) (bad_share, end - length s.left.now) _ missed)
 
-  pub use_heavy : (rest : List ℕ) → leads i ≡ use_lead new ∷ [] → IsLeadRead (numeral_lead (λ k. []) (λ k. [])) s.left.now v rest
-      → (n ≡ value v) × ((nat_le 0 (value v) && nat_lt (value v) (suc largest)) ≡ true) → holds s.shares (is_use n) ≡ true → holds s.shares (is_light n) ≡ false
-      → IsStuckAt names end i s.left.now s.shares (Some (too_many unfolded, end - length s.left.now))
-  use_heavy rest e h k kept missed = out (too_many unfolded, end - length s.left.now) rest e h k
+  pub use_heavy : holds s.shares (is_use n) ≡ true → holds s.shares (is_light n) ≡ false → IsStuckAt names end i s.left.now s.shares (Some (too_many unfolded, end - length s.left.now))
+  use_heavy kept missed = out (too_many unfolded, end - length s.left.now)
       (λ b. second_out (holds s.shares (is_use n)) (holds s.shares (is_light n)) (bad_share, end - length s.left.now) (too_many unfolded, end - length s.left.now) kept missed)
 
 -- ---- an automaton's end
@@ -97,9 +73,6 @@ not_among : (v w : Bool) → v ≡ not w → v ≡ true → w ≡ false
 not_among v true e f = absurd (let q = sym e ∙ f in cc)
 not_among v false e f = refl
 
-is_again : (v w : Bool) → v ≡ not w → v ≡ false → not w ≡ false
-is_again v w e f = sym e ∙ f
-
 with_new_text : (text : List ℕ) (s : Shared) → is_among text s.texts ≡ false → behind_end text s ≡ record { texts = s.texts ++ text ∷ []; begun = s.begun; used = s.used; unfolds_to = s.unfolds_to }
 with_new_text text s e = ap (λ (v : Bool). record { texts = cond {A = List (List ℕ)} v s.texts (s.texts ++ text ∷ []); begun = s.begun; used = s.used; unfolds_to = s.unfolds_to }) e
 
@@ -111,46 +84,50 @@ front_if false text ts = (text ∷ [], refl)
 pub front_ended : (text : List ℕ) (s t : Shared) → t ≡ behind_end text s → IsFront s.texts t.texts
 front_ended text s t e = subst (λ (z : Shared). IsFront s.texts z.texts) (sym e) (front_if (is_among text s.texts) text s.texts)
 
-module _ (names : NameTable) (end : ℕ) (from : List Item) (f : Naming → List Mark) (i : Item) (new : List Item) (a s : Reading) where
+module _ {names : NameTable} {end : ℕ} {from : List Item} {f : Naming → List Mark} {i : Item} {new : List Item} {a s : Reading} {text : List ℕ} {good : Bool}
+    (is_end : leads i ≡ at_once (shares automaton_ends) new ∷ []) (cut : text ≡ take (length a.left.now - length s.left.now) a.left.now)
+    (g : good ≡ holds (with_begun text s.shares) automaton_ends) (anew : BeginsAnew (f (name_of names))) (none : s.refused ≡ None) (x : Reads names end from f (i ∷ []) a s) where
   abbrev done : List Mark
   done = f (name_of names)
 
-  -- the bytes since the automaton began
-  since : Run names end from f (i ∷ []) a.left.now s.left.now a.shares s.shares → length a.left.now ≤ end → a.left.now ≡ marks_text done ++ s.left.now
-  since r le = walks_text names done _ _ (r.walks le [])
+  run : Run names end from f (i ∷ []) a.left.now s.left.now a.shares s.shares
+  run = read_run none x
 
-  text_is : (text : List ℕ) → Run names end from f (i ∷ []) a.left.now s.left.now a.shares s.shares → length a.left.now ≤ end
-      → text ≡ take (length a.left.now - length s.left.now) a.left.now → text ≡ marks_text done
-  text_is text r le e =
-      let whole = since r le in
-      let long = ap length whole ∙ length-append (marks_text done) s.left.now in
+  -- the bytes since the automaton began
+  since : length a.left.now ≤ end → a.left.now ≡ marks_text done ++ s.left.now
+  since le = walks_text names done _ _ (run.walks le [])
+
+  text_is : length a.left.now ≤ end → text ≡ marks_text done
+  text_is le =
+      let long = ap length (since le) ∙ length-append (marks_text done) s.left.now in
       let size : length a.left.now - length s.left.now ≡ length (marks_text done) = omega (arith, long) in
-      e ∙ ap (λ (n : ℕ). take n a.left.now) size ∙ ap (take (length (marks_text done))) whole ∙ take-append_seam (marks_text done) s.left.now
+      cut ∙ ap (λ (n : ℕ). take n a.left.now) size ∙ ap (take (length (marks_text done))) (since le) ∙ take-append_seam (marks_text done) s.left.now
 
   -- what is known where it ends
-  behind_all : Run names end from f (i ∷ []) a.left.now s.left.now a.shares s.shares → length a.left.now ≤ end → BeginsAnew done → (b : List ℕ)
-      → behind_marks done (with_begun b a.shares) ≡ with_begun (marks_text done) s.shares
-  behind_all r le anew b = same_begun (behind_marks done (with_begun b a.shares)) s.shares (r.shares le b).1 ∙ ap (λ (x : List ℕ). with_begun x s.shares) (anew b a.shares)
+  behind_all : length a.left.now ≤ end → (b : List ℕ) → behind_marks done (with_begun b a.shares) ≡ with_begun (marks_text done) s.shares
+  behind_all le b = same_begun (behind_marks done (with_begun b a.shares)) s.shares (run.shares le b).1 ∙ ap (λ (y : List ℕ). with_begun y s.shares) (anew b a.shares)
 
-  first_is : leads i ≡ at_once (shares automaton_ends) new ∷ [] → first_there (leads i) s.left.now ≡ Some (at_once (shares automaton_ends) new)
-  first_is e = first_one i s.left.now (at_once (shares automaton_ends) new) [] e (here_there (shares automaton_ends) new s.left.now)
+  at_end : Front s.left.now i (at_once (shares automaton_ends) new) [] s.left.now
+  at_end = record {
+    first = ap (λ (ls : List Lead). first_there ls s.left.now) is_end ∙ rw (here_there (shares automaton_ends) new s.left.now) refl;
+    word = refl;
+    rest = refl;
+    within = omega arith;
+  }
 
-  pub end_read : (text : List ℕ) (t : Reading) (good : Bool) → leads i ≡ at_once (shares automaton_ends) new ∷ [] → s.refused ≡ None → t.refused ≡ None → t.left.now ≡ s.left.now
-      → text ≡ take (length a.left.now - length s.left.now) a.left.now → good ≡ holds (with_begun text s.shares) automaton_ends → good ≡ true
-      → t.shares ≡ behind_end text s.shares → BeginsAnew done
-      → Reads names end from f (i ∷ []) a s → Reads names end from (λ u. f u ++ closed (shares automaton_ends) ∷ []) new a t
-  end_read text t good e none still left cut g kept known anew x =
+  pub end_read : {t : Reading} → t.refused ≡ None → t.left.now ≡ s.left.now → good ≡ true → t.shares ≡ behind_end text s.shares
+      → Reads names end from (λ u. f u ++ closed (shares automaton_ends) ∷ []) new a t
+  end_read {t} still left kept known =
       went (open_before x none) still (front_then a.shares.texts s.shares.texts t.shares.texts x.front (front_ended text s.shares t.shares known))
       (subst (λ (r : List ℕ). Run names end from (λ u. f u ++ closed (shares automaton_ends) ∷ []) new a.left.now r a.shares t.shares) (sym left) (record {
         walks = λ le items.
             let first = run.walks le items in
             let less = walks_shorter names done _ _ first in
-            walks_then names done (closed (shares automaton_ends) ∷ []) _ _ _ first (one_walk names end s.left.now s.shares i (at_once (shares automaton_ends) new) [] s.left.now
-            (record { first = first_is e; word = refl; rest = refl; within = omega arith }) refl (omega (arith, less, le)) items);
+            walks_then names done (closed (shares automaton_ends) ∷ []) _ _ _ first (one_walk names end at_end refl (omega (arith, less, le)) items);
         found = found_then names (f tagged) (closed (shares automaton_ends) ∷ []) run.found tt;
         shares = λ le b.
-            let there = behind_all run le anew b in
-            let is = text_is text run le cut in
+            let there = behind_all le b in
+            let is = text_is le in
             let new_one : is_among text s.shares.texts ≡ false = not_among good (is_among text s.shares.texts) g kept in
             let here = subst (λ (w : List ℕ). is_among w s.shares.texts ≡ false) is new_one in (
               pass_join done (closed (shares automaton_ends) ∷ []) (with_begun b a.shares) (run.shares le b).0
@@ -162,31 +139,19 @@ module _ (names : NameTable) (end : ℕ) (from : List Item) (f : Naming → List
                   ∙ ap (with_begun []) (sym (known ∙ with_new_text text s.shares new_one)),
             );
       }))
-    where
-      run : Run names end from f (i ∷ []) a.left.now s.left.now a.shares s.shares
-      run = read_run none x
 
-  pub end_stuck : (text : List ℕ) (good : Bool) (at : ℕ) → leads i ≡ at_once (shares automaton_ends) new ∷ [] → s.refused ≡ None → at ≡ end - length a.left.now
-      → text ≡ take (length a.left.now - length s.left.now) a.left.now → good ≡ holds (with_begun text s.shares) automaton_ends → good ≡ false → BeginsAnew done
-      → Reads names end from f (i ∷ []) a s → IsStuckBehind names end i done a.left.now s.left.now a.shares (Some (bad_share, at))
-  end_stuck text good at is_end none place cut g missed anew x = λ le items b.
-      let is = text_is text run le cut in
-      let long = ap length (since run le) ∙ length-append (marks_text done) s.left.now in
+  pub end_stuck : (at : ℕ) → at ≡ end - length a.left.now → good ≡ false → IsStuckBehind names end i done a.left.now s.left.now a.shares (Some (bad_share, at))
+  end_stuck at place missed = λ le items b.
+      let long = ap length (since le) ∙ length-append (marks_text done) s.left.now in
       let there : (end - length s.left.now) - length (marks_text done) ≡ at = omega (arith, long, place) in
-      subst (λ (z : Shared). RefusesAt names (left_at end (i ∷ items) s.left.now) z (bad_share, at)) (sym (behind_all run le anew b))
-      (shared_stop names end s.left.now s.shares i (at_once (shares automaton_ends) new) [] s.left.now (bad_share, at) items (with_begun (marks_text done) s.shares)
-      (record { first = first_is is_end; word = refl; rest = refl; within = omega arith }) refl
+      subst (λ (z : Shared). RefusesAt names (left_at end (i ∷ items) s.left.now) z (bad_share, at)) (sym (behind_all le b))
+      (shared_stop names end at_end (bad_share, at) items (with_begun (marks_text done) s.shares) refl
       (first_out (not (is_among (marks_text done) s.shares.texts)) (bad_share, (end - length s.left.now) - length (marks_text done)) None
-      (subst (λ (w : List ℕ). not (is_among w s.shares.texts) ≡ false) is (is_again good (is_among text s.shares.texts) g missed)) ∙ ap (λ (k : ℕ). Some (bad_share, k)) there))
-    where
-      run : Run names end from f (i ∷ []) a.left.now s.left.now a.shares s.shares
-      run = read_run none x
+      (subst (λ (w : List ℕ). not (is_among w s.shares.texts) ≡ false) (text_is le) (sym g ∙ missed)) ∙ ap (λ (k : ℕ). Some (bad_share, k)) there))
 
-  pub end_stopped : (text : List ℕ) (t : Reading) (good : Bool) (e : CertError) (at : ℕ) → leads i ≡ at_once (shares automaton_ends) new ∷ [] → s.refused ≡ None
-      → t.refused ≡ Some e → told e ≡ Some (bad_share, at) → at ≡ end - length a.left.now → text ≡ take (length a.left.now - length s.left.now) a.left.now
-      → good ≡ holds (with_begun text s.shares) automaton_ends → good ≡ false → t.shares ≡ behind_end text s.shares → BeginsAnew done
-      → Reads names end from f (i ∷ []) a s → Reads names end from (λ u. f u ++ closed (shares automaton_ends) ∷ []) new a t
-  end_stopped text t good e at is_end none some tells place cut g missed known anew x =
+  pub end_stopped : {t : Reading} {e : CertError} (at : ℕ) → t.refused ≡ Some e → told e ≡ Some (bad_share, at) → at ≡ end - length a.left.now → good ≡ false
+      → t.shares ≡ behind_end text s.shares → Reads names end from (λ u. f u ++ closed (shares automaton_ends) ∷ []) new a t
+  end_stopped {t} {e} at some tells place missed known =
       stopped e (open_before x none) some (front_then a.shares.texts s.shares.texts t.shares.texts x.front (front_ended text s.shares t.shares known))
       (subst (IsStopped names end from a.left.now a.shares) (sym tells) (λ le items. record {
         marks = done;
@@ -194,8 +159,5 @@ module _ (names : NameTable) (end : ℕ) (from : List Item) (f : Naming → List
         more = [];
         rest = s.left.now;
         walks = run.walks le items;
-        stops = λ b. ((run.shares le b).0, end_stuck text good at is_end none place cut g missed anew x le items b);
+        stops = λ b. ((run.shares le b).0, end_stuck at place missed le items b);
       }))
-    where
-      run : Run names end from f (i ∷ []) a.left.now s.left.now a.shares s.shares
-      run = read_run none x

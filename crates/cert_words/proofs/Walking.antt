@@ -1,17 +1,10 @@
 -- Parts one behind another.
-use Rattle.std.proofs.Common.{◌≡◌, ◌≤◌, ◌-◌, ℕ, List, [], ◌∷◌, ◌++◌, length, Option, Some, None, refl, sym, ap, ◌∙◌, subst, arith, append_assoc, length-drop}
 use Rattle.std.proofs.lemmas.List.{append-nil}
-use Rattle.cops_names.specs.NameTable.{NameTable}
-use Rattle.cert_grammar.specs.Prelude.{name_of, CertificateCause, Naming, Mark, symbol, demands_of, Item, Lead, taken, Left, goes_on, behind_lead, judged}
-use Rattle.cert_grammar.specs.Prelude.{step_lead, step_items, Shared, share_verdict, behind_mark, behind_marks, PassShares, next_lead, further, shared_judged, behind_lead_shared}
-use Rattle.cert_grammar.specs.Prelude.{after_step, shared_step}
-use Rattle.cert_shares.specs.SharesView.{with_begun}
-use Rattle.cert_sharing.proofs.UseMarks.{behind_both, pass_join}
+use Rattle.cert_words.proofs.Prelude.{◌≡◌, ◌≤◌, ◌-◌, ℕ, List, [], ◌∷◌, ◌++◌, length, Option, Some, None, refl, sym, ap, ◌∙◌, subst, arith, append_assoc, length-drop, NameTable, name_of}
+use Rattle.cert_words.proofs.Prelude.{CertificateCause, Naming, Mark, symbol, demands_of, Item, Lead, taken, Left, goes_on, behind_lead, judged, step_lead, step_items, Shared, share_verdict}
+use Rattle.cert_words.proofs.Prelude.{behind_mark, behind_marks, PassShares, next_lead, further, shared_judged, behind_lead_shared, after_step, shared_step, with_begun, behind_both}
+use Rattle.cert_words.proofs.Prelude.{pass_join, CertError, Reading, told, left_at, StepsOver, Walks, tagged, AreFound, Keeps, Run, RefusesAt, IsStopped, GoesOn, IsFront, Reads}
 use Rattle.cert_sharing.proofs.OneShared.{shares_anywhere}
-use Rattle.cert_words.specs.declared.error.CertError.{CertError}
-use Rattle.cert_words.specs.declared.reading.Reading.{Reading}
-use Rattle.cert_words.specs.Words.{told}
-use Rattle.cert_words.specs.Walks.{left_at, StepsOver, Walks, tagged, AreFound, Keeps, Run, RefusesAt, IsStopped, GoesOn, IsFront, Reads}
 
 pub walks_then : (names : NameTable) (ms ns : List Mark) (l k j : Left) → Walks names ms l k → Walks names ns k j → Walks names (ms ++ ns) l j
 walks_then names [] ns l k j w v = subst (λ (x : Left). Walks names ns x j) (sym w) v

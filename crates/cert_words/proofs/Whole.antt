@@ -1,13 +1,10 @@
 -- A text that is read whole, or refused.
-use Rattle.std.proofs.Common.{◌≡◌, ◌-◌, ℕ, List, [], ◌∷◌, ◌++◌, length, drop, Option, Some, None, refl, sym, ap, ◌∙◌, subst, arith, append_assoc}
-use Rattle.cops_names.specs.NameTable.{NameTable}
-use Rattle.cert_grammar.specs.Prelude.{CertificateCause, Mark, mark_text, marks_text, demands_of, verdict, Pass, IsCertificateRefused, Item, opening, Lead, leads, taken, Left, goes_on}
-use Rattle.cert_grammar.specs.Prelude.{behind_lead, judged, step_lead, step_items, Shared, nothing_shared, behind_mark, behind_marks, PassShares}
-use Rattle.cert_laws.proofs.OneRefusal.{passed_anywhere}
-use Rattle.cert_laws.proofs.Paths.{first_sound}
+use Rattle.cert_words.proofs.Prelude.{◌≡◌, ◌-◌, ℕ, List, [], ◌∷◌, ◌++◌, length, drop, Option, Some, None, refl, sym, ap, ◌∙◌, subst, arith, append_assoc, NameTable, CertificateCause, Mark}
+use Rattle.cert_words.proofs.Prelude.{mark_text, marks_text, demands_of, verdict, Pass, IsCertificateRefused, Item, opening, Lead, leads, taken, Left, goes_on, behind_lead, judged}
+use Rattle.cert_words.proofs.Prelude.{step_lead, step_items, Shared, nothing_shared, behind_mark, behind_marks, PassShares, first_sound, left_at, StepsOver, Walks, RefusesAt}
 use Rattle.cert_laws.proofs.FirstRefusals.{move_text}
+use Rattle.cert_laws.proofs.OneRefusal.{passed_anywhere}
 use Rattle.cert_sharing.proofs.ExactShared.{At, IsSharedStepOf, shared_step_is}
-use Rattle.cert_words.specs.Walks.{left_at, StepsOver, Walks, RefusesAt}
 use Rattle.cert_words.proofs.Walking.{goes_where, step_on}
 
 -- what the marks spell

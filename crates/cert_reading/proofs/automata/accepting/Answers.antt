@@ -1,8 +1,6 @@
-use Rattle.std.proofs.Common.{◌∙◌, refl, sym, ap, [], ◌∷◌}
-use Rattle.cert_grammar.specs.CertificateMarks.{accepting_marks}
+use Rattle.cert_reading.proofs.Lemmas.{accepting_push}
+use Rattle.cert_reading.proofs.Prelude.{◌∙◌, refl, sym, ap, [], ◌∷◌, accepting_marks, then_reads, as_marks}
 use Rattle.cert_grammar.specs.Items as spec
-use Rattle.cert_words.proofs.Walking.{then_reads, as_marks}
-use Rattle.cert_reading.proofs.AutomatonMarks.{accepting_push}
 use Rattle.cert_reading.proofs.automata.accepting.Goals as goal
 
 pub states-preserved : goal.states-preserved

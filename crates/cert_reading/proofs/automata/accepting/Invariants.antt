@@ -1,8 +1,5 @@
-use Rattle.std.proofs.Common.{[], ◌∷◌, length}
-use Rattle.cops_names.specs.NameTable.{NameTable}
-use Rattle.cert_grammar.specs.CertificateMarks.{accepting_marks}
+use Rattle.cert_reading.proofs.Prelude.{[], ◌∷◌, length, NameTable, accepting_marks, Reads}
 use Rattle.cert_grammar.specs.Items as spec
-use Rattle.cert_words.specs.Walks.{Reads}
 use Rattle.cert_reading.proofs.automata.accepting.Given as goal
 
 abbrev pub invariant-states : goal.invariant-states

@@ -1,11 +1,7 @@
-use Rattle.std.proofs.Common.{◌≡◌, ◌<◌, ◌+◌, None, ◌∙◌, suc, refl, sym, ap, length, List, ℕ, [], ◌∷◌, ◌++◌, codes, arith}
-use Rattle.std.proofs.lemmas.List.{length_push}
-use Rattle.cert_grammar.specs.Prelude.{name_of, is_number, has_arity, fixed, behind, states_marks, space, between, states_behind, argument_state, further_states, head_closed}
-use Rattle.cops_names.specs.NameTable.{arity_at}
-use Rattle.cert_grammar.proofs.Views.{first_pushed}
-use Rattle.cert_words.proofs.Walking.{then_reads, as_reads, as_marks, open_before}
-use Rattle.cert_words.proofs.Stepping.{arity_met}
-use Rattle.cert_reading.proofs.AutomatonMarks.{begun, begun_push, begun_closed}
+use Rattle.cert_reading.proofs.Lemmas.{begun, begun_push, begun_closed}
+use Rattle.cert_reading.proofs.Prelude.{◌≡◌, ◌<◌, ◌+◌, None, ◌∙◌, suc, refl, sym, ap, length, List, ℕ, [], ◌∷◌, ◌++◌, codes, arith, length_push, name_of, is_number, has_arity, fixed, behind}
+use Rattle.cert_reading.proofs.Prelude.{states_marks, space, between, states_behind, argument_state, further_states, head_closed, arity_at, first_pushed, then_reads, as_reads, as_marks}
+use Rattle.cert_reading.proofs.Prelude.{open_before, arity_met}
 use Rattle.cert_reading.proofs.automata.arguments.Goals as goal
 
 pub arguments-init : goal.arguments-init

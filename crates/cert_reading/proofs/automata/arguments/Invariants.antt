@@ -1,8 +1,6 @@
-use Rattle.std.proofs.Common.{◌≡◌, ◌<◌, [], ◌∷◌, None, length}
-use Rattle.cert_grammar.specs.Words.{name_of}
+use Rattle.cert_reading.proofs.Lemmas.{begun}
+use Rattle.cert_reading.proofs.Prelude.{◌≡◌, ◌<◌, [], ◌∷◌, None, length, name_of, Reads}
 use Rattle.cert_grammar.specs.Items as spec
-use Rattle.cert_words.specs.Walks.{Reads}
-use Rattle.cert_reading.proofs.AutomatonMarks.{begun}
 use Rattle.cert_reading.proofs.automata.arguments.Given as goal
 
 abbrev pub invariant-arguments : goal.invariant-arguments

@@ -1,6 +1,4 @@
-use Rattle.std.proofs.Common.{[], ◌∷◌, refl}
-use Rattle.cert_grammar.specs.Items.{space, between, states_line, state_count}
-use Rattle.cert_words.proofs.Walking.{then_reads}
+use Rattle.cert_reading.proofs.Prelude.{[], ◌∷◌, refl, space, between, states_line, state_count, then_reads}
 use Rattle.cert_reading.proofs.automata.automaton.Goals as goal
 
 pub returns-clause-read : goal.returns-clause-read

@@ -1,9 +1,6 @@
-use Rattle.std.proofs.Common.{◌∙◌, suc, refl, sym, ap, map, ℕ, List, [], ◌∷◌, ◌++◌, codes, append_assoc}
-use Rattle.cert_model.specs.EvidenceView.{transition_view}
-use Rattle.cert_grammar.specs.Prelude.{largest, Mark, fixed, word, states, transitions, in_range, is_few, number_for, accepting_marks, transitions_marks, space, line, between, state_count}
-use Rattle.cert_grammar.specs.Prelude.{accepting_line, accepting, transition_count, transitions_of}
-use Rattle.cert_grammar.specs.WordMarks.{numeral}
-use Rattle.cert_words.proofs.Walking.{then_reads, as_marks, framed}
+use Rattle.cert_reading.proofs.Prelude.{◌∙◌, suc, refl, sym, ap, map, ℕ, List, [], ◌∷◌, ◌++◌, codes, append_assoc, transition_view, largest, Mark, fixed, word, states, transitions, in_range}
+use Rattle.cert_reading.proofs.Prelude.{is_few, number_for, accepting_marks, transitions_marks, space, line, between, state_count, accepting_line, accepting, transition_count}
+use Rattle.cert_reading.proofs.Prelude.{transitions_of, numeral, then_reads, as_marks, framed}
 use Rattle.cert_reading.proofs.automata.behind_word.Goals as goal
 
 pub returns-clause-read : goal.returns-clause-read

@@ -1,7 +1,6 @@
-use Rattle.std.proofs.Common.{refl, ap, List, [], ◌∷◌, length, codes}
-use Rattle.cert_grammar.specs.Prelude.{Mark, has_arity, fixed, symbol, behind, state, states_marks, space, line, between, transitions_left, transitions_of, states_behind, target}
-use Rattle.cert_words.proofs.Walking.{then_reads, as_marks, framed}
-use Rattle.cert_reading.proofs.AutomatonMarks.{head_first}
+use Rattle.cert_reading.proofs.Lemmas.{head_first}
+use Rattle.cert_reading.proofs.Prelude.{refl, ap, List, [], ◌∷◌, length, codes, Mark, has_arity, fixed, symbol, behind, state, states_marks, space, line, between, transitions_left}
+use Rattle.cert_reading.proofs.Prelude.{transitions_of, states_behind, target, then_reads, as_marks, framed}
 use Rattle.cert_reading.proofs.automata.transition.Goals as goal
 
 pub returns-in-Some-clause-read : goal.returns-in-Some-clause-read

@@ -1,15 +1,10 @@
-use Rattle.std.proofs.Common.{◌+◌, ◌-◌, ◌∙◌, refl, sym, ap, length, map, arith}
-use Rattle.std.proofs.lemmas.List.{length_push, length-map}
-use Rattle.cert_model.specs.EvidenceView.{transition_view}
-use Rattle.cert_grammar.specs.Prelude.{transitions_marks, transitions_of}
-use Rattle.cert_words.proofs.Walking.{then_reads, then_nothing, as_reads, as_marks, already, open_before}
-use Rattle.cert_words.proofs.Stepping.{some_now}
-use Rattle.cert_reading.proofs.AutomatonMarks.{plain_push, transitions_push}
-use Rattle.cert_reading.proofs.DerivationMarks.{left_next, left_end}
+use Rattle.cert_reading.proofs.Lemmas.{plain_push, transitions_push, left_next, left_end}
+use Rattle.cert_reading.proofs.Prelude.{◌+◌, ◌-◌, ◌∙◌, refl, sym, ap, length, map, arith, length_push, length-map, transition_view, transitions_marks, transitions_of, then_reads}
+use Rattle.cert_reading.proofs.Prelude.{then_nothing, as_reads, as_marks, already, open_before, some_now}
 use Rattle.cert_reading.proofs.automata.transitions.Goals as goal
 
 pub returns-then-is_some-clause-read : goal.returns-then-is_some-clause-read
-returns-then-is_some-clause-read c = let e = some_now _ _ c.is_some.ensures c.if-is_some.true in already e.0 e.1 c.transitions.invariant.read
+returns-then-is_some-clause-read c = let e = some_now c.is_some.ensures c.if-is_some.true in already e.0 e.1 c.transitions.invariant.read
 
 pub transitions-preserved : goal.transitions-preserved
 transitions-preserved c =

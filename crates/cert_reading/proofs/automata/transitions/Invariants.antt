@@ -1,8 +1,5 @@
-use Rattle.std.proofs.Common.{◌≡◌, ◌-◌, None, map, length}
-use Rattle.cert_model.specs.EvidenceView.{transition_view}
-use Rattle.cert_grammar.specs.CertificateMarks.{transitions_marks}
+use Rattle.cert_reading.proofs.Prelude.{◌≡◌, ◌-◌, None, map, length, transition_view, transitions_marks, Reads, AreWithoutStates}
 use Rattle.cert_grammar.specs.Items as spec
-use Rattle.cert_words.specs.Walks.{Reads, AreWithoutStates}
 use Rattle.cert_reading.proofs.automata.transitions.Given as goal
 
 abbrev pub invariant-transitions : goal.invariant-transitions

@@ -1,20 +1,14 @@
-use Rattle.std.proofs.Common.{◌+◌, ◌-◌, ◌∙◌, ℕ, suc, refl, sym, ap, length, map, [], ◌∷◌, ◌++◌, arith}
-use Rattle.std.proofs.lemmas.List.{length_push}
-use Rattle.certificates.specs.Derivations.{derivations_of}
-use Rattle.cert_model.specs.DerivationView.{derivation_view}
-use Rattle.cert_grammar.specs.Prelude.{steps_mark, steps_marks, step_marks, rule_mark, derivations_marks, space, line, between, any_number, any_position, derivations_left, derivations}
-use Rattle.cert_grammar.specs.Prelude.{nesting_count, steps_left, steps_of, condition_count}
-use Rattle.cert_model.proofs.DerivationViews.{step_of_rule, step_of_hypothesis, derivation_of_steps}
-use Rattle.cert_words.specs.Walks.{Reads}
-use Rattle.cert_words.proofs.Walking.{then_reads, then_nothing, as_reads, as_marks, already, open_before, framed}
-use Rattle.cert_words.proofs.Stepping.{some_now}
-use Rattle.cert_reading.proofs.DerivationMarks.{steps_push, derivations_push, steps_counted, derivations_counted, left_next, left_end}
-use Rattle.cert_reading.proofs.DerivationMarks.{counted_all, at_next, any_names}
+use Rattle.cert_reading.proofs.Lemmas.{derivations_push, steps_counted, derivations_counted, left_next, left_end, counted_all, at_next, any_names}
+use Rattle.cert_reading.proofs.Prelude.{◌+◌, ◌-◌, ◌∙◌, ℕ, suc, refl, sym, ap, length, map, [], ◌∷◌, ◌++◌, arith, length_push, derivations_of, derivation_view, steps_mark, steps_marks}
+use Rattle.cert_reading.proofs.Prelude.{step_marks, rule_mark, derivations_marks, space, line, between, any_number, any_position, derivations_left, derivations, nesting_count, steps_left}
+use Rattle.cert_reading.proofs.Prelude.{steps_of, condition_count, step_of_rule, step_of_hypothesis, derivation_of_steps, Reads, then_reads, then_nothing, as_reads, as_marks, already}
+use Rattle.cert_reading.proofs.Prelude.{open_before, framed, some_now}
+use Rattle.cert_reading.proofs.DerivationMarks.{steps_push}
 use Rattle.cert_reading.proofs.derivations.+derivation.Goals as goal
 
 pub derivation-returns-then-is_some : goal.derivation-returns-then-is_some
 derivation-returns-then-is_some t c = λ names more.
-    let e = some_now _ _ c.is_some.ensures c.if-is_some.true in
+    let e = some_now c.is_some.ensures c.if-is_some.true in
     already e.0 e.1 (c.nested.ensures.read names (derivations_left c.args.level more) (between space ∷ nesting_count c.args.level ∷ derivations c.args.level more) refl)
 
 pub derivation-returns : goal.derivation-returns
@@ -29,7 +23,7 @@ derivation-returns t c = λ names more.
     (then_reads (framed rest (framed (steps_of level c.counted-count.result) (c.text-2.ensures.read names (between line) [] refl))) (framed rest (c.steps.ensures.read names))))))
 
 pub derivations-returns-then-is_some-clause-read : goal.derivations-returns-then-is_some-clause-read
-derivations-returns-then-is_some-clause-read t c = λ names. let e = some_now _ _ c.is_some.ensures c.if-is_some.true in already e.0 e.1 (c.derivations.invariant.read names)
+derivations-returns-then-is_some-clause-read t c = λ names. let e = some_now c.is_some.ensures c.if-is_some.true in already e.0 e.1 (c.derivations.invariant.read names)
 
 pub derivations-derivations-preserved : goal.derivations-derivations-preserved
 derivations-derivations-preserved t c =
@@ -88,7 +82,7 @@ step-returns t c = λ names more.
     (then_reads (framed rest (c.position-pos-2.ensures names (any_position line) (between line ∷ []) refl)) (framed rest (c.text-3.ensures.read names (between line) [] refl))))))
 
 pub steps-returns-then-is_some-clause-read : goal.steps-returns-then-is_some-clause-read
-steps-returns-then-is_some-clause-read t c = λ names. let e = some_now _ _ c.is_some.ensures c.if-is_some.true in already e.0 e.1 (c.steps.invariant.read names)
+steps-returns-then-is_some-clause-read t c = λ names. let e = some_now c.is_some.ensures c.if-is_some.true in already e.0 e.1 (c.steps.invariant.read names)
 
 pub steps-steps-preserved : goal.steps-steps-preserved
 steps-steps-preserved t c =

@@ -1,10 +1,5 @@
-use Rattle.std.proofs.Common.{◌≡◌, ◌-◌, ◌+◌, ◌*◌, None, map, length}
-use Rattle.certificates.specs.Derivations.{derivation_of, derivations_of}
-use Rattle.cops_names.specs.NameTable.{NameTable}
-use Rattle.cert_model.specs.DerivationView.{derivation_view, step_view}
-use Rattle.cert_grammar.specs.WordMarks.{steps_marks, derivations_marks}
+use Rattle.cert_reading.proofs.Prelude.{◌≡◌, ◌-◌, ◌+◌, ◌*◌, None, map, length, derivation_of, derivations_of, NameTable, derivation_view, step_view, steps_marks, derivations_marks, Reads}
 use Rattle.cert_grammar.specs.Items as spec
-use Rattle.cert_words.specs.Walks.{Reads}
 use Rattle.cert_reading.proofs.derivations.+derivation.Given as goal
 
 abbrev pub invariant-steps-steps : goal.invariant-steps-steps

@@ -1,11 +1,7 @@
-use Rattle.std.proofs.Common.{[], ◌∷◌, codes, refl, arith}
-use Rattle.cert_grammar.specs.Prelude.{fixed, number, space, line, between, any_number, derivations_left, evidence}
-use Rattle.cert_sharing.proofs.UseMarks.{counts_still}
-use Rattle.cert_words.proofs.Walking.{then_reads, framed}
-use Rattle.cert_reading.specs.Uses.{version_by, automata_by, use_between, use_item}
-use Rattle.cert_reading.proofs.Chosen.{past}
+use Rattle.cert_reading.proofs.Lemmas.{past, known_behind}
+use Rattle.cert_reading.proofs.Prelude.{[], ◌∷◌, codes, refl, arith, fixed, number, space, line, between, any_number, derivations_left, evidence, counts_still, then_reads, framed}
+use Rattle.cert_reading.proofs.Prelude.{version_by, automata_by, use_between, use_item}
 use Rattle.cert_reading.proofs.EvidenceKinds.{kinds, are_kinds}
-use Rattle.cert_reading.proofs.UseReads.{known_behind}
 use Rattle.cert_reading.proofs.evidence.evidence.Goals as goal
 
 pub returns-in-0-clause-read : goal.returns-in-0-clause-read

@@ -1,10 +1,7 @@
-use Rattle.std.proofs.Common.{[], ◌∷◌, codes, refl}
-use Rattle.cert_grammar.specs.Prelude.{fixed, number, between, any_number, infeasibility}
-use Rattle.cert_sharing.proofs.UseMarks.{counts_still}
-use Rattle.cert_words.proofs.Walking.{then_reads, framed}
-use Rattle.cert_reading.specs.Uses.{version_by, automata_by, use_between, use_item}
+use Rattle.cert_reading.proofs.Lemmas.{known_behind}
+use Rattle.cert_reading.proofs.Prelude.{[], ◌∷◌, codes, refl, fixed, number, between, any_number, infeasibility, counts_still, then_reads, framed, version_by, automata_by, use_between}
+use Rattle.cert_reading.proofs.Prelude.{use_item}
 use Rattle.cert_reading.proofs.EvidenceKinds.{are_infeasible}
-use Rattle.cert_reading.proofs.UseReads.{known_behind}
 use Rattle.cert_reading.proofs.evidence.infeasibility.Goals as goal
 
 pub returns-then-either-clause-read : goal.returns-then-either-clause-read

@@ -1,8 +1,5 @@
-use Rattle.std.proofs.Common.{true, false, Some, refl, arith}
-use Rattle.cert_grammar.specs.Items.{opening}
-use Rattle.cert_reading.proofs.Stopping.{then_where, word_where}
-use Rattle.cert_reading.proofs.Chosen.{past}
-use Rattle.cert_reading.proofs.Opening.{other_place, first_lines}
+use Rattle.cert_reading.proofs.Lemmas.{then_where, word_where, past, other_place, first_lines}
+use Rattle.cert_reading.proofs.Prelude.{true, false, Some, refl, arith, opening}
 use Rattle.cert_reading.proofs.headings.first_line.Goals as goal
 
 pub returns-in-0 : goal.returns-in-0

@@ -1,14 +1,12 @@
-use Rattle.std.proofs.Common.{refl, ap}
-use Rattle.cert_grammar.specs.Prelude.{leads, body, Shared}
-use Rattle.cert_words.specs.Words.{told}
 use Rattle.cert_words.proofs.Walking.{front_same, stopped}
-use Rattle.cert_words.proofs.Stepping.{none_now, stuck_among, stuck_stops}
-use Rattle.cert_reading.proofs.Stopping.{word_where}
-use Rattle.cert_reading.proofs.Opening.{other_place}
+use Rattle.cert_words.proofs.Stepping.{stuck_stops}
+use Rattle.cert_words.specs.Words.{told}
+use Rattle.cert_reading.proofs.Lemmas.{word_where, other_place}
+use Rattle.cert_reading.proofs.Prelude.{refl, ap, leads, body, Shared, none_now, stuck_among}
 use Rattle.cert_reading.proofs.headings.kind_word.Goals as goal
 
 pub kind_there-requires : goal.kind_there-requires
-kind_there-requires c = none_now _ _ c.is_some.ensures c.if-is_some.false
+kind_there-requires c = none_now c.is_some.ensures c.if-is_some.false
 
 pub returns-in-Some : goal.returns-in-Some
 returns-in-Some c = λ names v. c.in-Some.ensures.there names c.args.end v (body v c.args.given) refl (other_place (body v c.args.given) _ tt)
@@ -18,5 +16,5 @@ returns c = λ names v.
     let s = c.args.at.now in
     let i = body v c.args.given in
     let stuck = stuck_among names c.args.end s.left.now s.shares i c.stuck.result (leads i) (leads i) refl (c.in_default.ensures.none v) refl c.stuck.ensures in
-    word_where (λ x. other_place i _ tt) (λ none. stuck) (stopped c.stuck.result (none_now _ _ c.is_some.ensures c.if-is_some.false) refl
+    word_where (λ x. other_place i _ tt) (λ none. stuck) (stopped c.stuck.result (none_now c.is_some.ensures c.if-is_some.false) refl
     (front_same _ _ (ap (λ (z : Shared). z.texts) c.in_default.ensures.kept)) (stuck_stops names c.args.end i s.left.now s.shares (told c.stuck.result) stuck))

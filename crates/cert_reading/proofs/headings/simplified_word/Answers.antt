@@ -1,10 +1,9 @@
-use Rattle.std.proofs.Common.{◌≡◌, ◌∙◌, ℕ, List, [], ◌∷◌, false, codes, refl, ap}
-use Rattle.cert_grammar.specs.Prelude.{second_version, Item, Lead, leads, simplified, simplification_count, body, is_there, first_there, Shared}
-use Rattle.cert_words.specs.Words.{told}
 use Rattle.cert_words.proofs.Walking.{front_same, stopped}
-use Rattle.cert_words.proofs.Stepping.{none_now, first_one, text_run, stuck_among, stuck_stops, go}
-use Rattle.cert_reading.proofs.Stopping.{word_where}
-use Rattle.cert_reading.proofs.Opening.{other_place, none_refused}
+use Rattle.cert_words.proofs.Stepping.{stuck_stops}
+use Rattle.cert_words.specs.Words.{told}
+use Rattle.cert_reading.proofs.Lemmas.{word_where, other_place, none_refused}
+use Rattle.cert_reading.proofs.Prelude.{◌≡◌, ◌∙◌, ℕ, List, [], ◌∷◌, false, codes, refl, ap, second_version, Item, Lead, leads, simplified, simplification_count, text, body, is_there}
+use Rattle.cert_reading.proofs.Prelude.{first_there, Shared, none_now, one, text_run, stuck_among, go}
 use Rattle.cert_reading.proofs.headings.simplified_word.Goals as goal
 
 -- the first lead is not there
@@ -15,13 +14,12 @@ pub returns-in-Some-clause-steps : goal.returns-in-Some-clause-steps
 returns-in-Some-clause-steps c = λ names.
     let s = c.args.at.now in
     let i = simplified c.args.given in
-    let none = none_now _ _ c.is_some.ensures c.if-is_some.false in
+    let none = none_now c.is_some.ensures c.if-is_some.false in
     word_where (λ x. other_place i _ tt) (λ x. none_refused s _ none)
-    (go c.in-Some.rest none (text_run names c.args.end s.left.now s.shares i (codes "simplify ") _ _ (simplification_count ∷ body second_version c.args.given ∷ [])
-    (first_one i s.left.now _ _ refl c.in-Some.ensures.there) c.in-Some.ensures))
+    (go c.is_some.ensures c.if-is_some.false (text_run (one {a = text (codes "simplify ") (simplification_count ∷ body second_version c.args.given ∷ [])} refl c.in-Some.ensures)))
 
 pub kind_there-requires : goal.kind_there-requires
-kind_there-requires c = none_now _ _ c.is_some.ensures c.if-is_some.false
+kind_there-requires c = none_now c.is_some.ensures c.if-is_some.false
 
 pub returns-in-Some-kind_there-clause-kind : goal.returns-in-Some-kind_there-clause-kind
 returns-in-Some-kind_there-clause-kind c = λ names.
@@ -33,9 +31,8 @@ pub returns-clause-kind : goal.returns-clause-kind
 returns-clause-kind c = λ names.
     let s = c.args.at.now in
     let i = simplified c.args.given in
-    let none = none_now _ _ c.is_some.ensures c.if-is_some.false in
+    let none = none_now c.is_some.ensures c.if-is_some.false in
     let stuck = stuck_among names c.args.end s.left.now s.shares i c.stuck.result (leads i) (leads i) refl (missed i s.left.now _ _ refl c.in_default.ensures
     ∙ c.in_default-kind_there.ensures.none second_version) refl c.stuck.ensures in
-    word_where (λ x. other_place i _ tt) (λ x. stuck)
-    (stopped c.stuck.result none refl (front_same _ _ (ap (λ (z : Shared). z.texts) c.in_default-kind_there.ensures.kept))
-    (stuck_stops names c.args.end i s.left.now s.shares (told c.stuck.result) stuck))
+    word_where (λ x. other_place i _ tt) (λ x. stuck) (stopped c.stuck.result none refl
+    (front_same _ _ (ap (λ (z : Shared). z.texts) c.in_default-kind_there.ensures.kept)) (stuck_stops names c.args.end i s.left.now s.shares (told c.stuck.result) stuck))

@@ -1,8 +1,5 @@
-use Rattle.std.proofs.Common.{refl, arith}
-use Rattle.cert_grammar.specs.Items.{heading}
-use Rattle.cert_reading.proofs.Stopping.{word_where}
-use Rattle.cert_reading.proofs.Chosen.{past}
-use Rattle.cert_reading.proofs.Opening.{other_place, versions}
+use Rattle.cert_reading.proofs.Lemmas.{word_where, past, other_place, versions}
+use Rattle.cert_reading.proofs.Prelude.{refl, arith, heading}
 use Rattle.cert_reading.proofs.headings.version_line.Goals as goal
 
 pub returns-in-0 : goal.returns-in-0

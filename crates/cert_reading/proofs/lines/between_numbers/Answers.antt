@@ -1,6 +1,4 @@
-use Rattle.std.proofs.Common.{[], ◌∷◌, refl}
-use Rattle.cert_grammar.specs.Prelude.{space, between, any_number, any_position}
-use Rattle.cert_words.proofs.Walking.{then_reads, framed}
+use Rattle.cert_reading.proofs.Prelude.{[], ◌∷◌, refl, space, between, any_number, any_position, then_reads, framed}
 use Rattle.cert_reading.proofs.lines.between_numbers.Goals as goal
 
 pub returns : goal.returns

@@ -1,7 +1,4 @@
-use Rattle.std.proofs.Common.{◌≡◌, ◌+◌, ◌∙◌, ℕ, suc, refl, sym, ap, length, [], ◌∷◌, arith}
-use Rattle.std.proofs.lemmas.List.{length_push}
-use Rattle.cert_grammar.specs.Prelude.{coefficients_marks, coefficients_behind, coefficient}
-use Rattle.cert_words.proofs.Walking.{then_reads, as_reads}
+use Rattle.cert_reading.proofs.Prelude.{◌≡◌, ◌+◌, ◌∙◌, ℕ, suc, refl, sym, ap, length, [], ◌∷◌, arith, length_push, coefficients_marks, coefficients_behind, coefficient, then_reads, as_reads}
 use Rattle.cert_reading.proofs.ListMarks.{coefficients_push}
 use Rattle.cert_reading.proofs.measures.coefficients.Goals as goal
 

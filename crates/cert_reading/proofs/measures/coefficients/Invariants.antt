@@ -1,8 +1,5 @@
-use Rattle.std.proofs.Common.{[], ◌∷◌, length}
-use Rattle.cops_names.specs.NameTable.{NameTable}
-use Rattle.cert_grammar.specs.CertificateMarks.{coefficients_marks}
+use Rattle.cert_reading.proofs.Prelude.{[], ◌∷◌, length, NameTable, coefficients_marks, Reads}
 use Rattle.cert_grammar.specs.Items as spec
-use Rattle.cert_words.specs.Walks.{Reads}
 use Rattle.cert_reading.proofs.measures.coefficients.Given as goal
 
 abbrev pub invariant-numbers : goal.invariant-numbers

@@ -1,11 +1,6 @@
-use Rattle.std.proofs.Common.{◌≡◌, ◌+◌, ◌∙◌, ℕ, suc, refl, sym, ap, map, length, [], ◌∷◌, arith}
-use Rattle.std.proofs.lemmas.List.{length_push, append-nil, length-map}
-use Rattle.cert_model.specs.CertificateView.{linear_entry_view}
-use Rattle.cert_grammar.specs.Prelude.{entries_marks, entries_from}
-use Rattle.cert_words.proofs.Walking.{open_before}
-use Rattle.cert_words.proofs.Stepping.{none_now, some_now}
-use Rattle.cert_reading.proofs.Stopping.{then_where, as_where, then_nothing_where, already_where, low_where, low_unopened}
-use Rattle.cert_reading.proofs.Opening.{entry_at}
+use Rattle.cert_reading.proofs.Lemmas.{then_where, as_where, then_nothing_where, already_where, low_where, low_unopened, entry_at}
+use Rattle.cert_reading.proofs.Prelude.{◌≡◌, ◌+◌, ◌∙◌, ℕ, suc, refl, sym, ap, map, length, [], ◌∷◌, arith, length_push, append-nil, length-map, linear_entry_view, entries_marks}
+use Rattle.cert_reading.proofs.Prelude.{entries_from, open_before, none_now, some_now}
 use Rattle.cert_reading.proofs.ListMarks.{entries_push}
 use Rattle.cert_reading.proofs.measures.entries.Goals as goal
 
@@ -13,7 +8,7 @@ pub returns-then-is_some-clause-read : goal.returns-then-is_some-clause-read
 returns-then-is_some-clause-read c = λ v.
     let n = c.len.result + 1 in
     let is : suc (length c.entries.entries.items) ≡ n = omega (arith, c.entries.entries.ok.0, c.len.ensures) in
-    let e = some_now _ _ c.is_some.ensures c.if-is_some.true in
+    let e = some_now c.is_some.ensures c.if-is_some.true in
     let low = entries_from v (suc n) in
     let step = then_nothing_where (c.in-Some.ensures.entry v) (low_where low (low_unopened v low (entry_at v n).later) (c.put.ensures.read c.args.names.now c.args.end [])) in
     already_where e.0 e.1 (then_where (as_where (λ none. (ap (λ (j : ℕ). entries_from v j ∷ []) is, λ u. refl)) (c.entries.invariant v)) step)
@@ -21,7 +16,7 @@ returns-then-is_some-clause-read c = λ v.
 pub entries-smaller : goal.entries-smaller
 entries-smaller c =
     let n = c.len.result + 1 in
-    let none = none_now _ _ c.is_some.ensures c.if-is_some.false in
+    let none = none_now c.is_some.ensures c.if-is_some.false in
     let few = c.in-Some.ensures.few (open_before (c.put.ensures.read c.args.names.now c.args.end []) none) in
     let long = ap length (c.put.ensures.grown none) ∙ length_push c.entries.entries.items c.in-Some.next in
     omega (arith, c.entries.entries.ok.0, c.len.ensures, few, long)

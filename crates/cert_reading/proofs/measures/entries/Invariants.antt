@@ -1,7 +1,4 @@
-use Rattle.std.proofs.Common.{◌-◌, suc, [], ◌∷◌, map, length}
-use Rattle.cert_model.specs.CertificateView.{linear_entry_view}
-use Rattle.cert_grammar.specs.Prelude.{Version, entries_marks, entries_from}
-use Rattle.cert_reading.specs.Stops.{ReadsWhere, WithinOpening}
+use Rattle.cert_reading.proofs.Prelude.{◌-◌, suc, [], ◌∷◌, map, length, linear_entry_view, Version, entries_marks, entries_from, ReadsWhere, WithinOpening}
 use Rattle.cert_reading.proofs.measures.entries.Given as goal
 
 abbrev pub invariant-entries : goal.invariant-entries

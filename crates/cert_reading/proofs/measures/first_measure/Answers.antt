@@ -1,8 +1,5 @@
-use Rattle.std.proofs.Common.{[], ◌∷◌, refl}
-use Rattle.cert_grammar.specs.Prelude.{first_version, measure}
-use Rattle.cert_reading.proofs.Stopping.{then_where, word_where}
-use Rattle.cert_reading.proofs.Opening.{other_place, linear_line}
-use Rattle.cert_reading.proofs.Chosen.{one_choice}
+use Rattle.cert_reading.proofs.Lemmas.{then_where, word_where, other_place, linear_line, one_choice}
+use Rattle.cert_reading.proofs.Prelude.{[], ◌∷◌, refl, first_version, measure}
 use Rattle.cert_reading.proofs.measures.first_measure.Goals as goal
 
 pub returns-clause-read : goal.returns-clause-read

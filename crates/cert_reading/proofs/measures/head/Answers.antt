@@ -1,7 +1,5 @@
-use Rattle.std.proofs.Common.{[], ◌∷◌, refl}
-use Rattle.cert_grammar.specs.Items.{space, between, any_number, measured_name, measured_condition, coefficients_behind}
-use Rattle.cert_words.proofs.Walking.{then_reads, framed, open_before}
-use Rattle.cert_reading.proofs.Stopping.{then_where, low_where, low_unopened}
+use Rattle.cert_reading.proofs.Lemmas.{then_where, low_where, low_unopened}
+use Rattle.cert_reading.proofs.Prelude.{[], ◌∷◌, refl, space, between, any_number, measured_name, measured_condition, coefficients_behind, then_reads, framed, open_before}
 use Rattle.cert_reading.proofs.measures.head.Goals as goal
 
 pub returns-in-Symbol-clause-head : goal.returns-in-Symbol-clause-head

@@ -1,9 +1,5 @@
-use Rattle.std.proofs.Common.{suc, sym}
-use Rattle.std.proofs.lemmas.List.{append-nil}
-use Rattle.cert_grammar.specs.Items.{entries_from, coefficients_behind}
-use Rattle.cert_words.proofs.Walking.{open_before}
-use Rattle.cert_reading.proofs.Stopping.{then_where, as_marks_where, low_where, low_unopened}
-use Rattle.cert_reading.proofs.Opening.{entry_at}
+use Rattle.cert_reading.proofs.Lemmas.{then_where, as_marks_where, low_where, low_unopened, entry_at}
+use Rattle.cert_reading.proofs.Prelude.{suc, sym, append-nil, entries_from, coefficients_behind, open_before}
 use Rattle.cert_reading.proofs.measures.next_entry.Goals as goal
 
 pub returns-clause-entry : goal.returns-clause-entry

@@ -1,9 +1,5 @@
-use Rattle.std.proofs.Common.{suc, sym, [], refl}
-use Rattle.std.proofs.lemmas.List.{append-nil}
-use Rattle.cert_grammar.specs.Prelude.{second_version, heads_from, between, line}
-use Rattle.cert_words.proofs.Walking.{open_before}
-use Rattle.cert_reading.proofs.Stopping.{then_where, as_marks_where, low_where, low_unopened}
-use Rattle.cert_reading.proofs.Opening.{head_at}
+use Rattle.cert_reading.proofs.Lemmas.{then_where, as_marks_where, low_where, low_unopened, head_at}
+use Rattle.cert_reading.proofs.Prelude.{suc, sym, [], refl, append-nil, second_version, heads_from, between, line, open_before}
 use Rattle.cert_reading.proofs.measures.next_head.Goals as goal
 
 pub returns-clause-head : goal.returns-clause-head

@@ -1,11 +1,6 @@
-use Rattle.std.proofs.Common.{◌≡◌, ◌+◌, ◌∙◌, ℕ, suc, refl, sym, ap, map, length, [], ◌∷◌, arith}
-use Rattle.std.proofs.lemmas.List.{length_push, append-nil, length-map}
-use Rattle.cert_model.specs.CertificateView.{head_view}
-use Rattle.cert_grammar.specs.Prelude.{second_version, heads_marks, heads_from}
-use Rattle.cert_words.proofs.Walking.{open_before}
-use Rattle.cert_words.proofs.Stepping.{none_now, some_now}
-use Rattle.cert_reading.proofs.Stopping.{then_where, as_where, then_nothing_where, already_where, low_where, low_unopened}
-use Rattle.cert_reading.proofs.Opening.{head_at}
+use Rattle.cert_reading.proofs.Lemmas.{then_where, as_where, then_nothing_where, already_where, low_where, low_unopened, head_at}
+use Rattle.cert_reading.proofs.Prelude.{◌≡◌, ◌+◌, ◌∙◌, ℕ, suc, refl, sym, ap, map, length, [], ◌∷◌, arith, length_push, append-nil, length-map, head_view, second_version, heads_marks}
+use Rattle.cert_reading.proofs.Prelude.{heads_from, open_before, none_now, some_now}
 use Rattle.cert_reading.proofs.ListMarks.{heads_push}
 use Rattle.cert_reading.proofs.measures.precedence.Goals as goal
 
@@ -13,7 +8,7 @@ pub returns-then-is_some-clause-read : goal.returns-then-is_some-clause-read
 returns-then-is_some-clause-read c =
     let n = c.len.result + 1 in
     let is : suc (length c.order.order.items) ≡ n = omega (arith, c.order.order.ok.0, c.len.ensures) in
-    let e = some_now _ _ c.is_some.ensures c.if-is_some.true in
+    let e = some_now c.is_some.ensures c.if-is_some.true in
     let low = heads_from (suc n) in
     let step = then_nothing_where (c.in-Some.ensures.head) (low_where low (low_unopened second_version low (head_at n).later) (c.put.ensures.read c.args.names.now c.args.end [])) in
     already_where e.0 e.1 (then_where (as_where (λ none. (ap (λ (j : ℕ). heads_from j ∷ []) is, λ u. refl)) (c.order.invariant)) step)
@@ -21,7 +16,7 @@ returns-then-is_some-clause-read c =
 pub order-smaller : goal.order-smaller
 order-smaller c =
     let n = c.len.result + 1 in
-    let none = none_now _ _ c.is_some.ensures c.if-is_some.false in
+    let none = none_now c.is_some.ensures c.if-is_some.false in
     let few = c.in-Some.ensures.few (open_before (c.put.ensures.read c.args.names.now c.args.end []) none) in
     let long = ap length (c.put.ensures.grown none) ∙ length_push c.order.order.items c.in-Some.next in
     omega (arith, c.order.order.ok.0, c.len.ensures, few, long)

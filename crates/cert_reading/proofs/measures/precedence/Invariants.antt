@@ -1,7 +1,4 @@
-use Rattle.std.proofs.Common.{◌-◌, suc, [], ◌∷◌, map, length}
-use Rattle.cert_model.specs.CertificateView.{head_view}
-use Rattle.cert_grammar.specs.Prelude.{second_version, heads_marks, heads_from}
-use Rattle.cert_reading.specs.Stops.{ReadsWhere, WithinOpening}
+use Rattle.cert_reading.proofs.Prelude.{◌-◌, suc, [], ◌∷◌, map, length, head_view, second_version, heads_marks, heads_from, ReadsWhere, WithinOpening}
 use Rattle.cert_reading.proofs.measures.precedence.Given as goal
 
 abbrev pub invariant-order : goal.invariant-order

@@ -1,12 +1,5 @@
-use Rattle.std.proofs.Common.{◌≡◌, ℕ, zero, suc, List, [], ◌∷◌, codes, refl}
-use Rattle.cops_names.specs.NameTable.{NameTable}
-use Rattle.cert_grammar.specs.Prelude.{second_version, fixed, measure, entries_from}
-use Rattle.cert_words.specs.declared.reading.Reading.{Reading}
-use Rattle.cert_words.specs.Choices.{Choice, Chosen}
-use Rattle.cert_words.specs.Walks.{Reads}
-use Rattle.cert_words.proofs.Walking.{already}
-use Rattle.cert_reading.proofs.Stopping.{then_where, word_where}
-use Rattle.cert_reading.proofs.Opening.{other_place, linear_line, order_line}
+use Rattle.cert_reading.proofs.Lemmas.{then_where, word_where, other_place, linear_line, order_line}
+use Rattle.cert_reading.proofs.Prelude.{◌≡◌, ℕ, zero, suc, List, [], ◌∷◌, codes, refl, NameTable, second_version, fixed, measure, entries_from, Reading, Choice, Chosen, Reads, already}
 use Rattle.cert_reading.proofs.measures.second_measure.Goals as goal
 
 abbrev kinds : List Choice

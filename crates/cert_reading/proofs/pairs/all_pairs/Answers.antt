@@ -1,13 +1,6 @@
-use Rattle.std.proofs.Common.{◌≡◌, ◌+◌, ◌∙◌, ℕ, suc, refl, sym, ap, map, length, [], ◌∷◌, arith}
-use Rattle.std.proofs.lemmas.List.{length_push}
-use Rattle.cert_model.specs.CertificateView.{pair_entry_view}
-use Rattle.cert_grammar.specs.Prelude.{pairs_marks, pairs_from}
-use Rattle.cert_sharing.proofs.UseMarks.{counts_still}
-use Rattle.cert_reading.specs.Stops.{Anywhere}
-use Rattle.cert_reading.specs.Uses.{version_by, automata_by, uses_by}
-use Rattle.cert_words.proofs.Stepping.{none_now, some_now}
-use Rattle.cert_reading.proofs.Stopping.{then_where, as_where, then_nothing_where, already_where, open_before_where, anywhere, reads_anywhere}
-use Rattle.cert_reading.proofs.UseReads.{known_behind}
+use Rattle.cert_reading.proofs.Lemmas.{then_where, as_where, then_nothing_where, already_where, open_before_where, anywhere, reads_anywhere, known_behind}
+use Rattle.cert_reading.proofs.Prelude.{◌≡◌, ◌+◌, ◌∙◌, ℕ, suc, refl, sym, ap, map, length, [], ◌∷◌, arith, length_push, pair_entry_view, pairs_marks, pairs_from, counts_still, Anywhere}
+use Rattle.cert_reading.proofs.Prelude.{version_by, automata_by, uses_by, none_now, some_now}
 use Rattle.cert_reading.proofs.ListMarks.{pairs_push, plain_pairs}
 use Rattle.cert_reading.proofs.pairs.all_pairs.Goals as goal
 
@@ -16,7 +9,7 @@ returns-then-is_some-clause-read c =
     let v = version_by c.args.uses in
     let n = c.len.result + 1 in
     let is : suc (length c.pairs.pairs.items) ≡ n = omega (arith, c.pairs.pairs.ok.0, c.len.ensures) in
-    let e = some_now _ _ c.is_some.ensures c.if-is_some.true in
+    let e = some_now c.is_some.ensures c.if-is_some.true in
     let step = then_nothing_where (anywhere c.in-Some.ensures.pair) (reads_anywhere (c.put.ensures.read c.args.names.now c.args.end (pairs_from v (suc n) ∷ []))) in
     already_where e.0 e.1 (then_where (as_where (λ none. (ap (λ (j : ℕ). pairs_from v j ∷ []) is, λ u. refl)) c.pairs.invariant.read) step)
 
@@ -24,7 +17,7 @@ pub pairs-smaller : goal.pairs-smaller
 pairs-smaller c =
     let v = version_by c.args.uses in
     let n = c.len.result + 1 in
-    let none = none_now _ _ c.is_some.ensures c.if-is_some.false in
+    let none = none_now c.is_some.ensures c.if-is_some.false in
     let few = c.in-Some.ensures.few (open_before_where {P = Anywhere} (reads_anywhere (c.put.ensures.read c.args.names.now c.args.end (pairs_from v (suc n) ∷ []))) none) in
     let long = ap length (c.put.ensures.grown none) ∙ length_push c.pairs.pairs.items c.in-Some.next in
     omega (arith, c.pairs.pairs.ok.0, c.len.ensures, few, long)

@@ -1,10 +1,5 @@
-use Rattle.std.proofs.Common.{◌≡◌, ◌-◌, suc, [], ◌∷◌, None, map, length}
-use Rattle.cert_model.specs.CertificateView.{pair_entry_view}
-use Rattle.cert_grammar.specs.CertificateMarks.{pairs_marks}
+use Rattle.cert_reading.proofs.Prelude.{◌≡◌, ◌-◌, suc, [], ◌∷◌, None, map, length, pair_entry_view, pairs_marks, ReadsWhere, Anywhere, PairsUse, version_by, automata_by, uses_by, AreKnown}
 use Rattle.cert_grammar.specs.Items as spec
-use Rattle.cert_reading.specs.Stops.{ReadsWhere, Anywhere}
-use Rattle.cert_reading.specs.Plain.{PairsUse}
-use Rattle.cert_reading.specs.Uses.{version_by, automata_by, uses_by, AreKnown}
 use Rattle.cert_reading.proofs.pairs.all_pairs.Given as goal
 
 abbrev pub invariant-pairs : goal.invariant-pairs

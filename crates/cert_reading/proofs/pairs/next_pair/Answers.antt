@@ -1,15 +1,8 @@
-use Rattle.std.proofs.Common.{suc, arith, [], ◌∷◌, ◌++◌, codes, sym, refl}
-use Rattle.std.proofs.lemmas.List.{append-nil}
-use Rattle.cert_model.specs.CertificateView.{pair_entry_view}
-use Rattle.cert_grammar.specs.Prelude.{name_of, pairs, is_few, word, between, evidence, pairs_from, used_by_pairs}
+use Rattle.cert_reading.proofs.Lemmas.{then_where, as_marks_where, word_where, word_behind, low_where, low_entry, first_entry, line_entry, pair_later, line_end, one_choice, known_behind}
+use Rattle.cert_reading.proofs.Lemmas.{known_where, front_counts}
+use Rattle.cert_reading.proofs.Prelude.{suc, arith, [], ◌∷◌, ◌++◌, codes, sym, refl, append-nil, pair_entry_view, name_of, pairs, is_few, word, between, evidence, pairs_from, used_by_pairs}
+use Rattle.cert_reading.proofs.Prelude.{numbers_of, counts_pairs, then_reads, framed, open_before, line_items, version_by, automata_by, uses_by}
 use Rattle.cert_grammar.specs.Items as Items
-use Rattle.cert_sharing.proofs.UseMarks.{numbers_of, counts_pairs}
-use Rattle.cert_words.proofs.Walking.{then_reads, framed, open_before}
-use Rattle.cert_reading.specs.Lines.{line_items}
-use Rattle.cert_reading.specs.Uses.{version_by, automata_by, uses_by}
-use Rattle.cert_reading.proofs.Stopping.{then_where, as_marks_where, word_where, word_behind, low_where, low_entry, first_entry, line_entry, pair_later}
-use Rattle.cert_reading.proofs.Chosen.{line_end, one_choice}
-use Rattle.cert_reading.proofs.UseReads.{known_behind, known_where, front_counts}
 use Rattle.cert_reading.proofs.pairs.next_pair.Goals as goal
 
 pub returns-then-not-counted_or-clause-last : goal.returns-then-not-counted_or-clause-last

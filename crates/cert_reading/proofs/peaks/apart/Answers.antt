@@ -1,9 +1,5 @@
-use Rattle.std.proofs.Common.{[], ◌∷◌, codes, refl}
-use Rattle.cert_grammar.specs.Prelude.{last_line, between, line, apart, redexes_from, fixed}
-use Rattle.cert_sharing.proofs.UseMarks.{counts_still}
-use Rattle.cert_words.proofs.Walking.{then_reads}
-use Rattle.cert_reading.specs.Uses.{version_by, automata_by}
-use Rattle.cert_reading.proofs.UseReads.{known_behind}
+use Rattle.cert_reading.proofs.Lemmas.{known_behind}
+use Rattle.cert_reading.proofs.Prelude.{[], ◌∷◌, codes, refl, last_line, between, line, apart, redexes_from, fixed, counts_still, then_reads, version_by, automata_by}
 use Rattle.cert_reading.proofs.peaks.apart.Goals as goal
 
 pub redexes-redexes-requires : goal.redexes-redexes-requires

@@ -1,13 +1,6 @@
-use Rattle.std.proofs.Common.{suc, [], ◌∷◌, ◌++◌, codes, sym, refl}
-use Rattle.std.proofs.lemmas.List.{append-nil}
-use Rattle.cert_model.specs.CertificateView.{redex_view}
-use Rattle.cert_grammar.specs.Prelude.{name_of, used_by_redexes, redexes, is_few, word, line, between, infeasibility, redexes_from}
-use Rattle.cert_sharing.proofs.UseMarks.{numbers_of, counts_redexes}
-use Rattle.cert_words.proofs.Walking.{then_reads, as_marks, framed, open_before}
-use Rattle.cert_reading.specs.Lines.{line_items}
-use Rattle.cert_reading.specs.Uses.{version_by, automata_by, uses_by}
-use Rattle.cert_reading.proofs.Chosen.{line_end, one_choice}
-use Rattle.cert_reading.proofs.UseReads.{known_behind, front_counts}
+use Rattle.cert_reading.proofs.Lemmas.{line_end, one_choice, known_behind, front_counts}
+use Rattle.cert_reading.proofs.Prelude.{suc, [], ◌∷◌, ◌++◌, codes, sym, refl, append-nil, redex_view, name_of, used_by_redexes, redexes, is_few, word, line, between, infeasibility}
+use Rattle.cert_reading.proofs.Prelude.{redexes_from, numbers_of, counts_redexes, then_reads, as_marks, framed, open_before, line_items, version_by, automata_by, uses_by}
 use Rattle.cert_reading.proofs.peaks.next_redex.Goals as goal
 
 pub returns-then-not-counted_or-clause-last : goal.returns-then-not-counted_or-clause-last

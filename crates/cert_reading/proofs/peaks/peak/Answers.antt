@@ -1,13 +1,8 @@
-use Rattle.std.proofs.Common.{[], ◌∷◌, ◌++◌, List, codes, refl, ap}
+use Rattle.cert_reading.proofs.Lemmas.{known_behind}
+use Rattle.cert_reading.proofs.Prelude.{[], ◌∷◌, ◌++◌, List, codes, refl, ap, derivation_view, apart_view, view, name_of, Mark, fixed, term_marks, derivation_marks, closing, apart_marks}
+use Rattle.cert_reading.proofs.Prelude.{node, derivations_left, apart, start_line, AreStill, counts_still, still_both, term_still, derivation_still, then_reads, as_marks, framed, version_by}
+use Rattle.cert_reading.proofs.Prelude.{automata_by, uses_by}
 use Rattle.cert_laws.proofs.PathSkeletons.{start_text}
-use Rattle.cert_model.specs.DerivationView.{derivation_view}
-use Rattle.cert_model.specs.CertificateView.{apart_view}
-use Rattle.term_core.specs.View.{view}
-use Rattle.cert_grammar.specs.Prelude.{name_of, Mark, fixed, term_marks, derivation_marks, closing, apart_marks, node, derivations_left, apart, start_line}
-use Rattle.cert_sharing.proofs.UseMarks.{AreStill, counts_still, still_both, term_still, derivation_still}
-use Rattle.cert_words.proofs.Walking.{then_reads, as_marks, framed}
-use Rattle.cert_reading.specs.Uses.{version_by, automata_by, uses_by}
-use Rattle.cert_reading.proofs.UseReads.{known_behind}
 use Rattle.cert_reading.proofs.peaks.peak.Goals as goal
 
 pub apart-apart-requires : goal.apart-apart-requires

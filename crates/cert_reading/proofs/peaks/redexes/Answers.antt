@@ -1,12 +1,6 @@
-use Rattle.std.proofs.Common.{◌≡◌, ◌+◌, ◌∙◌, ℕ, suc, refl, sym, ap, map, length, [], ◌∷◌, arith}
-use Rattle.std.proofs.lemmas.List.{length_push}
-use Rattle.cert_model.specs.CertificateView.{redex_view}
-use Rattle.cert_grammar.specs.Prelude.{redexes_marks, redexes_from}
-use Rattle.cert_sharing.proofs.UseMarks.{counts_still}
-use Rattle.cert_words.proofs.Walking.{then_reads, then_nothing, as_reads, already, open_before}
-use Rattle.cert_words.proofs.Stepping.{none_now, some_now}
-use Rattle.cert_reading.specs.Uses.{version_by, automata_by, uses_by}
-use Rattle.cert_reading.proofs.UseReads.{known_behind}
+use Rattle.cert_reading.proofs.Lemmas.{known_behind}
+use Rattle.cert_reading.proofs.Prelude.{◌≡◌, ◌+◌, ◌∙◌, ℕ, suc, refl, sym, ap, map, length, [], ◌∷◌, arith, length_push, redex_view, redexes_marks, redexes_from, counts_still, then_reads}
+use Rattle.cert_reading.proofs.Prelude.{then_nothing, as_reads, already, open_before, none_now, some_now, version_by, automata_by, uses_by}
 use Rattle.cert_reading.proofs.ListMarks.{redexes_push, plain_redexes}
 use Rattle.cert_reading.proofs.peaks.redexes.Goals as goal
 
@@ -15,7 +9,7 @@ returns-then-is_some-clause-read c =
     let v = version_by c.args.uses in
     let n = c.len.result + 1 in
     let is : suc (length c.redexes.redexes.items) ≡ n = omega (arith, c.redexes.redexes.ok.0, c.len.ensures) in
-    let e = some_now _ _ c.is_some.ensures c.if-is_some.true in
+    let e = some_now c.is_some.ensures c.if-is_some.true in
     let step = then_nothing c.in-Some.ensures.redex (c.put.ensures.read c.args.names.now c.args.end (redexes_from v (suc n) ∷ [])) in
     already e.0 e.1 (then_reads (as_reads (λ none. (ap (λ (j : ℕ). redexes_from v j ∷ []) is, λ u. refl)) c.redexes.invariant.read) step)
 
@@ -23,7 +17,7 @@ pub redexes-smaller : goal.redexes-smaller
 redexes-smaller c =
     let v = version_by c.args.uses in
     let n = c.len.result + 1 in
-    let none = none_now _ _ c.is_some.ensures c.if-is_some.false in
+    let none = none_now c.is_some.ensures c.if-is_some.false in
     let few = c.in-Some.ensures.few (open_before (c.put.ensures.read c.args.names.now c.args.end (redexes_from v (suc n) ∷ [])) none) in
     let long = ap length (c.put.ensures.grown none) ∙ length_push c.redexes.redexes.items c.in-Some.next in
     omega (arith, c.redexes.redexes.ok.0, c.len.ensures, few, long)

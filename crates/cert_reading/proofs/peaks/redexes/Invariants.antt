@@ -1,10 +1,5 @@
-use Rattle.std.proofs.Common.{◌≡◌, ◌-◌, suc, [], ◌∷◌, None, map, length}
-use Rattle.cert_model.specs.CertificateView.{redex_view}
-use Rattle.cert_grammar.specs.CertificateMarks.{redexes_marks}
+use Rattle.cert_reading.proofs.Prelude.{◌≡◌, ◌-◌, suc, [], ◌∷◌, None, map, length, redex_view, redexes_marks, Reads, RedexesUse, version_by, automata_by, uses_by, AreKnown}
 use Rattle.cert_grammar.specs.Items as spec
-use Rattle.cert_words.specs.Walks.{Reads}
-use Rattle.cert_reading.specs.Plain.{RedexesUse}
-use Rattle.cert_reading.specs.Uses.{version_by, automata_by, uses_by, AreKnown}
 use Rattle.cert_reading.proofs.peaks.redexes.Given as goal
 
 abbrev pub invariant-redexes : goal.invariant-redexes

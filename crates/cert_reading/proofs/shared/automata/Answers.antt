@@ -1,17 +1,12 @@
-use Rattle.std.proofs.Common.{◌≡◌, ◌+◌, ◌-◌, ◌∙◌, ℕ, [], ◌∷◌, None, refl, sym, ap, length, map, arith}
-use Rattle.std.proofs.lemmas.List.{length_push, length-map}
-use Rattle.cert_model.specs.EvidenceView.{automaton_view}
-use Rattle.cert_grammar.specs.Prelude.{automata_marks, behind_automata}
-use Rattle.cert_words.proofs.Walking.{open_before}
-use Rattle.cert_words.proofs.Stepping.{some_now}
-use Rattle.cert_reading.proofs.Stopping.{then_where, then_nothing_where, as_where, as_marks_where, already_where, open_before_where, low_where}
-use Rattle.cert_reading.proofs.Opening.{other_below, automata_other}
+use Rattle.cert_reading.proofs.Lemmas.{then_where, then_nothing_where, as_where, as_marks_where, already_where, open_before_where, low_where, other_below, automata_other, left_next}
+use Rattle.cert_reading.proofs.Lemmas.{left_end}
+use Rattle.cert_reading.proofs.Prelude.{◌≡◌, ◌+◌, ◌-◌, ◌∙◌, ℕ, [], ◌∷◌, None, refl, sym, ap, length, map, arith, length_push, length-map, automaton_view, automata_marks, behind_automata}
+use Rattle.cert_reading.proofs.Prelude.{open_before, some_now}
 use Rattle.cert_reading.proofs.AutomataMarks.{plain_automata, automata_push}
-use Rattle.cert_reading.proofs.DerivationMarks.{left_next, left_end}
 use Rattle.cert_reading.proofs.shared.automata.Goals as goal
 
 pub returns-then-is_some-clause-read : goal.returns-then-is_some-clause-read
-returns-then-is_some-clause-read c = λ given. let e = some_now _ _ c.is_some.ensures c.if-is_some.true in already_where e.0 e.1 (c.automata.invariant.read given)
+returns-then-is_some-clause-read c = λ given. let e = some_now c.is_some.ensures c.if-is_some.true in already_where e.0 e.1 (c.automata.invariant.read given)
 
 pub automata-preserved : goal.automata-preserved
 automata-preserved c =

@@ -1,9 +1,5 @@
-use Rattle.std.proofs.Common.{◌≡◌, ◌-◌, [], ◌∷◌, Bool, Option, None, map, length}
-use Rattle.cert_model.specs.EvidenceView.{automaton_view}
-use Rattle.cert_grammar.specs.CertificateMarks.{automata_marks}
+use Rattle.cert_reading.proofs.Prelude.{◌≡◌, ◌-◌, [], ◌∷◌, Bool, Option, None, map, length, automaton_view, automata_marks, ArePlainAutomata, ReadsWhere, BeforeEntries}
 use Rattle.cert_grammar.specs.Items as spec
-use Rattle.cert_reading.specs.Shared.{ArePlainAutomata}
-use Rattle.cert_reading.specs.Stops.{ReadsWhere, BeforeEntries}
 use Rattle.cert_reading.proofs.shared.automata.Given as goal
 
 abbrev pub invariant-automata : goal.invariant-automata

@@ -1,8 +1,6 @@
-use Rattle.std.proofs.Common.{ℕ, [], ◌∷◌, None, codes, refl, sym, ap, map}
-use Rattle.cert_model.specs.EvidenceView.{automaton_view}
-use Rattle.cert_grammar.specs.Prelude.{fixed, shared_automata, number_for, automata_marks, line, between, shared_line, shared_count, behind_automata}
-use Rattle.cert_reading.proofs.Stopping.{then_where, as_marks_where, word_where, low_where}
-use Rattle.cert_reading.proofs.Opening.{other_place, other_below, automata_other}
+use Rattle.cert_reading.proofs.Lemmas.{then_where, as_marks_where, word_where, low_where, other_place, other_below, automata_other}
+use Rattle.cert_reading.proofs.Prelude.{ℕ, [], ◌∷◌, None, codes, refl, sym, ap, map, automaton_view, fixed, shared_automata, number_for, automata_marks, line, between, shared_line}
+use Rattle.cert_reading.proofs.Prelude.{shared_count, behind_automata}
 use Rattle.cert_reading.proofs.SharedKnown.{known_now}
 use Rattle.cert_reading.proofs.shared.shared_automata.Goals as goal
 

@@ -1,10 +1,6 @@
-use Rattle.std.proofs.Common.{[], ◌∷◌, refl}
-use Rattle.cert_model.specs.EvidenceView.{automaton_view}
-use Rattle.cert_grammar.specs.Prelude.{name_of, automaton_marks, space, between, state_count, automata_left, automaton_end, behind_automata}
-use Rattle.cert_words.proofs.Walking.{then_reads, framed}
-use Rattle.cert_words.proofs.Stepping.{none_now, some_now}
-use Rattle.cert_reading.proofs.Stopping.{then_where, already_where, word_where, low_where, sealed_where}
-use Rattle.cert_reading.proofs.Opening.{other_place, other_below}
+use Rattle.cert_reading.proofs.Lemmas.{then_where, already_where, word_where, low_where, sealed_where, other_place, other_below}
+use Rattle.cert_reading.proofs.Prelude.{[], ◌∷◌, refl, automaton_view, name_of, automaton_marks, space, between, state_count, automata_left, automaton_end, behind_automata, then_reads}
+use Rattle.cert_reading.proofs.Prelude.{framed, none_now, some_now}
 use Rattle.cert_reading.proofs.AutomataMarks.{automaton_anew}
 use Rattle.cert_reading.proofs.shared.shared_automaton.Goals as goal
 
@@ -13,7 +9,7 @@ returns-clause-read c = λ more given.
     let names = c.args.names.now in
     let a = automaton_view c.behind_word-automaton.result in
     let anew = automaton_anew (name_of names) a in
-    let none = none_now _ _ c.is_some.ensures c.if-is_some.false in
+    let none = none_now c.is_some.ensures c.if-is_some.false in
     let read = then_reads (c.begins.ensures.read names (automata_left more given) (between space ∷ state_count ∷ automaton_end more given ∷ []) refl)
     (framed (automaton_end more given ∷ []) c.behind_word-automaton.ensures.read) in
     sealed_where {f = λ u. automaton_marks u a} (other_place (automaton_end more given) _ tt) none
@@ -24,11 +20,11 @@ pub returns-then-is_some-clause-read : goal.returns-then-is_some-clause-read
 returns-then-is_some-clause-read c = λ more given.
     let names = c.args.names.now in
     let new = between space ∷ state_count ∷ automaton_end more given ∷ [] in
-    let e = some_now _ _ c.is_some.ensures c.if-is_some.true in
+    let e = some_now c.is_some.ensures c.if-is_some.true in
     already_where e.0 e.1
     (then_where (word_where (λ x. other_place (automata_left more given) _ tt) (λ none. c.begins.ensures.here none names (automata_left more given) new refl)
     (c.begins.ensures.read names (automata_left more given) new refl))
     (low_where (automaton_end more given) (other_below (automaton_end more given) tt) c.behind_word-automaton.ensures.read))
 
 pub returns-clause-plain : goal.returns-clause-plain
-returns-clause-plain c = λ none. c.behind_word-automaton.ensures.plain (none_now _ _ c.is_some.ensures c.if-is_some.false)
+returns-clause-plain c = λ none. c.behind_word-automaton.ensures.plain (none_now c.is_some.ensures c.if-is_some.false)

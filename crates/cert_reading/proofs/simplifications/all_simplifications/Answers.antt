@@ -1,18 +1,11 @@
-use Rattle.std.proofs.Common.{◌≡◌, ◌+◌, ◌-◌, ◌∙◌, [], None, refl, sym, ap, length, map, arith}
-use Rattle.std.proofs.lemmas.List.{length_push, length-map}
-use Rattle.cert_model.specs.EvidenceView.{automaton_view}
-use Rattle.cert_model.specs.CertificateView.{simp_view}
-use Rattle.cert_grammar.specs.Prelude.{second_version, by_number, number_in, simplifications_marks, simplifications_of}
-use Rattle.cert_sharing.proofs.UseMarks.{counts_still}
-use Rattle.cert_words.proofs.Walking.{then_reads, then_nothing, as_reads, as_marks, already, open_before}
-use Rattle.cert_words.proofs.Stepping.{some_now}
+use Rattle.cert_reading.proofs.Lemmas.{left_next, left_end, known_behind}
+use Rattle.cert_reading.proofs.Prelude.{◌≡◌, ◌+◌, ◌-◌, ◌∙◌, [], None, refl, sym, ap, length, map, arith, length_push, length-map, automaton_view, simp_view, second_version, by_number}
+use Rattle.cert_reading.proofs.Prelude.{number_in, simplifications_marks, simplifications_of, counts_still, then_reads, then_nothing, as_reads, as_marks, already, open_before, some_now}
 use Rattle.cert_reading.proofs.ListMarks.{steps_push, plain_steps}
-use Rattle.cert_reading.proofs.DerivationMarks.{left_next, left_end}
-use Rattle.cert_reading.proofs.UseReads.{known_behind}
 use Rattle.cert_reading.proofs.simplifications.all_simplifications.Goals as goal
 
 pub returns-then-is_some-clause-read : goal.returns-then-is_some-clause-read
-returns-then-is_some-clause-read c = let e = some_now _ _ c.is_some.ensures c.if-is_some.true in already e.0 e.1 c.steps.invariant.read
+returns-then-is_some-clause-read c = let e = some_now c.is_some.ensures c.if-is_some.true in already e.0 e.1 c.steps.invariant.read
 
 pub returns-then-is_some-clause-known : goal.returns-then-is_some-clause-known
 returns-then-is_some-clause-known c = c.steps.invariant.known

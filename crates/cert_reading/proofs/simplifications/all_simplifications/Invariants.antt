@@ -1,10 +1,5 @@
-use Rattle.std.proofs.Common.{◌≡◌, ◌-◌, None, map, length}
-use Rattle.cert_model.specs.EvidenceView.{automaton_view}
-use Rattle.cert_model.specs.CertificateView.{simp_view}
-use Rattle.cert_grammar.specs.Prelude.{second_version, by_number, number_in, simplifications_marks, simplifications_of}
-use Rattle.cert_words.specs.Walks.{Reads}
-use Rattle.cert_reading.specs.Plain.{StepsUse}
-use Rattle.cert_reading.specs.Uses.{AreShared}
+use Rattle.cert_reading.proofs.Prelude.{◌≡◌, ◌-◌, None, map, length, automaton_view, simp_view, second_version, by_number, number_in, simplifications_marks, simplifications_of, Reads}
+use Rattle.cert_reading.proofs.Prelude.{StepsUse, AreShared}
 use Rattle.cert_reading.proofs.simplifications.all_simplifications.Given as goal
 
 abbrev pub invariant-steps : goal.invariant-steps

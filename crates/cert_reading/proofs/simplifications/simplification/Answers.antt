@@ -1,12 +1,7 @@
-use Rattle.std.proofs.Common.{[], ◌∷◌, codes, map, sym, refl}
-use Rattle.std.proofs.lemmas.List.{append-nil}
-use Rattle.cert_model.specs.EvidenceView.{automaton_view, inf_evidence_view}
-use Rattle.certificates.specs.Certificates.{dropped, inlined}
-use Rattle.cert_grammar.specs.Prelude.{name_of, second_version, by_number, used_by_steps, number_in, fixed, number, space, line, between, any_number, infeasibility, simplifications_left}
-use Rattle.cert_grammar.specs.Prelude.{simplifications_of}
-use Rattle.cert_sharing.proofs.UseMarks.{counts_still, numbers_of, counts_steps}
-use Rattle.cert_words.proofs.Walking.{then_reads, as_marks, framed}
-use Rattle.cert_reading.proofs.UseReads.{known_behind}
+use Rattle.cert_reading.proofs.Lemmas.{known_behind}
+use Rattle.cert_reading.proofs.Prelude.{[], ◌∷◌, codes, map, sym, refl, append-nil, automaton_view, inf_evidence_view, dropped, inlined, name_of, second_version, by_number, used_by_steps}
+use Rattle.cert_reading.proofs.Prelude.{number_in, fixed, number, space, line, between, any_number, infeasibility, simplifications_left, simplifications_of, counts_still, numbers_of}
+use Rattle.cert_reading.proofs.Prelude.{counts_steps, then_reads, as_marks, framed}
 use Rattle.cert_reading.proofs.simplifications.simplification.Goals as goal
 
 pub infeasibility-evidence-requires : goal.infeasibility-evidence-requires

@@ -1,22 +1,14 @@
-use Rattle.std.proofs.Common.{◌≡◌, ◌+◌, ◌-◌, ◌∙◌, ℕ, suc, refl, sym, ap, length, map, List, [], ◌∷◌, ◌++◌, None, codes, arith}
-use Rattle.std.proofs.lemmas.List.{length_push, length-map}
-use Rattle.rewriting.specs.Terms.{Term, app, size, size_all, terms_of}
-use Rattle.term_core.specs.View.{view, views}
-use Rattle.term_core.proofs.Views.{view-Var, view-Fun}
-use Rattle.cert_grammar.specs.Prelude.{name_of, is_number, fixed, term_marks, with_next, node, name_behind, term_behind, term_closed, next_argument, symbol_end}
-use Rattle.cops_names.specs.NameTable.{arity_at}
-use Rattle.cert_grammar.proofs.Views.{seen_push}
-use Rattle.cert_words.proofs.Walking.{then_reads, then_nothing, as_reads, as_marks, open_before}
-use Rattle.cert_words.proofs.Stepping.{none_now, some_now, arity_met}
-use Rattle.cert_words.proofs.NodeReads.{node_leads, refused_node, any_frame, frames, frames_deep}
-use Rattle.cert_reading.specs.Arguments.{argument_end, behind_argument}
-use Rattle.cert_reading.proofs.TermMarks.{so_far, so_far_push, size_push, symbol_alone, symbol_read, either_end}
+use Rattle.cert_reading.proofs.Lemmas.{so_far, so_far_push, size_push, symbol_alone, symbol_read, either_end}
+use Rattle.cert_reading.proofs.Prelude.{◌≡◌, ◌+◌, ◌-◌, ◌∙◌, ℕ, suc, refl, sym, ap, length, map, List, [], ◌∷◌, ◌++◌, None, codes, arith, length_push, length-map, Term, app, size, size_all}
+use Rattle.cert_reading.proofs.Prelude.{terms_of, view, views, view-Var, view-Fun, name_of, is_number, fixed, term_marks, with_next, node, name_behind, term_behind, term_closed}
+use Rattle.cert_reading.proofs.Prelude.{next_argument, symbol_end, arity_at, seen_push, then_reads, then_nothing, as_reads, as_marks, open_before, none_now, some_now, arity_met, node_leads}
+use Rattle.cert_reading.proofs.Prelude.{refused_node, any_frame, frames, frames_deep, argument_end, behind_argument}
 use Rattle.cert_reading.proofs.terms.+argument.Goals as goal
 
 pub argument-returns-then-is_some-clause-read : goal.argument-returns-then-is_some-clause-read
 argument-returns-then-is_some-clause-read t c = λ g fs e.
     let n = c.args.n in
-    let err = some_now _ _ c.is_some.ensures c.if-is_some.true in
+    let err = some_now c.is_some.ensures c.if-is_some.true in
     refused_node c.args.names.now c.args.end (node n (g ∷ fs)) c.args.depth n (λ name. name_behind (n + 1) name (g ∷ fs) ∷ []) (term_behind (n + 1) (g ∷ fs) ∷ []) _ _ c.args.at.now
     c.next_node-node.new.at c.next_node-node.result err.0 err.1
     (c.next_node-node.ensures.read (node n (g ∷ fs)) (λ name. name_behind (n + 1) name (g ∷ fs) ∷ []) (term_behind (n + 1) (g ∷ fs) ∷ []) (node_leads n c.args.depth g fs e))
@@ -39,7 +31,7 @@ argument-returns-in-Comma-clause-read t c = λ g fs e.
     let n = c.args.n in
     let f = c.in-Symbol.f in
     let name = name_of names f in
-    let found = c.in-Symbol.ensures.found (none_now _ _ c.is_some.ensures c.if-is_some.false) in
+    let found = c.in-Symbol.ensures.found (none_now c.is_some.ensures c.if-is_some.false) in
     symbol_alone c.args.depth n f _ (fixed (codes ",")) (view-Fun f c.new.result ∙ ap (λ l. app f (views l)) c.new.ensures.items)
     (c.in-Symbol.ensures.read (node n (g ∷ fs)) (λ w. name_behind (n + 1) w (g ∷ fs) ∷ []) (term_behind (n + 1) (g ∷ fs) ∷ []) (node_leads n c.args.depth g fs e))
     (then_reads (c.in-Comma.ensures.comma refl names f 0 (name_behind (n + 1) name (g ∷ fs)) (node (n + 1) (record { name = name; argument = 1 } ∷ g ∷ fs) ∷ [])
@@ -52,7 +44,7 @@ argument-returns-in-Close-clause-read t c = λ g fs e.
     let n = c.args.n in
     let f = c.in-Symbol.f in
     let name = name_of names f in
-    let found = c.in-Symbol.ensures.found (none_now _ _ c.is_some.ensures c.if-is_some.false) in
+    let found = c.in-Symbol.ensures.found (none_now c.is_some.ensures c.if-is_some.false) in
     symbol_alone c.args.depth n f _ (fixed (codes ")")) (view-Fun f c.new-in-Close.result ∙ ap (λ l. app f (views l)) c.new-in-Close.ensures.items)
     (c.in-Symbol.ensures.read (node n (g ∷ fs)) (λ w. name_behind (n + 1) w (g ∷ fs) ∷ []) (term_behind (n + 1) (g ∷ fs) ∷ []) (node_leads n c.args.depth g fs e))
     (then_reads (c.in-Close.ensures.close refl names f 0 (name_behind (n + 1) name (g ∷ fs)) (node (n + 1) (record { name = name; argument = 1 } ∷ g ∷ fs) ∷ [])
@@ -65,7 +57,7 @@ argument-returns-in-Open-clause-read t c = λ g fs e.
     let n = c.args.n in
     let f = c.in-Symbol.f in
     let name = name_of names f in
-    let found = c.in-Symbol.ensures.found (none_now _ _ c.is_some.ensures c.if-is_some.false) in
+    let found = c.in-Symbol.ensures.found (none_now c.is_some.ensures c.if-is_some.false) in
     let args = c.arguments-args.result.0 in
     let k = length args.items in
     let many : c.len.result ≡ k = omega (arith, args.ok.0, c.len.ensures) in
@@ -81,7 +73,7 @@ pub argument-returns-in-Open-clause-counted : goal.argument-returns-in-Open-clau
 argument-returns-in-Open-clause-counted t c = λ none.
     let names = c.args.names.now in
     let f = c.in-Symbol.f in
-    let found = c.in-Symbol.ensures.found (none_now _ _ c.is_some.ensures c.if-is_some.false) in
+    let found = c.in-Symbol.ensures.found (none_now c.is_some.ensures c.if-is_some.false) in
     let args = c.arguments-args.result.0 in
     let k = length args.items in
     let many : c.len.result ≡ k = omega (arith, args.ok.0, c.len.ensures) in

@@ -1,11 +1,6 @@
-use Rattle.std.proofs.Common.{◌≡◌, ◌<◌, ◌≤◌, ◌+◌, ◌-◌, ◌*◌, if◌then◌else◌, ℕ, suc, false, List, [], ◌∷◌, None, length, map}
-use Rattle.rewriting.specs.Terms.{size_all}
-use Rattle.term_core.specs.View.{view, views}
-use Rattle.cert_grammar.specs.Items.{Frame}
+use Rattle.cert_reading.proofs.Lemmas.{so_far}
+use Rattle.cert_reading.proofs.Prelude.{◌≡◌, ◌<◌, ◌≤◌, ◌+◌, ◌-◌, ◌*◌, if◌then◌else◌, ℕ, suc, false, List, [], ◌∷◌, None, length, map, size_all, view, views, Frame, Reads, behind_argument}
 use Rattle.cert_grammar.specs.Items as spec
-use Rattle.cert_words.specs.Walks.{Reads}
-use Rattle.cert_reading.specs.Arguments.{behind_argument}
-use Rattle.cert_reading.proofs.TermMarks.{so_far}
 use Rattle.cert_reading.proofs.terms.+argument.Given as goal
 
 abbrev pub invariant-arguments-arguments : goal.invariant-arguments-arguments

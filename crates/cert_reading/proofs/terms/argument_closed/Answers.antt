@@ -1,6 +1,4 @@
-use Rattle.std.proofs.Common.{[], ◌∷◌, refl}
-use Rattle.cert_grammar.specs.Prelude.{name_of, with_next, node, term_closed, next_argument, symbol_end}
-use Rattle.cert_words.proofs.Walking.{then_reads}
+use Rattle.cert_reading.proofs.Prelude.{[], ◌∷◌, refl, name_of, with_next, node, term_closed, next_argument, symbol_end, then_reads}
 use Rattle.cert_reading.proofs.terms.argument_closed.Goals as goal
 
 pub returns-then-closed_or : goal.returns-then-closed_or

@@ -1,19 +1,12 @@
-use Rattle.std.proofs.Common.{◌≡◌, ◌∙◌, ℕ, refl, sym, ap, length, map, [], ◌∷◌, ◌++◌, codes, arith}
-use Rattle.std.proofs.lemmas.List.{length-map}
-use Rattle.rewriting.specs.Terms.{Term, app}
-use Rattle.term_core.specs.View.{view, views}
-use Rattle.term_core.proofs.Views.{view-Var, view-Fun}
-use Rattle.cops_names.specs.NameTable.{arity_at}
-use Rattle.cert_grammar.specs.Prelude.{name_of, is_number, fixed, term_marks, line, between, node, name_behind, term_behind, term_closed}
-use Rattle.cert_words.proofs.Walking.{then_reads, as_marks}
-use Rattle.cert_words.proofs.Stepping.{none_now, some_now, arity_met}
-use Rattle.cert_reading.proofs.TermMarks.{symbol_alone, symbol_read}
-use Rattle.cert_words.proofs.NodeReads.{refused_node}
+use Rattle.cert_reading.proofs.Lemmas.{symbol_alone, symbol_read}
+use Rattle.cert_reading.proofs.Prelude.{◌≡◌, ◌∙◌, ℕ, refl, sym, ap, length, map, [], ◌∷◌, ◌++◌, codes, arith, length-map, Term, app, view, views, view-Var, view-Fun, arity_at, name_of}
+use Rattle.cert_reading.proofs.Prelude.{is_number, fixed, term_marks, line, between, node, name_behind, term_behind, term_closed, then_reads, as_marks, none_now, some_now, arity_met}
+use Rattle.cert_reading.proofs.Prelude.{refused_node}
 use Rattle.cert_reading.proofs.terms.start_term.Goals as goal
 
 pub returns-then-is_some : goal.returns-then-is_some
 returns-then-is_some c =
-    let err = some_now _ _ c.is_some.ensures c.if-is_some.true in
+    let err = some_now c.is_some.ensures c.if-is_some.true in
     refused_node c.args.names.now c.args.end (node 1 []) 1 1 (λ w. name_behind 2 w [] ∷ []) (term_behind 2 [] ∷ []) _ _ c.args.at.now c.next_node-node.new.at c.next_node-node.result err.0 err.1
     (c.next_node-node.ensures.read (node 1 []) (λ w. name_behind 2 w [] ∷ []) (term_behind 2 [] ∷ []) refl)
 
@@ -26,7 +19,7 @@ pub returns-then-not-opened : goal.returns-then-not-opened
 returns-then-not-opened c =
     let names = c.args.names.now in
     let f = c.in-Symbol.f in
-    let found = c.in-Symbol.ensures.found (none_now _ _ c.is_some.ensures c.if-is_some.false) in
+    let found = c.in-Symbol.ensures.found (none_now c.is_some.ensures c.if-is_some.false) in
     symbol_alone 1 1 f _ (fixed (codes "\n")) (view-Fun f c.new.result ∙ ap (λ l. app f (views l)) c.new.ensures.items)
     (c.in-Symbol.ensures.read (node 1 []) (λ w. name_behind 2 w [] ∷ []) (term_behind 2 [] ∷ []) refl)
     (then_reads (c.opened.ensures.none c.if-not-opened.true names f 0 (name_behind 2 (name_of names f) []) (node 2 (record { name = name_of names f; argument = 1 } ∷ []) ∷ [])
@@ -38,7 +31,7 @@ returns-else-not-opened c =
     let names = c.args.names.now in
     let f = c.in-Symbol.f in
     let name = name_of names f in
-    let found = c.in-Symbol.ensures.found (none_now _ _ c.is_some.ensures c.if-is_some.false) in
+    let found = c.in-Symbol.ensures.found (none_now c.is_some.ensures c.if-is_some.false) in
     let args = c.arguments-args.result.0 in
     let k = length args.items in
     let many : c.len.result ≡ k = omega (arith, args.ok.0, c.len.ensures) in

@@ -1,9 +1,6 @@
-use Rattle.std.proofs.Common.{◌≡◌, ◌≤◌, ◌-◌, ℕ, [], ◌∷◌, None, Some, slice_get, map, refl, sym, ap, subst}
-use Rattle.std.proofs.lemmas.List.{length-map}
-use Rattle.cert_model.specs.EvidenceView.{automaton_view}
-use Rattle.cert_grammar.specs.Prelude.{space, line, between, states_line, shared_use}
-use Rattle.cert_words.proofs.Walking.{then_reads, then_nothing, as_marks, framed}
-use Rattle.cert_reading.proofs.UseReads.{UseFacts, use_facts, number_there, use_line}
+use Rattle.cert_reading.proofs.Lemmas.{UseFacts, use_facts, number_there, use_line}
+use Rattle.cert_reading.proofs.Prelude.{◌≡◌, ◌≤◌, ◌-◌, ℕ, [], ◌∷◌, None, Some, slice_get, map, refl, sym, ap, subst, length-map, automaton_view, space, line, between, states_line}
+use Rattle.cert_reading.proofs.Prelude.{shared_use, then_reads, then_nothing, as_marks, framed}
 use Rattle.cert_reading.proofs.uses.used_automaton.Goals as goal
 
 pub returns-in-InFull-clause-read : goal.returns-in-InFull-clause-read

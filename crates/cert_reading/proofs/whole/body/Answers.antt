@@ -1,12 +1,5 @@
-use Rattle.std.proofs.Common.{List, [], ◌∷◌, ◌++◌, ap}
-use Rattle.cert_model.specs.CertificateView.{certificate_view}
-use Rattle.cert_grammar.specs.Prelude.{Mark, closing}
-use Rattle.cert_sharing.proofs.UseMarks.{counts_still}
-use Rattle.cert_reading.specs.Headings.{kind_mark}
-use Rattle.cert_reading.specs.Uses.{version_by, automata_by, uses_by}
-use Rattle.cert_reading.proofs.Stopping.{then_where, as_marks_where, anywhere}
-use Rattle.cert_reading.proofs.KindMarks.{kind_marks, kind_still, kind_unsimplified}
-use Rattle.cert_reading.proofs.UseReads.{known_where}
+use Rattle.cert_reading.proofs.Lemmas.{then_where, as_marks_where, anywhere, kind_marks, kind_still, kind_unsimplified, known_where}
+use Rattle.cert_reading.proofs.Prelude.{List, [], ◌∷◌, ◌++◌, ap, certificate_view, Mark, closing, counts_still, kind_mark, version_by, automata_by, uses_by}
 use Rattle.cert_reading.proofs.whole.body.Goals as goal
 
 pub of_kind-requires : goal.of_kind-requires

@@ -1,16 +1,7 @@
-use Rattle.std.proofs.Common.{map, Bool, [], ◌∷◌, ◌++◌, codes, refl, sym, ap, subst, append_assoc}
-use Rattle.cert_model.specs.EvidenceView.{automaton_view}
-use Rattle.cert_model.specs.CertificateView.{certificate_view}
-use Rattle.cert_grammar.specs.Prelude.{first_version, second_version, in_full, by_number, number_in, fixed, answer_marks, body_marks, closing, opening, simplified, Shared}
-use Rattle.cert_sharing.proofs.UseMarks.{counts_still}
-use Rattle.cert_reading.specs.Headings.{behind_version, first_marks}
-use Rattle.cert_reading.specs.Shared.{shared_marks}
-use Rattle.cert_reading.specs.Plain.{IsPlainBy}
-use Rattle.cert_reading.specs.Stops.{ReadsWhere, BeforeEntries, Anywhere}
-use Rattle.cert_reading.specs.Uses.{AreShared}
-use Rattle.cert_reading.proofs.Stopping.{then_where, as_marks_where, anywhere, open_before_where}
-use Rattle.cert_reading.proofs.KindMarks.{first_still}
-use Rattle.cert_reading.proofs.UseReads.{known_where}
+use Rattle.cert_reading.proofs.Lemmas.{then_where, as_marks_where, anywhere, open_before_where, first_still, known_where}
+use Rattle.cert_reading.proofs.Prelude.{map, Bool, [], ◌∷◌, ◌++◌, codes, refl, sym, ap, subst, append_assoc, automaton_view, certificate_view, first_version, second_version, in_full}
+use Rattle.cert_reading.proofs.Prelude.{by_number, number_in, fixed, answer_marks, body_marks, closing, opening, simplified, Shared, counts_still, behind_version, first_marks, shared_marks}
+use Rattle.cert_reading.proofs.Prelude.{IsPlainBy, ReadsWhere, BeforeEntries, Anywhere, AreShared}
 use Rattle.cert_reading.proofs.whole.certificate.Goals as goal
 
 pub returns-then-not-second : goal.returns-then-not-second

@@ -1,13 +1,8 @@
-use Rattle.std.proofs.Common.{map, [], ◌∷◌, codes, refl, sym, ap, append_assoc, List}
-use Rattle.cert_model.specs.CertificateView.{pair_entry_view, measure_view}
-use Rattle.cert_grammar.specs.Prelude.{name_of, Mark, fixed, measure_marks, pairs_marks, closing, between, line, pairs_from, measure, start_line}
+use Rattle.cert_reading.proofs.Lemmas.{then_where, as_marks_where, anywhere, reads_anywhere, known_behind, known_where}
+use Rattle.cert_reading.proofs.Prelude.{map, [], ◌∷◌, codes, refl, sym, ap, append_assoc, List, pair_entry_view, measure_view, name_of, Mark, fixed, measure_marks, pairs_marks, closing}
+use Rattle.cert_reading.proofs.Prelude.{between, line, pairs_from, measure, start_line, counts_still, measure_still, framed, version_by, automata_by, uses_by}
 use Rattle.cert_model.proofs.CertificateViews.{ortho_shown, quasi_shown, peak_shown}
-use Rattle.cert_sharing.proofs.UseMarks.{counts_still, measure_still}
-use Rattle.cert_words.proofs.Walking.{framed}
-use Rattle.cert_reading.specs.Uses.{version_by, automata_by, uses_by}
-use Rattle.cert_reading.proofs.Stopping.{then_where, as_marks_where, anywhere, reads_anywhere}
 use Rattle.cert_reading.proofs.EntryItems.{measure_where, last_some_two}
-use Rattle.cert_reading.proofs.UseReads.{known_behind, known_where}
 use Rattle.cert_reading.proofs.whole.of_kind.Goals as goal
 
 pub all_pairs-pairs-requires : goal.all_pairs-pairs-requires

@@ -1,17 +1,8 @@
-use Rattle.std.proofs.Common.{◌∙◌, ℕ, suc, List, map, length, [], ◌∷◌, ◌++◌, codes, refl, sym, ap, subst, append_assoc}
-use Rattle.cert_model.specs.EvidenceView.{automaton_view}
-use Rattle.cert_model.specs.CertificateView.{simp_view, certificate_view}
+use Rattle.cert_reading.proofs.Lemmas.{then_where, then_nothing_where, as_marks_where, anywhere, reads_anywhere, open_before_where, kind_marks, kind_still, known_behind, known_where}
+use Rattle.cert_reading.proofs.Prelude.{◌∙◌, ℕ, suc, List, map, length, [], ◌∷◌, ◌++◌, codes, refl, sym, ap, subst, append_assoc, automaton_view, simp_view, certificate_view, largest}
+use Rattle.cert_reading.proofs.Prelude.{second_version, by_number, number_in, Mark, fixed, word, in_range, is_few, simplifications, simplifications_marks, body_marks, closing, between, line}
+use Rattle.cert_reading.proofs.Prelude.{simplification_count, simplifications_of, body, numeral, counts_still, then_reads, framed, open_before, kind_mark, IsPlainBy}
 use Rattle.certificates.specs.Certificates as math
-use Rattle.cert_grammar.specs.Prelude.{largest, second_version, by_number, number_in, Mark, fixed, word, in_range, is_few, simplifications, simplifications_marks, body_marks, closing}
-use Rattle.cert_grammar.specs.Prelude.{between, line, simplification_count, simplifications_of, body}
-use Rattle.cert_grammar.specs.WordMarks.{numeral}
-use Rattle.cert_sharing.proofs.UseMarks.{counts_still}
-use Rattle.cert_words.proofs.Walking.{then_reads, framed, open_before}
-use Rattle.cert_reading.specs.Headings.{kind_mark}
-use Rattle.cert_reading.specs.Plain.{IsPlainBy}
-use Rattle.cert_reading.proofs.Stopping.{then_where, then_nothing_where, as_marks_where, anywhere, reads_anywhere, open_before_where}
-use Rattle.cert_reading.proofs.KindMarks.{kind_marks, kind_still}
-use Rattle.cert_reading.proofs.UseReads.{known_behind, known_where}
 use Rattle.cert_reading.proofs.whole.second_body.Goals as goal
 
 pub of_kind-requires : goal.of_kind-requires

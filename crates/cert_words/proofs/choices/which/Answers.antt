@@ -1,6 +1,4 @@
-use Rattle.std.proofs.Common.{◌≡◌, ◌+◌, ℕ, suc, length, map, subst, arith}
-use Rattle.cert_words.specs.Words.{bare}
-use Rattle.cert_words.specs.Choices.{Missed}
+use Rattle.cert_words.proofs.Prelude.{◌≡◌, ◌+◌, ℕ, suc, length, map, subst, arith, bare, Missed}
 use Rattle.cert_words.proofs.Choosing.{is_first, missed_bare}
 use Rattle.cert_words.proofs.choices.which.Goals as goal
 

@@ -1,5 +1,4 @@
-use Rattle.std.proofs.Common.{ap, sym, ◌∙◌}
-use Rattle.cert_grammar.specs.Scans.{Mode, scan, is_word}
+use Rattle.cert_words.proofs.Prelude.{ap, sym, ◌∙◌, Mode, scan, is_word}
 use Rattle.cert_words.proofs.Fronts.{is_front}
 use Rattle.cert_words.proofs.leads.whole.Goals as goal
 

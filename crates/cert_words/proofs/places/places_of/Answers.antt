@@ -1,4 +1,4 @@
-use Rattle.std.proofs.Common.{None, Some, arith}
+use Rattle.cert_words.proofs.Prelude.{None, Some, arith}
 use Rattle.cert_words.proofs.BadParts.{not_root, found, parts_no_number, parts_great, parts_good, parts_end, places_are, places_read}
 use Rattle.cert_words.proofs.places.places_of.Goals as goal
 

@@ -1,5 +1,4 @@
-use Rattle.cert_grammar.specs.Scans.{numbers_from}
-use Rattle.std.proofs.Common.{◌≡◌, ◌++◌, drop}
+use Rattle.cert_words.proofs.Prelude.{numbers_from, ◌≡◌, ◌++◌, drop}
 use Rattle.cert_words.proofs.BadParts.{PartsOn}
 use Rattle.cert_words.proofs.places.places_of.Given as goal
 

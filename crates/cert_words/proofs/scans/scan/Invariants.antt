@@ -1,4 +1,4 @@
-use Rattle.cert_words.specs.Words.{mode_view}
+use Rattle.cert_words.proofs.Prelude.{mode_view}
 use Rattle.cert_words.proofs.Scanning.{ScansOn}
 use Rattle.cert_words.proofs.scans.scan.Given as goal
 

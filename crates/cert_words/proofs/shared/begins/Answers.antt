@@ -1,16 +1,13 @@
-use Rattle.std.proofs.Common.{refl}
-use Rattle.cert_words.proofs.Stepping.{none_now, first_one, stuck_one, keyword_keeps, go, stop}
-use Rattle.cert_words.proofs.Sharings.{begins_keeps}
+use Rattle.cert_words.proofs.Lemmas.{begins_keeps, go, keyword_keeps, no_word, one, stuck_one}
+use Rattle.cert_words.proofs.Prelude.{refl}
 use Rattle.cert_words.proofs.shared.begins.Goals as goal
 
 pub returns-in-Some-clause-read : goal.returns-in-Some-clause-read
-returns-in-Some-clause-read c = λ names i new e. go _ (none_now _ _ c.is_some.ensures c.if-is_some.false)
-    (keyword_keeps names c.args.end c.args.at.now.left.now c.args.at.now.shares i _ _ _ _ new (first_one i c.args.at.now.left.now _ _ e c.in-Some.ensures.there) c.in-Some.ensures
-    (λ at. refl) c.args.at.now.shares (begins_keeps c.args.bytes.now c.args.at.now.shares))
+returns-in-Some-clause-read c = λ names i new e. go c.is_some.ensures c.if-is_some.false (keyword_keeps (one e c.in-Some.ensures) (λ at. refl)
+    (begins_keeps c.args.bytes.now c.args.at.now.shares))
 
 pub returns-in-None-clause-read : goal.returns-in-None-clause-read
-returns-in-None-clause-read c = λ names i new e. stop _ (none_now _ _ c.is_some.ensures c.if-is_some.false)
-    (stuck_one names c.args.end c.args.at.now.left.now c.args.at.now.shares i _ _ e c.in-None.ensures c.stuck.ensures)
+returns-in-None-clause-read c = λ names i new e. no_word c.is_some.ensures c.if-is_some.false e c.in-None.ensures c.stuck.ensures
 
 pub returns-in-None-clause-here : goal.returns-in-None-clause-here
 returns-in-None-clause-here c = λ none names i new e. stuck_one names c.args.end c.args.at.now.left.now c.args.at.now.shares i _ _ e c.in-None.ensures c.stuck.ensures

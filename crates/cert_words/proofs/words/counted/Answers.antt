@@ -1,6 +1,5 @@
-use Rattle.std.proofs.Common.{sym}
-use Rattle.cert_words.specs.Words.{counted_view}
-use Rattle.cert_words.proofs.Stepping.{as_counted}
+use Rattle.cert_words.proofs.Lemmas.{as_counted}
+use Rattle.cert_words.proofs.Prelude.{sym, counted_view}
 use Rattle.cert_words.proofs.words.counted.Goals as goal
 
 pub returns-clause-read : goal.returns-clause-read

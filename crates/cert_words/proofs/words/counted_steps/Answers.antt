@@ -1,5 +1,4 @@
-use Rattle.std.proofs.Common.{refl}
-use Rattle.cert_grammar.specs.Marks.{simplifications}
+use Rattle.cert_words.proofs.Prelude.{refl, simplifications}
 use Rattle.cert_words.proofs.words.counted_steps.Goals as goal
 
 pub returns : goal.returns
