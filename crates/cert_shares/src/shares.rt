@@ -89,9 +89,7 @@ impl<'a> Shares<'a> {
                     return Share::Heavy;
                 }
                 self.unfolded = sum;
-                if self.used < number as usize {
-                    self.used = number as usize;
-                }
+                self.used = self.used.max(number as usize);
                 Share::Good
             }
         }

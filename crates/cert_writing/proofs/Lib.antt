@@ -1,4 +1,4 @@
 pub mod Writing
 pub mod WritingSteps
-pub mod WritingBodies
 pub mod SharedTexts
+pub mod Prelude

@@ -10,7 +10,7 @@ use Rattle.std.proofs.lemmas.List.Sums.{prefix_len-le-length}
 use Rattle.std.proofs.lemmas.List.{length-map}
 use Rattle.certificates.specs.Prelude.{Automaton, Certificate}
 use Rattle.cops_names.specs.NameTable.{NameTable}
-use Rattle.cert_grammar.specs.Prelude.{automaton_text, is_among, place_among, texts_of, with_new, shared_by, number_in, unfolded_length, second_version, by_number, automata_text, body_text}
+use Rattle.cert_grammar.specs.Prelude.{automaton_text, is_among, place_among, texts_of, with_new, shared_by, unfolded_length, second_version, by_number, automata_text, body_text}
 use Rattle.cert_grammar.specs.Prelude.{certificate_text}
 use Rattle.cert_shares.proofs.Ends.{same_eq, any_among, texts_if}
 use Rattle.cert_writing.specs.Written.{greatest, IsCounted}
@@ -93,16 +93,4 @@ not_there t ks e = place_is t ks ∙ by (nat_lt (position_or_len (is_text t) ks)
 pub whole_text : (names : NameTable) (c : Certificate) (ts : List (List ℕ)) → ts ≡ texts_of names (shared_by names c)
     → certificate_text second_version names c ≡ (codes "concon 2\nshared " ++ (decimal (length ts) ++ (codes "\n" ++ joined ts)))
     ++ (body_text names (by_number (λ a. place_among (automaton_text names a) ts)) c ++ codes "end\n")
-whole_text names c ts e =
-    ap (λ (n : ℕ). (codes "concon 2\nshared " ++ (decimal n ++ (codes "\n" ++ automata_text names shared))) ++ body) (sym (length-map shared (automaton_text names)))
-    ∙ ap (λ (t : List ℕ). (codes "concon 2\nshared " ++ (decimal (length (texts_of names shared)) ++ (codes "\n" ++ t))) ++ body) (joined_texts names shared)
-    ∙ ap text (sym e)
-  where
-    shared : List Automaton
-    shared = shared_by names c
-
-    body : List ℕ
-    body = body_text names (by_number (number_in names shared)) c ++ codes "end\n"
-
-    text : List (List ℕ) → List ℕ
-    text us = (codes "concon 2\nshared " ++ (decimal (length us) ++ (codes "\n" ++ joined us))) ++ (body_text names (by_number (λ a. place_among (automaton_text names a) us)) c ++ codes "end\n")
+whole_text names c ts e = rw (e, length-map (shared_by names c) (automaton_text names), ← joined_texts names (shared_by names c)) refl

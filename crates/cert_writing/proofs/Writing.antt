@@ -1,38 +1,42 @@
 -- A text that is put part by part, and what is left of it.
-use Rattle.std.proofs.Common.{◌≡◌, ◌≤◌, ◌<◌, ◌+◌, ◌-◌, ℕ, suc, List, [], ◌∷◌, ◌++◌, get_or, take, drop, length, subst, sym, ◌∙◌, ap, arith, add-one, drop-cons}
-use Rattle.std.proofs.lemmas.List.{take_all, drop_all}
-
--- what takes the text that is left has taken the whole text
-pub record Leads {S : Type 0} (took : S → List ℕ → S → Type 0) (start : S) (text : List ℕ) (now : S) (left : List ℕ) : Type 0 where
-  pub on : (end : S) → took now left end → took start text end
+use Rattle.std.proofs.Common.{◌≡◌, ◌≤◌, ◌<◌, ◌+◌, ◌-◌, ℕ, List, [], ◌∷◌, ◌++◌, get_or, take, drop, length, subst, sym, ◌∙◌, ap, arith}
+use Rattle.std.proofs.lemmas.List.{take_all, drop_all, drop_more}
 
 -- the bytes of a text may come in parts
 abbrev pub InParts : {S : Type 0} → (S → List ℕ → S → Type 0) → Type 0
 InParts {S} took = (s t u : S) (a b : List ℕ) → took s a t → took t b u → took s (a ++ b) u
 
-pub goes_on : {S : Type 0} (took : S → List ℕ → S → Type 0) → InParts took → (s t u : S) (text a b : List ℕ) → Leads took s text t (a ++ b) → took t a u → Leads took s text u b
-goes_on took parts s t u text a b l h = record { on = λ e k. l.on e (parts t u e a b h k) }
+-- what takes the text of a list's members from a place on has taken the whole text
+pub record Leads {A S : Type 0} (took : S → List ℕ → S → Type 0) (whole : List ℕ) (text : List A → List ℕ) (xs : List A) (i : ℕ) (start now : S) : Type 0 where
+  pub on : (end : S) → took now (text (drop i xs)) end → took start whole end
 
--- the next of a list's members
-pub next_of : {A S : Type 0} (took : S → List ℕ → S → Type 0) → InParts took → (text : List A → List ℕ) (one : A → List ℕ) → ((x : A) (xs : List A) → text (x ∷ xs) ≡ one x ++ text xs)
-    → (s t u : S) (whole : List ℕ) (xs : List A) (i : ℕ) (x : A) → i < length xs
-    → Leads took s whole t (text (drop i xs)) → took t (one (get_or xs i x)) u → Leads took s whole u (text (drop (i + 1) xs))
-next_of {A} {S} took parts text one unfolds s t u whole xs i x lt l h =
-    let y = get_or xs i x in
-    let shown : text (drop i xs) ≡ one y ++ text (drop (i + 1) xs) = rw add-one (ap text (drop-cons xs i x lt) ∙ unfolds y (drop (suc i) xs)) in
-    goes_on took parts s t u whole (one y) (text (drop (i + 1) xs)) (subst (λ (w : List ℕ). Leads took s whole t w) shown l) h
+abbrev pub Left : {A S : Type 0} → (S → List ℕ → S → Type 0) → (List A → List ℕ) → List A → ℕ → S → S → Type 0
+Left took text xs i start now = Leads took (text xs) text xs i start now
+
+-- before the first member stands what was taken
+pub lead_in : {A S : Type 0} {took : S → List ℕ → S → Type 0} {whole w : List ℕ} {text : List A → List ℕ} {xs : List A} {start now : S} → InParts took → took start w now
+    → whole ≡ w ++ text xs → Leads took whole text xs 0 start now
+lead_in {took = took} {w = w} {text = text} {xs = xs} {start = start} {now = now} parts h e =
+    record { on = λ end k. subst (λ (v : List ℕ). took start v end) (sym e) (parts start now end w (text xs) h k) }
+
+-- the next member
+pub next_value : {A S : Type 0} {took : S → List ℕ → S → Type 0} {whole w : List ℕ} {text : List A → List ℕ} {xs : List A} {i : ℕ} {start now after : S} → InParts took → (d : A)
+    → i < length xs → Leads took whole text xs i start now → took now w after → text (get_or xs i d ∷ drop (i + 1) xs) ≡ w ++ text (drop (i + 1) xs)
+    → Leads took whole text xs (i + 1) start after
+next_value {took = took} {w = w} {text = text} {xs = xs} {i = i} {now = now} {after = after} parts d lt l h e =
+    let shown : text (drop i xs) ≡ w ++ text (drop (i + 1) xs) = ap text (drop_more xs i d lt) ∙ e in
+    record { on = λ end k. l.on end (subst (λ (v : List ℕ). took now v end) (sym shown) (parts now after end w (text (drop (i + 1) xs)) h k)) }
 
 -- the same of a member that is lent
-pub next_lent : {A S : Type 0} (took : S → List ℕ → S → Type 0) → InParts took → (text : List A → List ℕ) (one : A → List ℕ) → ((x : A) (xs : List A) → text (x ∷ xs) ≡ one x ++ text xs)
-    → (s t u : S) (whole : List ℕ) (xs : List A) (i : ℕ) (x : A) → i < length xs → x ≡ get_or xs i x
-    → Leads took s whole t (text (drop i xs)) → took t (one x) u → Leads took s whole u (text (drop (i + 1) xs))
-next_lent {A} {S} took parts text one unfolds s t u whole xs i x lt is l h =
-    next_of took parts text one unfolds s t u whole xs i x lt l (subst (λ (y : A). took t (one y) u) is h)
+pub next_left : {A S : Type 0} {took : S → List ℕ → S → Type 0} {whole w : List ℕ} {text : List A → List ℕ} {xs : List A} {i : ℕ} {start now after : S} {x : A} → InParts took
+    → i < length xs → x ≡ get_or xs i x → Leads took whole text xs i start now → took now w after → text (x ∷ drop (i + 1) xs) ≡ w ++ text (drop (i + 1) xs)
+    → Leads took whole text xs (i + 1) start after
+next_left {text = text} {xs = xs} {i = i} {x = x} parts lt is l h e = next_value parts x lt l h (ap (λ y. text (y ∷ drop (i + 1) xs)) (sym is) ∙ e)
 
 -- no member is left
-pub none_left : {A S : Type 0} (took : S → List ℕ → S → Type 0) (text : List A → List ℕ) (s t u : S) (whole : List ℕ) (xs : List A) (i : ℕ) → length xs ≤ i
-    → Leads took s whole t (text (drop i xs)) → took t (text []) u → took s whole u
-none_left {A} {S} took text s t u whole xs i le l h = l.on u (subst (λ (w : List A). took t (text w) u) (sym (drop_all i xs le)) h)
+pub none_left : {A S : Type 0} {took : S → List ℕ → S → Type 0} {whole : List ℕ} {text : List A → List ℕ} {xs : List A} {i : ℕ} {start now end : S} → length xs ≤ i
+    → Leads took whole text xs i start now → took now (text []) end → took start whole end
+none_left {took = took} {text = text} {xs = xs} {i = i} {now = now} {end = end} le l h = l.on end (subst (λ w. took now (text w) end) (sym (drop_all i xs le)) h)
 
 -- the first of some members, and the others
 pub first_and_others : {A : Type 0} (xs : List A) (x : A) → 1 ≤ length xs → xs ≡ get_or xs 0 x ∷ take (length xs - 1) (drop 1 xs)

@@ -2,10 +2,9 @@
 use Rattle.std.specs.Prelude.{ℕ, List, [], ◌∷◌, ◌++◌, map, if◌then◌else◌}
 use Rattle.std.specs.Borrow.{Bor}
 use Rattle.certificates.specs.Evidence as math
-use Rattle.certificates.specs.Certificates.{Simplification, dropped, inlined}
 use Rattle.cert_model.specs.declared.evidence.Automaton.{Automaton}
 use Rattle.cert_model.specs.EvidenceView.{automaton_view}
-use Rattle.cert_grammar.specs.Prelude.{is_among, used_by}
+use Rattle.cert_grammar.specs.Prelude.{is_among}
 use Rattle.cert_writing.specs.declared.numbers.AutomatonTexts.TheInside.{Inside}
 
 -- the automata that are lent
@@ -14,10 +13,6 @@ seen automata = map (λ a. automaton_view a.now) automata
 
 abbrev pub texts_view : Inside → List (List ℕ)
 texts_view t = map (λ v. v.items) t.texts.keys
-
-abbrev pub used_by_step : Simplification → List math.Automaton
-used_by_step (dropped rule e) = used_by e
-used_by_step (inlined rule condition) = []
 
 -- the texts, and behind them one, where it is new
 abbrev pub with_text : List (List ℕ) → List ℕ → List (List ℕ)

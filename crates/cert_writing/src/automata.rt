@@ -1,9 +1,9 @@
 //! The automata that a certificate uses, one for each use, in the order of its text.
 ghost use Rattle.std.specs.Prelude.{◌≡◌, ◌++◌, IfOk, OnOk, map};
-ghost use Rattle.cert_model.specs.EvidenceView.{inf_evidence_view, pair_evidence_view};
+ghost use Rattle.cert_model.specs.EvidenceView.{inf_evidence_view};
 ghost use Rattle.cert_model.specs.CertificateView.{pair_entry_view, redex_view, simp_view, certificate_view};
-ghost use Rattle.cert_grammar.specs.Versions.{used_by, used_by_evidence, used_by_pairs, used_by_redexes, used_by_steps, automata_of};
-ghost use Rattle.cert_writing.specs.SharedAutomata.{seen, used_by_step};
+ghost use Rattle.cert_grammar.specs.Versions.{used_by, used_by_pairs, used_by_redexes, used_by_steps, automata_of};
+ghost use Rattle.cert_writing.specs.SharedAutomata.{seen};
 
 use cert_model::{
     Automaton, Certificate, InfEvidence, NonJoin, PairEntry, PairEvidence, Redex, Simp,
@@ -24,24 +24,13 @@ fn add_evidence<'a>(
     Ok(())
 }
 
-// The same of evidence for an overlap.
-fn add_pair<'a>(
-    automata: &mut Vec<&'a Automaton>,
-    evidence: &'a PairEvidence,
-) -> Result<(), NoMemory>
-    ensures { OnOk result (seen automata.new.items ≡ seen automata.old.items ++ used_by_evidence (pair_evidence_view evidence.now)) }
-{
-    if let PairEvidence::Infeasible(evidence) = evidence {
-        add_evidence(automata, evidence)?;
-    }
-    Ok(())
-}
-
 fn add_pairs<'a>(automata: &mut Vec<&'a Automaton>, pairs: &'a [PairEntry]) -> Result<(), NoMemory>
     ensures { OnOk result (seen automata.new.items ≡ seen automata.old.items ++ used_by_pairs (map pair_entry_view pairs.now)) }
 {
     'pairs: for pair in pairs {
-        add_pair(automata, &pair.evidence)?;
+        if let PairEvidence::Infeasible(evidence) = &pair.evidence {
+            add_evidence(automata, evidence)?;
+        }
     }
     Ok(())
 }
@@ -55,21 +44,13 @@ fn add_redexes<'a>(automata: &mut Vec<&'a Automaton>, redexes: &'a [Redex]) -> R
     Ok(())
 }
 
-// The same of a step, if conditions go by it.
-fn add_step<'a>(automata: &mut Vec<&'a Automaton>, step: &'a Simp) -> Result<(), NoMemory>
-    ensures { OnOk result (seen automata.new.items ≡ seen automata.old.items ++ used_by_step (simp_view step.now)) }
-{
-    if let Simp::Drop { evidence, .. } = step {
-        add_evidence(automata, evidence)?;
-    }
-    Ok(())
-}
-
 fn add_steps<'a>(automata: &mut Vec<&'a Automaton>, steps: &'a [Simp]) -> Result<(), NoMemory>
     ensures { OnOk result (seen automata.new.items ≡ seen automata.old.items ++ used_by_steps (map simp_view steps.now)) }
 {
     'steps: for step in steps {
-        add_step(automata, step)?;
+        if let Simp::Drop { evidence, .. } = step {
+            add_evidence(automata, evidence)?;
+        }
     }
     Ok(())
 }

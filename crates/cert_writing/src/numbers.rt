@@ -3,7 +3,7 @@ ghost use Rattle.std.specs.Prelude.{◌≡◌, [], IfOk, OnOk, length, min};
 ghost use Rattle.cert_model.specs.EvidenceView.{automaton_view};
 ghost use Rattle.cert_model.specs.CertificateView.{certificate_view};
 ghost use Rattle.cert_grammar.specs.Prelude.{automaton_text, place_among, texts_of, shared_by, unfolded_length, automata_of, automata_text};
-ghost use Rattle.cert_writing.specs.SharedAutomata.{seen, joined, with_text, with_texts};
+ghost use Rattle.cert_writing.specs.SharedAutomata.{seen, joined, with_text};
 ghost use Rattle.cert_writing.specs.Written.{greatest};
 
 use crate::automata::used_automata;
@@ -68,23 +68,15 @@ impl AutomatonTexts {
         Ok(())
     }
 
-    // The same of automata one after the other.
-    fn add_all(&mut self, names: &Names, automata: &[&Automaton]) -> Result<(), NoMemory>
-        ensures { OnOk result (self.new ≡ with_texts self.old (texts_of names.now (seen automata.now))) }
-    {
-        'automata: for automaton in automata {
-            self.add(names, automaton)?;
-        }
-        Ok(())
-    }
-
     /// The texts of the automata of a certificate.
     pub fn of(alloc: Global, names: &Names, cert: &Certificate) -> Result<AutomatonTexts, NoMemory>
         ensures { IfOk result (λ texts. texts ≡ texts_of names.now (shared_by names.now (certificate_view cert.now))) }
     {
         let automata = used_automata(alloc, cert)?;
         let mut texts = AutomatonTexts::new(alloc);
-        texts.add_all(names, &automata)?;
+        'automata: for automaton in &automata {
+            texts.add(names, automaton)?;
+        }
         Ok(texts)
     }
 

@@ -3,10 +3,9 @@ ghost use Rattle.std.specs.Prelude.{◌≡◌, ◌++◌, length, map, min, codes
 ghost use Rattle.term_core.specs.HeadView.{head_view};
 ghost use Rattle.cert_model.specs.CertificateView.{linear_entry_view, measure_view, redex_view, apart_view, peak_view, simp_view, certificate_view};
 ghost use Rattle.cert_writing.specs.Written.{greatest};
-ghost use Rattle.cert_writing.specs.WrittenParts.{entry_text, head_line_text, redex_text, step_text};
 ghost use Rattle.cert_grammar.specs.Prelude.{measured_text, entries_text, heads_text, measure_text, redexes_text, apart_text, peak_text, simplifications_text, body_text, certificate_text};
 ghost use Rattle.cert_grammar.specs.Prelude.{second_version};
-ghost use Rattle.cert_writing.specs.WrittenUses.{uses_view};
+ghost use Rattle.cert_writing.specs.WrittenUses.{uses_view, step_text};
 ghost use Rattle.cert_writing.specs.SharedAutomata.{joined};
 
 use crate::numbers::{AutomatonTexts, put_texts};
@@ -37,34 +36,22 @@ fn put_measured<O: Output>(to: &mut O, names: &Names, head: &Head)
     }
 }
 
-fn put_entry<O: Output>(to: &mut O, names: &Names, entry: &LinearEntry)
-    ensures { O.took to.old (entry_text names.now (linear_entry_view entry.now)) to.new }
-{
-    put_measured(to, names, &entry.head);
-    put_numbers(to, &entry.coeffs);
-    to.put(b"\n");
-}
-
 fn put_entries<O: Output>(to: &mut O, names: &Names, entries: &[LinearEntry])
     ensures { O.took to.old (entries_text names.now (map linear_entry_view entries.now)) to.new }
 {
     'entries: for entry in entries {
-        put_entry(to, names, entry);
+        put_measured(to, names, &entry.head);
+        put_numbers(to, &entry.coeffs);
+        to.put(b"\n");
     }
-}
-
-fn put_head_line<O: Output>(to: &mut O, names: &Names, head: &Head)
-    ensures { O.took to.old (head_line_text names.now (head_view head.now)) to.new }
-{
-    put_measured(to, names, head);
-    to.put(b"\n");
 }
 
 fn put_heads<O: Output>(to: &mut O, names: &Names, heads: &[Head])
     ensures { O.took to.old (heads_text names.now (map head_view heads.now)) to.new }
 {
     'heads: for head in heads {
-        put_head_line(to, names, head);
+        put_measured(to, names, head);
+        to.put(b"\n");
     }
 }
 
@@ -83,24 +70,18 @@ fn put_measure<O: Output>(to: &mut O, names: &Names, measure: &MeasureCert)
     }
 }
 
-fn put_redex<O: Output>(to: &mut O, names: &Names, uses: &Uses<'_>, redex: &Redex)
-    ensures { O.took to.old (redex_text names.now (uses_view names.now uses.now) (redex_view redex.now)) to.new }
-{
-    to.put(b"redex ");
-    put_number(to, redex.which as usize);
-    to.put(b" ");
-    put_position(to, &redex.pos);
-    to.put(b" ");
-    put_number(to, redex.rule as usize);
-    to.put(b" ");
-    put_infeasibility(to, names, uses, &redex.evidence);
-}
-
 fn put_redexes<O: Output>(to: &mut O, names: &Names, uses: &Uses<'_>, redexes: &[Redex])
     ensures { O.took to.old (redexes_text names.now (uses_view names.now uses.now) (map redex_view redexes.now)) to.new }
 {
     'redexes: for redex in redexes {
-        put_redex(to, names, uses, redex);
+        to.put(b"redex ");
+        put_number(to, redex.which as usize);
+        to.put(b" ");
+        put_position(to, &redex.pos);
+        to.put(b" ");
+        put_number(to, redex.rule as usize);
+        to.put(b" ");
+        put_infeasibility(to, names, uses, &redex.evidence);
     }
 }
 

@@ -2,8 +2,7 @@
 ghost use Rattle.std.specs.Prelude.{map};
 ghost use Rattle.cert_model.specs.EvidenceView.{transition_view, automaton_view, inf_evidence_view, pair_evidence_view};
 ghost use Rattle.cert_model.specs.CertificateView.{pair_entry_view};
-ghost use Rattle.cert_writing.specs.WrittenParts.{transition_text, pair_text};
-ghost use Rattle.cert_grammar.specs.EvidenceText.{numbers_text, further_states_text, states_text, head_text, transitions_text, automaton_text, use_text, infeasibility_text, evidence_text, pairs_text};
+ghost use Rattle.cert_grammar.specs.EvidenceText.{numbers_text, states_text, head_text, transitions_text, automaton_text, use_text, infeasibility_text, evidence_text, pairs_text};
 ghost use Rattle.cert_writing.specs.WrittenUses.{uses_view};
 
 use crate::numbers::AutomatonTexts;
@@ -23,17 +22,6 @@ pub fn put_numbers<O: Output>(to: &mut O, numbers: &[u32])
     }
 }
 
-// The states behind one, each with a comma before it, and the bracket.
-fn put_further_states<O: Output>(to: &mut O, states: &[u32])
-    ensures { O.took to.old (further_states_text states.now) to.new }
-{
-    'states: for state in states {
-        to.put(b",");
-        put_number(to, *state as usize);
-    }
-    to.put(b")");
-}
-
 // Nothing, or states in brackets.
 fn put_states<O: Output>(to: &mut O, states: &[u32])
     ensures { O.took to.old (states_text states.now) to.new }
@@ -41,7 +29,11 @@ fn put_states<O: Output>(to: &mut O, states: &[u32])
     if let [first, rest @ ..] = states {
         to.put(b"(");
         put_number(to, *first as usize);
-        put_further_states(to, rest);
+        'others: for state in rest {
+            to.put(b",");
+            put_number(to, *state as usize);
+        }
+        to.put(b")");
     }
 }
 
@@ -58,20 +50,14 @@ fn put_head<O: Output>(to: &mut O, names: &Names, symbol: Option<u32>, states: &
     }
 }
 
-fn put_transition<O: Output>(to: &mut O, names: &Names, transition: &Transition)
-    ensures { O.took to.old (transition_text names.now (transition_view transition.now)) to.new }
-{
-    put_head(to, names, transition.symbol, &transition.args);
-    to.put(b" ");
-    put_number(to, transition.target as usize);
-    to.put(b"\n");
-}
-
 fn put_transitions<O: Output>(to: &mut O, names: &Names, transitions: &[Transition])
     ensures { O.took to.old (transitions_text names.now (map transition_view transitions.now)) to.new }
 {
     'transitions: for transition in transitions {
-        put_transition(to, names, transition);
+        put_head(to, names, transition.symbol, &transition.args);
+        to.put(b" ");
+        put_number(to, transition.target as usize);
+        to.put(b"\n");
     }
 }
 
@@ -169,24 +155,18 @@ fn put_evidence<O: Output>(to: &mut O, names: &Names, uses: &Uses<'_>, evidence:
     }
 }
 
-fn put_pair<O: Output>(to: &mut O, names: &Names, uses: &Uses<'_>, pair: &PairEntry)
-    ensures { O.took to.old (pair_text names.now (uses_view names.now uses.now) (pair_entry_view pair.now)) to.new }
-{
-    to.put(b"pair ");
-    put_number(to, pair.inner as usize);
-    to.put(b" ");
-    put_position(to, &pair.pos);
-    to.put(b" ");
-    put_number(to, pair.outer as usize);
-    to.put(b" ");
-    put_evidence(to, names, uses, &pair.evidence);
-}
-
 /// Overlaps with their evidence.
 pub fn put_pairs<O: Output>(to: &mut O, names: &Names, uses: &Uses<'_>, pairs: &[PairEntry])
     ensures { O.took to.old (pairs_text names.now (uses_view names.now uses.now) (map pair_entry_view pairs.now)) to.new }
 {
     'pairs: for pair in pairs {
-        put_pair(to, names, uses, pair);
+        to.put(b"pair ");
+        put_number(to, pair.inner as usize);
+        to.put(b" ");
+        put_position(to, &pair.pos);
+        to.put(b" ");
+        put_number(to, pair.outer as usize);
+        to.put(b" ");
+        put_evidence(to, names, uses, &pair.evidence);
     }
 }

@@ -7,19 +7,6 @@ use crate::output::{Output, put_number};
 use crate::written_terms::put_position;
 use cert_model::{Derivation, Step};
 
-// The line of a step by a rule: the rule, the position, and how many derivations follow.
-fn put_rule_line<O: Output>(to: &mut O, rule: u32, pos: &[u32], count: usize)
-    ensures { O.took to.old (text.rule_line rule pos.now count) to.new }
-{
-    to.put(b"rule ");
-    put_number(to, rule as usize);
-    to.put(b" ");
-    put_position(to, pos);
-    to.put(b" ");
-    put_number(to, count);
-    to.put(b"\n");
-}
-
 fn put_hypothesis_line<O: Output>(to: &mut O, number: u32, pos: &[u32])
     ensures { O.took to.old (text.hypothesis_line number pos.now) to.new }
 {
@@ -30,32 +17,33 @@ fn put_hypothesis_line<O: Output>(to: &mut O, number: u32, pos: &[u32])
     to.put(b"\n");
 }
 
-fn put_steps_line<O: Output>(to: &mut O, count: usize)
-    ensures { O.took to.old (text.steps_line count) to.new }
-{
-    to.put(b"steps ");
-    put_number(to, count);
-    to.put(b"\n");
-}
-
 /// A derivation; the recursion goes as deep as derivations are nested in it.
 #[cycle(put_derivation)]
 pub fn put_derivation<O: Output>(to: &mut O, derivation: &Derivation)
     ensures { O.took to.old (derivation_text (derivation_view derivation.now)) to.new }
 {
-    put_steps_line(to, derivation.steps.len());
+    to.put(b"steps ");
+    put_number(to, derivation.steps.len());
+    to.put(b"\n");
     'steps: for step in &derivation.steps {
         put_step(to, step);
     }
 }
 
+// The line of a step by a rule tells the rule, the position, and how many derivations follow.
 #[cycle(put_derivation)]
 fn put_step<O: Output>(to: &mut O, step: &Step)
     ensures { O.took to.old (step_text (step_view step.now)) to.new }
 {
     match step {
         Step::Rule { rule, pos, conds } => {
-            put_rule_line(to, *rule, pos, conds.len());
+            to.put(b"rule ");
+            put_number(to, *rule as usize);
+            to.put(b" ");
+            put_position(to, pos);
+            to.put(b" ");
+            put_number(to, conds.len());
+            to.put(b"\n");
             'conds: for cond in conds {
                 put_derivation(to, cond);
             }

@@ -1,7 +1,4 @@
-use Rattle.std.proofs.Common.{◌≡◌, ◌++◌, map, drop}
-use Rattle.cert_model.specs.CertificateView.{pair_entry_view}
-use Rattle.cert_grammar.specs.Versions.{used_by_pairs}
-use Rattle.cert_writing.specs.SharedAutomata.{seen}
+use Rattle.cert_writing.proofs.Prelude.{◌≡◌, ◌++◌, map, drop, pair_entry_view, used_by_pairs, seen}
 use Rattle.cert_writing.proofs.automata.add_pairs.Given as goal
 
 abbrev pub invariant-pairs : goal.invariant-pairs

@@ -1,7 +1,4 @@
-use Rattle.std.proofs.Common.{◌≡◌, ◌++◌, map, drop}
-use Rattle.cert_model.specs.CertificateView.{redex_view}
-use Rattle.cert_grammar.specs.Versions.{used_by_redexes}
-use Rattle.cert_writing.specs.SharedAutomata.{seen}
+use Rattle.cert_writing.proofs.Prelude.{◌≡◌, ◌++◌, map, drop, redex_view, used_by_redexes, seen}
 use Rattle.cert_writing.proofs.automata.add_redexes.Given as goal
 
 abbrev pub invariant-redexes : goal.invariant-redexes

@@ -1,7 +1,4 @@
-use Rattle.std.proofs.Common.{◌≡◌, ◌++◌, map, drop}
-use Rattle.cert_model.specs.CertificateView.{simp_view}
-use Rattle.cert_grammar.specs.Versions.{used_by_steps}
-use Rattle.cert_writing.specs.SharedAutomata.{seen}
+use Rattle.cert_writing.proofs.Prelude.{◌≡◌, ◌++◌, map, drop, simp_view, used_by_steps, seen}
 use Rattle.cert_writing.proofs.automata.add_steps.Given as goal
 
 abbrev pub invariant-steps : goal.invariant-steps

@@ -1,8 +1,5 @@
-use Rattle.std.proofs.Common.{drop}
-use Rattle.cert_grammar.specs.CertificateText.{automata_text}
-use Rattle.cert_writing.specs.SharedAutomata.{seen}
-use Rattle.cert_writing.proofs.Writing.{Leads}
+use Rattle.cert_writing.proofs.Prelude.{automata_text, seen, Left}
 use Rattle.cert_writing.proofs.numbers.put_automata.Given as goal
 
 abbrev pub invariant-automata : goal.invariant-automata
-invariant-automata g l = Leads g.O.Output.took l.fn.to (automata_text l.names (seen l.automata)) l.to (automata_text l.names (seen (drop l.automaton-index l.automata)))
+invariant-automata g l = Left g.O.Output.took (λ xs. automata_text l.names (seen xs)) l.automata l.automaton-index l.fn.to l.to

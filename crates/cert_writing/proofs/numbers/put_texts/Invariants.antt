@@ -1,7 +1,5 @@
-use Rattle.std.proofs.Common.{drop, map}
-use Rattle.cert_writing.specs.SharedAutomata.{joined}
-use Rattle.cert_writing.proofs.Writing.{Leads}
+use Rattle.cert_writing.proofs.Prelude.{joined, Left, texts}
 use Rattle.cert_writing.proofs.numbers.put_texts.Given as goal
 
 abbrev pub invariant-texts : goal.invariant-texts
-invariant-texts g l = Leads g.O.Output.took l.fn.to (joined (map (λ v. v.items) l.text-items)) l.to (joined (map (λ v. v.items) (drop l.text-index l.text-items)))
+invariant-texts g l = Left g.O.Output.took (λ vs. joined (texts vs)) l.text-items l.text-index l.fn.to l.to

@@ -1,10 +1,4 @@
-use Rattle.std.proofs.Common.{ℕ, List, length, min, ap, ◌∙◌}
-use Rattle.certificates.specs.Evidence.{Automaton}
-use Rattle.cert_model.specs.CertificateView.{certificate_view}
-use Rattle.cert_grammar.specs.Prelude.{automata_text, automata_of}
-use Rattle.cert_writing.specs.SharedAutomata.{seen}
-use Rattle.cert_writing.specs.Written.{greatest}
-use Rattle.cert_writing.proofs.SharedTexts.{counted_all, unfolded_is}
+use Rattle.cert_writing.proofs.Prelude.{ℕ, List, length, min, ap, ◌∙◌, Automaton, certificate_view, automata_text, automata_of, seen, greatest, counted_all, unfolded_is}
 use Rattle.cert_writing.proofs.numbers.unfolded_len.Goals as goal
 
 pub returns : goal.returns

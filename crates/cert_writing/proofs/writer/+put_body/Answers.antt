@@ -1,7 +1,4 @@
-use Rattle.std.proofs.Common.{◌≡◌, length, map, arith}
-use Rattle.std.proofs.lemmas.List.{length-map}
-use Rattle.cert_model.proofs.CertificateViews.{ortho_shown, quasi_shown, peak_shown, simplified_shown}
-use Rattle.cert_model.specs.CertificateView.{simp_view}
+use Rattle.cert_writing.proofs.Prelude.{◌≡◌, length, map, arith, length-map, ortho_shown, quasi_shown, peak_shown, simplified_shown, simp_view}
 use Rattle.cert_writing.proofs.writer.+put_body.Goals as goal
 
 pub returns-in-Ortho : goal.returns-in-Ortho

@@ -1,6 +1,4 @@
-use Rattle.cert_model.specs.CertificateView.{certificate_view}
-use Rattle.cert_writing.proofs.Writing.{as_text}
-use Rattle.cert_writing.proofs.SharedTexts.{whole_text}
+use Rattle.cert_writing.proofs.Prelude.{certificate_view, as_text, whole_text}
 use Rattle.cert_writing.proofs.writer.put_certificate.Goals as goal
 
 pub returns-in-Ok : goal.returns-in-Ok

@@ -1,10 +1,5 @@
-use Rattle.std.proofs.Common.{map, drop}
-use Rattle.cert_writing.specs.WrittenUses.{uses_view}
-use Rattle.cert_grammar.specs.CertificateText.{simplifications_text}
-use Rattle.cert_model.specs.CertificateView.{simp_view}
-use Rattle.cert_writing.proofs.Writing.{Leads}
+use Rattle.cert_writing.proofs.Prelude.{map, simplifications_text, uses_view, simp_view, Left}
 use Rattle.cert_writing.proofs.writer.put_steps.Given as goal
 
 abbrev pub invariant-steps : goal.invariant-steps
-invariant-steps g l = Leads g.O.Output.took l.fn.to (simplifications_text l.names (uses_view l.names l.uses) (map simp_view l.steps)) l.to
-    (simplifications_text l.names (uses_view l.names l.uses) (map simp_view (drop l.step-index l.steps)))
+invariant-steps g l = Left g.O.Output.took (λ xs. simplifications_text l.names (uses_view l.names l.uses) (map simp_view xs)) l.steps l.step-index l.fn.to l.to

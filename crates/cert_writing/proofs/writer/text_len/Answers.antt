@@ -1,6 +1,4 @@
-use Rattle.cert_model.specs.CertificateView.{certificate_view}
-use Rattle.cert_grammar.specs.Prelude.{certificate_text, second_version}
-use Rattle.cert_writing.proofs.SharedTexts.{counted_all}
+use Rattle.cert_writing.proofs.Prelude.{certificate_view, certificate_text, second_version, counted_all}
 use Rattle.cert_writing.proofs.writer.text_len.Goals as goal
 
 pub returns : goal.returns

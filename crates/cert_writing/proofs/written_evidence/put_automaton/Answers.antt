@@ -1,6 +1,4 @@
-use Rattle.std.proofs.Common.{◌≡◌, length, map, arith}
-use Rattle.std.proofs.lemmas.List.{length-map}
-use Rattle.cert_model.specs.EvidenceView.{transition_view}
+use Rattle.cert_writing.proofs.Prelude.{◌≡◌, length, map, arith, length-map, transition_view}
 use Rattle.cert_writing.proofs.written_evidence.put_automaton.Goals as goal
 
 pub returns : goal.returns

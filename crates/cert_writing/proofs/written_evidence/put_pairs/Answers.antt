@@ -1,13 +1,10 @@
-use Rattle.std.proofs.Common.{map, refl}
-use Rattle.cert_grammar.specs.EvidenceText.{pairs_text}
-use Rattle.cert_writing.specs.WrittenUses.{uses_view}
-use Rattle.cert_writing.specs.WrittenParts.{pair_text}
-use Rattle.cert_model.specs.CertificateView.{pair_entry_view}
-use Rattle.cert_writing.proofs.Writing.{next_lent}
+use Rattle.cert_writing.proofs.Prelude.{refl, next_left}
 use Rattle.cert_writing.proofs.written_evidence.put_pairs.Goals as goal
 
 pub pairs-preserved : goal.pairs-preserved
 pairs-preserved g c =
-    next_lent g.O.Output.took g.met.O.Output.parts (λ xs. pairs_text c.args.names.now (uses_view c.args.names.now c.args.uses.now) (map pair_entry_view xs))
-    (λ x. pair_text c.args.names.now (uses_view c.args.names.now c.args.uses.now) (pair_entry_view x)) (λ x xs. refl) _ _ _ _ _ _ _ c.pairs-test.true c.pair-item.is
-    c.pairs.invariant c.put_pair.ensures
+    let p = g.met.O.Output.parts in
+    next_left p c.pairs-test.true c.pair-item.is c.pairs.invariant
+    (p _ _ _ _ _ c.put.ensures (p _ _ _ _ _ c.put_number.ensures (p _ _ _ _ _ c.put-in-pairs.ensures
+    (p _ _ _ _ _ (rw c.deref.ensures.value at c.put_position.ensures)
+    (p _ _ _ _ _ c.put-in-pairs-2.ensures (p _ _ _ _ _ c.put_number-in-pairs.ensures (p _ _ _ _ _ c.put-in-pairs-3.ensures c.put_evidence.ensures))))))) refl

@@ -1,10 +1,15 @@
-use Rattle.std.proofs.Common.{ap}
-use Rattle.cert_grammar.specs.EvidenceText.{states_text}
-use Rattle.cert_writing.proofs.Writing.{as_text, first_and_others}
+use Rattle.cert_writing.proofs.Prelude.{refl, ap, states_text, first_and_others, lead_in, next_value, none_left}
 use Rattle.cert_writing.proofs.written_evidence.put_states.Goals as goal
 
-pub returns-in-len1-up : goal.returns-in-len1-up
-returns-in-len1-up g c =
+pub others-init : goal.others-init
+others-init g c =
     let p = g.met.O.Output.parts in
-    as_text g.O.Output.took _ _ _ _ (ap states_text (first_and_others c.args.states.now 0 c.in-len1-up.len_at_least))
-    (p _ _ _ _ _ c.put.ensures (p _ _ _ _ _ c.put_number.ensures c.put_further_states.ensures))
+    lead_in p (p _ _ _ _ _ c.put.ensures c.put_number.ensures) (ap states_text (first_and_others c.args.states.now 0 c.in-len1-up.len_at_least))
+
+pub others-preserved : goal.others-preserved
+others-preserved g c =
+    let p = g.met.O.Output.parts in
+    next_value p 0 c.others-test.true c.others.invariant (p _ _ _ _ _ c.put-in-others.ensures c.put_number-in-others.ensures) refl
+
+pub returns-after-others : goal.returns-after-others
+returns-after-others g c = none_left c.others-test.false c.others.invariant c.put-in-len1-up.ensures

@@ -1,7 +1,5 @@
-use Rattle.std.proofs.Common.{drop}
-use Rattle.cert_grammar.specs.Words.{parts_text}
-use Rattle.cert_writing.proofs.Writing.{Leads}
+use Rattle.cert_writing.proofs.Prelude.{parts_text, Left}
 use Rattle.cert_writing.proofs.written_terms.put_parts.Given as goal
 
 abbrev pub invariant-places : goal.invariant-places
-invariant-places g l = Leads g.O.Output.took l.fn.to (parts_text l.places) l.to (parts_text (drop l.place-index l.places))
+invariant-places g l = Left g.O.Output.took parts_text l.places l.place-index l.fn.to l.to

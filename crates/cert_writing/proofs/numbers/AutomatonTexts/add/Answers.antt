@@ -1,6 +1,4 @@
-use Rattle.std.proofs.Common.{ℕ, List, ap, ◌∙◌}
-use Rattle.cert_writing.specs.SharedAutomata.{with_text}
-use Rattle.cert_writing.proofs.SharedTexts.{inserted}
+use Rattle.cert_writing.proofs.Prelude.{ℕ, List, ap, ◌∙◌, with_text, inserted}
 use Rattle.cert_writing.proofs.numbers.AutomatonTexts.add.Goals as goal
 
 pub returns : goal.returns

@@ -1,7 +1,4 @@
-use Rattle.std.proofs.Common.{ℕ, List, ◌+◌, ap, ◌∙◌, sym}
-use Rattle.cert_model.specs.EvidenceView.{automaton_view}
-use Rattle.cert_grammar.specs.Prelude.{automaton_text, place_among}
-use Rattle.cert_writing.proofs.SharedTexts.{texts, found_at, not_there}
+use Rattle.cert_writing.proofs.Prelude.{ℕ, List, ◌+◌, ap, ◌∙◌, sym, automaton_view, automaton_text, place_among, texts, found_at, not_there}
 use Rattle.cert_writing.proofs.numbers.AutomatonTexts.number.Goals as goal
 
 pub returns-in-Some : goal.returns-in-Some

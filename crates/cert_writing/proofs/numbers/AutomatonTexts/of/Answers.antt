@@ -1,15 +1,15 @@
-use Rattle.std.proofs.Common.{ℕ, List, [], ap, sym, ◌∙◌}
-use Rattle.certificates.specs.Evidence.{Automaton}
-use Rattle.cert_model.specs.CertificateView.{certificate_view}
-use Rattle.cert_grammar.specs.Prelude.{texts_of, automata_of}
-use Rattle.cert_writing.specs.SharedAutomata.{seen, with_texts}
-use Rattle.cert_writing.proofs.SharedTexts.{new_texts}
+use Rattle.cert_writing.proofs.Prelude.{ℕ, List, [], refl, ap, sym, ◌∙◌, Automaton, automaton_view, certificate_view, automaton_text, texts_of, automata_of, seen, with_texts, new_texts, texts_next}
 use Rattle.cert_writing.proofs.numbers.AutomatonTexts.of.Goals as goal
 
-pub returns : goal.returns
-returns c =
+pub automata-init : goal.automata-init
+automata-init c =
     let names = c.args.names.now in
-    c.in_ok-add_all.ensures
-    ∙ ap (λ (ts : List (List ℕ)). with_texts ts (texts_of names (seen c.deref.result.now))) c.new-texts.ensures
-    ∙ ap (λ (a : List Automaton). with_texts [] (texts_of names a)) (ap seen c.deref.ensures.value ∙ c.in_ok-automata.ensures)
+    ap (λ (ts : List (List ℕ)). with_texts ts (texts_of names (seen c.deref-automaton-items.result.now))) c.new-texts.ensures
+    ∙ ap (λ (a : List Automaton). with_texts [] (texts_of names a)) (ap seen c.deref-automaton-items.ensures.value ∙ c.in_ok-automata.ensures)
     ∙ sym (new_texts names [] (automata_of (certificate_view c.args.cert.now)))
+
+pub automata-preserved : goal.automata-preserved
+automata-preserved c =
+    let names = c.args.names.now in
+    texts_next (λ xs. texts_of names (seen xs)) (λ a. automaton_text names (automaton_view a.now)) (λ x xs. refl) _ _ _ _ _ c.automata-test.true c.automaton-item.is c.in_ok-add.ensures
+    ∙ c.automata.invariant
