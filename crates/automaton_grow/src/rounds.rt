@@ -32,10 +32,7 @@ fn add_symbols(
 {
     for f in 0..arities.len() {
         let args = vec![in alloc; 0; arities[f] as usize]?;
-        match add(alloc, Some(f as u32), &args, 0, transitions) {
-            Ok(()) => {}
-            Err(e) => return Err(e),
-        }
+        add(alloc, Some(f as u32), &args, 0, transitions)?;
     }
     Ok(())
 }
