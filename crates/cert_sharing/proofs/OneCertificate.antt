@@ -1,5 +1,5 @@
 -- Bytes are the text of one certificate at most.
-use Rattle.cert_sharing.proofs.Prelude.{◌≡◌, ℕ, suc, Bool, true, false, List, [], ◌∷◌, ◌++◌, length, codes, Option, Some, None, refl, sym, ap, ◌∙◌, append_assoc, arith, Term, Position, Head, file, auxiliary, Derivation, Automaton, InfeasibilityEvidence, by_caps, by_automaton, PairEvidence, trivial_pair, infeasible_pair, conflicting_pair, joined_pair, unfeasible_pair, PairEntry, LinearEntry, MeasureCertificate, linear_measure, precedence_measure, Redex, Apartness, by_normal_forms, by_rigid_caps, Peak, Simplification, dropped, inlined, Certificate, ortho_certificate, quasi_certificate, peak_certificate, simplified_certificate, NameTable, name_of, Version, first_version, second_version, Uses, in_full, by_number, used_by, used_by_evidence, used_by_pairs, used_by_redexes, used_by_apart, used_by_steps, automata_of, automaton_text, IsAutomaton, IsMeasured, AreEntries, AreHeads, IsMeasure, IsWithin, IsCertificateText, Naming, shares, automaton_ends, Mark, fixed, closed, marks_text, term_marks, derivation_marks, closing, use_marks, automaton_marks, automata_marks, infeasibility_marks, evidence_marks, pairs_marks, coefficients_marks, measured_marks, entries_marks, heads_marks, measure_marks, redexes_marks, apart_marks, simplifications_marks, body_marks, answer_marks, certificate_marks, is_among, texts_of, shared_by, number_in, uses_of, AreAutomata, HaveNames, Skeleton, states_line, same_marks, same_skeletons, nothing_left, automaton_path, spelt_automaton, AllOf, all_of, tail_same, ◌+◌, ◌==◌, cond, subst, eq-eqb, var, app, Terms, nil, cons, count, size, no_steps, first_step, Step, by_rule, by_hypothesis, Derivations, no_derivations, first_derivation, derivation_count, step_count, Transition, name_at, number_of, IsSpelt, AreSpelt, IsHead, AreTransitions, Counted, Demand, has_arity, behind, mark_text, number_for, places_text, position, places, arguments_marks, further_marks, steps_marks, step_marks, derivations_marks, state, accepting_marks, further_states_marks, states_marks, head_marks, transitions_marks}
+use Rattle.cert_sharing.proofs.Prelude.{◌≡◌, ℕ, suc, Bool, true, false, List, [], ◌∷◌, ◌++◌, length, codes, Option, Some, None, refl, sym, ap, ◌∙◌, append_assoc, arith, Term, Position, Head, file, auxiliary, Derivation, Automaton, InfeasibilityEvidence, by_caps, by_automaton, PairEvidence, trivial_pair, infeasible_pair, conflicting_pair, joined_pair, unfeasible_pair, PairEntry, LinearEntry, MeasureCertificate, linear_measure, precedence_measure, Redex, Apartness, by_normal_forms, by_rigid_caps, Peak, Simplification, dropped, inlined, Certificate, ortho_certificate, quasi_certificate, peak_certificate, simplified_certificate, NameTable, name_of, Version, first_version, second_version, Uses, in_full, by_number, used_by, used_by_evidence, used_by_pairs, used_by_redexes, used_by_apart, used_by_steps, automata_of, automaton_text, IsAutomaton, IsMeasured, AreEntries, AreHeads, IsMeasure, IsWithin, IsCertificateText, Naming, shares, automaton_ends, Mark, fixed, closed, marks_text, term_marks, derivation_marks, closing, use_marks, automaton_marks, automata_marks, infeasibility_marks, evidence_marks, pairs_marks, coefficients_marks, measured_marks, entries_marks, heads_marks, measure_marks, redexes_marks, apart_marks, simplifications_marks, body_marks, answer_marks, certificate_marks, is_among, texts_of, shared_by, number_in, AreAutomata, HaveNames, states_line, same_marks, same_skeletons, nothing_left, automaton_path, spelt_automaton, AllOf, all_of, tail_same, ◌+◌, ◌==◌, cond, subst, eq-eqb, var, app, Terms, nil, cons, count, size, no_steps, first_step, Step, by_rule, by_hypothesis, Derivations, no_derivations, first_derivation, derivation_count, step_count, Transition, name_at, number_of, IsSpelt, AreSpelt, IsHead, AreTransitions, Counted, Demand, has_arity, behind, mark_text, number_for, places_text, position, places, arguments_marks, further_marks, steps_marks, step_marks, derivations_marks, state, accepting_marks, further_states_marks, states_marks, head_marks, transitions_marks}
 use Rattle.std.proofs.lemmas.List.{append-nil}
 use Rattle.cert_sharing.proofs.FirstUses.{AreAmong, place_text}
 use Rattle.cert_sharing.proofs.SpeltShares.{of_certificate, none_left, numbered_with, spelt_whole, spelt_skeleton}
@@ -164,7 +164,7 @@ same_transitions (t ∷ ts) (u ∷ us) names bound k l h i n e =
     let others = same_transitions ts us names bound k l h.3 i.3 (let q : suc (length ts) ≡ suc (length us) = n in omega arith) (cc) in
     let target : t.target ≡ u.target = cc in
     let first : ◌≡◌ {A = Transition} (record { symbol = t.symbol; arguments = t.arguments; target = t.target })
-        (record { symbol = u.symbol; arguments = u.arguments; target = u.target }) = cc (heads.symbols, heads.states) in
+    (record { symbol = u.symbol; arguments = u.arguments; target = u.target }) = cc (heads.symbols, heads.states) in
     (cc, others.1)
 
 pub same_automata : (a b : Automaton) (names : NameTable) (k l : List Mark) → IsAutomaton names a → IsAutomaton names b
@@ -179,7 +179,7 @@ same_automata a b names k l h i e =
     (number_for Counted.transitions (length b.transitions) ∷ fixed (codes "\n") ∷ (transitions_marks x b.states b.transitions ++ l)) (cc) in
     let trans = same_transitions a.transitions b.transitions names a.states k l h.transitions (subst (λ (n : ℕ). AreTransitions names n b.transitions) (sym bounds) i.transitions) (cc) (cc) in
     let same : ◌≡◌ {A = Automaton} (record { states = a.states; accepting = a.accepting; transitions = a.transitions })
-        (record { states = b.states; accepting = b.accepting; transitions = b.transitions }) = cc (bounds, accepted.0, trans.0) in
+    (record { states = b.states; accepting = b.accepting; transitions = b.transitions }) = cc (bounds, accepted.0, trans.0) in
     (same, trans.1)
 
 -- ---- parts that use automata
@@ -235,7 +235,7 @@ same_pairs (p ∷ ps) (q ∷ qs) names u w P Q n s h i e =
     (regroup (evidence_marks x u p.evidence) (pairs_marks x u (suc n) ps) closing (evidence_marks x w q.evidence) (pairs_marks x w (suc n) qs) closing (cc)) in
     let others = same_pairs ps qs names u w P Q (suc n) s mine.1 yours.1 shown.1 in
     let first : ◌≡◌ {A = PairEntry} (record { inner = p.inner; position = p.position; outer = p.outer; evidence = p.evidence })
-        (record { inner = q.inner; position = q.position; outer = q.outer; evidence = q.evidence }) = cc (shown.0) in
+    (record { inner = q.inner; position = q.position; outer = q.outer; evidence = q.evidence }) = cc (shown.0) in
     cc
 
 same_redexes : (ps qs : List Redex) (names : NameTable) (u w : Uses) (P Q : Automaton → Type 0) (n : ℕ) → SameUses names u w P Q → AllOf P (used_by_redexes ps)
@@ -254,7 +254,7 @@ same_redexes (p ∷ ps) (q ∷ qs) names u w P Q n s h i e =
     (infeasibility_marks x w q.evidence) (redexes_marks x w (suc n) qs) closing (cc)) in
     let others = same_redexes ps qs names u w P Q (suc n) s mine.1 yours.1 shown.1 in
     let first : ◌≡◌ {A = Redex} (record { which = p.which; position = p.position; rule = p.rule; evidence = p.evidence })
-        (record { which = q.which; position = q.position; rule = q.rule; evidence = q.evidence }) = cc (shown.0) in
+    (record { which = q.which; position = q.position; rule = q.rule; evidence = q.evidence }) = cc (shown.0) in
     cc
 
 -- ---- measures
@@ -385,7 +385,7 @@ same_bodies (peak_certificate p) (peak_certificate q) names u w P Q given s a b 
     let second = same_derivation p.second q.second _ _ (regroup (derivation_marks p.second) (apart_marks x u p.apart) closing (derivation_marks q.second) (apart_marks x w q.apart) closing first.1) in
     let apart = same_apart p.apart q.apart names u w P Q s h i second.1 in
     let peak : ◌≡◌ {A = Peak} (record { start = p.start; first = p.first; second = p.second; apart = p.apart })
-        (record { start = q.start; first = q.first; second = q.second; apart = q.apart }) = cc (start.0, first.0, second.0, apart) in
+    (record { start = q.start; first = q.first; second = q.second; apart = q.apart }) = cc (start.0, first.0, second.0, apart) in
     ap peak_certificate peak
 same_bodies (simplified_certificate ss c) (simplified_certificate ts d) names u w P Q given s a b h i e =
     let x = name_of names in
