@@ -15,7 +15,8 @@ use Rattle.cert_sharing.proofs.UseMarks.{behind_both, pass_join}
 use Rattle.cert_sharing.proofs.Exact.{met_never, one_certificate_refusal}
 
 -- a reader that does not go on stops
-pub stops : (names : NameTable) (at : ℕ) (items : List Item) (left : List ℕ) → ((l : Left) → step names (record { at = at; items = items; bytes = left }) ≡ goes_on l → ⊥) → StopsFor (λ m. verdict names 0 (demands_of m) ≡ None) items left
+pub stops : (names : NameTable) (at : ℕ) (items : List Item) (left : List ℕ) → ((l : Left) → step names (record { at = at; items = items; bytes = left }) ≡ goes_on l → ⊥)
+    → StopsFor (λ m. verdict names 0 (demands_of m) ≡ None) items left
 stops names at [] left f = tt
 stops names at (i ∷ items) left f = λ m new h t v. by (first_there (leads i) left) refl m new h t v
   where

@@ -17,6 +17,8 @@ use Rattle.cert_sharing.proofs.FirstUses.{AreAmong, place_text}
 use Rattle.cert_sharing.proofs.SpeltShares.{of_certificate, none_left, numbered_with, spelt_whole, spelt_skeleton}
 use Rattle.std.specs.Prelude.{unwrap_or}
 use Rattle.cert_grammar.proofs.ScanWords.{places_of_text}
+use Rattle.cert_sharing.proofs.UseMarks.{seal}
+use Rattle.cert_laws.proofs.PassEvidence.{target_marks}
 
 -- a symbol is told by its name
 pub same_symbol : (names : NameTable) (f g : ℕ) (u v : List ℕ) → name_at names f ≡ Some u → number_of names.symbols u ≡ Some f → name_at names g ≡ Some v
@@ -158,9 +160,6 @@ same_head (Some f) (Some g) names bound qs rs k l h i e =
     let states = same_further_states qs rs bound _ _ (states_further qs rs bound (has_arity (x f) (length qs)) (has_arity (x g) (length rs)) k l rest) in
     record { symbols = ap Some same; states = states.0; rest = cc }
 
-abbrev target_line : ℕ → Transition → List Mark
-target_line bound t = fixed (codes " ") ∷ state bound t.target ∷ fixed (codes "\n") ∷ []
-
 same_transitions : (ts us : List Transition) (names : NameTable) (bound : ℕ) (k l : List Mark) → AreTransitions names bound ts → AreTransitions names bound us
     → length ts ≡ length us → transitions_marks (name_of names) bound ts ++ k ≡ transitions_marks (name_of names) bound us ++ l → (ts ≡ us) × (k ≡ l)
 same_transitions [] [] names bound k l h i n e = (refl, e)
@@ -168,10 +167,10 @@ same_transitions [] (u ∷ us) names bound k l h i n e = absurd (let q : 0 ≡ s
 same_transitions (t ∷ ts) [] names bound k l h i n e = absurd (let q : suc (length ts) ≡ 0 = n in omega arith)
 same_transitions (t ∷ ts) (u ∷ us) names bound k l h i n e =
     let x = name_of names in
-    let lines = regroup (head_marks x bound t.symbol t.arguments ++ target_line bound t) (transitions_marks x bound ts) k
-    (head_marks x bound u.symbol u.arguments ++ target_line bound u) (transitions_marks x bound us) l e in
+    let lines = regroup (head_marks x bound t.symbol t.arguments ++ target_marks bound t.target) (transitions_marks x bound ts) k
+    (head_marks x bound u.symbol u.arguments ++ target_marks bound u.target) (transitions_marks x bound us) l e in
     let heads = same_head t.symbol u.symbol names bound t.arguments u.arguments _ _ h.0 i.0
-    (regroup (head_marks x bound t.symbol t.arguments) (target_line bound t) _ (head_marks x bound u.symbol u.arguments) (target_line bound u) _ lines) in
+    (regroup (head_marks x bound t.symbol t.arguments) (target_marks bound t.target) _ (head_marks x bound u.symbol u.arguments) (target_marks bound u.target) _ lines) in
     let others = same_transitions ts us names bound k l h.3 i.3 (let q : suc (length ts) ≡ suc (length us) = n in omega arith) (cc) in
     let target : t.target ≡ u.target = cc in
     let first : ◌≡◌ {A = Transition} (record { symbol = t.symbol; arguments = t.arguments; target = t.target })
@@ -421,9 +420,6 @@ same_answers (Some true) None a b k l p q r s e = absurd (clash _ _ _ _ r e)
 same_answers (Some false) None a b k l p q r s e = absurd (clash _ _ _ _ s e)
 same_answers (Some true) (Some false) a b k l p q r s e = absurd (clash _ _ _ _ refl e)
 same_answers (Some false) (Some true) a b k l p q r s e = absurd (clash _ _ _ _ refl e)
-
-abbrev seal : List Mark
-seal = closed (shares automaton_ends) ∷ []
 
 same_shared : (bs ds : List Automaton) (names : NameTable) (k l : List Mark) → AreAutomata names bs → AreAutomata names ds → length bs ≡ length ds
     → automata_marks (name_of names) bs ++ k ≡ automata_marks (name_of names) ds ++ l → (bs ≡ ds) × (k ≡ l)

@@ -110,7 +110,7 @@ abbrev pub marked_texts : Naming → List Automaton → List (List ℕ)
 marked_texts x [] = []
 marked_texts x (a ∷ others) = marks_text (automaton_marks x a) ∷ marked_texts x others
 
-abbrev seal : List Mark
+abbrev pub seal : List Mark
 seal = closed (shares automaton_ends) ∷ []
 
 sealed_behind : (a : Automaton) (x : Naming) (ts : List (List ℕ)) (b : List ℕ) (u w : ℕ)
