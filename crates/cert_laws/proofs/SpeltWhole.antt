@@ -4,7 +4,7 @@ use Rattle.cert_laws.proofs.Prelude.{InfeasibilityEvidence, by_caps, by_automato
 use Rattle.cert_laws.proofs.Prelude.{MeasureCertificate, linear_measure, precedence_measure, Redex, Apartness, by_normal_forms, by_rigid_caps, Simplification, dropped, inlined, Certificate}
 use Rattle.cert_laws.proofs.Prelude.{ortho_certificate, quasi_certificate, peak_certificate, simplified_certificate, NameTable, largest, name_of, numbers_text, further_states_text, states_text}
 use Rattle.cert_laws.proofs.Prelude.{head_text, transitions_text, automaton_text, infeasibility_text, evidence_text, pairs_text, AreAtMost, AreStates, IsHead, AreTransitions, IsAutomaton}
-use Rattle.cert_laws.proofs.Prelude.{IsInfeasibility, IsEvidence, ArePairs, IsName, measured_text, entries_text, heads_text, measure_text, redexes_text, apart_text, simplifications_text, body_text}
+use Rattle.cert_laws.proofs.Prelude.{IsInfeasibility, IsEvidence, ArePairs, measured_text, entries_text, heads_text, measure_text, redexes_text, apart_text, simplifications_text, body_text}
 use Rattle.cert_laws.proofs.Prelude.{automata_text, heading_text, IsMeasured, AreEntries, AreHeads, IsMeasure, AreRedexEntries, IsApart, AreSimplifications, IsWithin, Uses, in_full, by_number}
 use Rattle.cert_laws.proofs.Prelude.{version_of, AreAutomata, Counted, limit, automaton_begins, is_use, is_light, in_range, is_few, fits_answer, shares, is_answer, Mark, word, automata_marks}
 use Rattle.cert_laws.proofs.Prelude.{heading_marks, heads_marks, simplifications_marks, state, accepting_marks, further_states_marks, states_marks, head_marks, transitions_marks, automaton_marks}

@@ -1,17 +1,22 @@
 -- The reader that stops at the first refusal, shared automata judged, is exact.
-use Rattle.cert_sharing.proofs.Prelude.{◌≡◌, ◌⊎◌, inl, inr, ℕ, zero, suc, ◌+◌, ◌*◌, ◌<◌, true, List, [], ◌∷◌, ◌++◌, length, drop, Option, Some, None, refl, sym, ap, ◌∙◌, subst, arith, append-nil, NameTable, CertificateCause, syntax, Mark, demands_of, verdict, Shared, nothing_shared, share_verdict, behind_mark, behind_marks, PassShares, GoesTo, Pass, marks_of, marks_text, goes_on, IsPlainlyRefused, IsRefusedShared, IsCertificateRefused, Item, opening, Lead, leads, is_there, first_there, longest, taken, mark_of, items_of, Left, refuses, behind_lead, judged, step_lead, step, Reading, accepted, refused, whole_text, SharedStep, ends, further, shared_judged, after_step, shared_step, shared_reading, read_shared, read_text, In, passed_anywhere, pass_both, path-append, first_sound, moves_path, moves_text, moves_more, skeleton_path, skeleton_of, read_of, Reached, reached_start, next_reached, lead_move, is_judged, IsMetText, IsAnswer, append_assoc, append_cancel_left, mark_text, IsWhole, IsReached, text, check, at_once, keyword, mode_of, ends_here, closes, leads_close, Takes, Path, text_is, There, starts, starts_text, close_in, takes_along, tail_goes, head_is, only_is, tail_text, nowhere, Move, Moves, same_taken, there_first, whole_of}
-use Rattle.cert_laws.proofs.Completions.{completes}
+use Rattle.cert_sharing.proofs.Prelude.{◌≡◌, ◌⊎◌, inl, inr, ℕ, zero, suc, ◌+◌, ◌*◌, ◌<◌, true, List, [], ◌∷◌, length, Option, Some, None, refl, sym, ap, ◌∙◌, subst, arith, append-nil, NameTable}
+use Rattle.cert_sharing.proofs.Prelude.{CertificateCause, syntax, Mark, demands_of, verdict, Shared, nothing_shared, share_verdict, behind_mark, behind_marks, PassShares, Pass, marks_of, marks_text}
+use Rattle.cert_sharing.proofs.Prelude.{goes_on, IsPlainlyRefused, IsRefusedShared, IsCertificateRefused, Item, opening, Lead, leads, is_there, first_there, longest, mark_of, items_of, Left, refuses}
+use Rattle.cert_sharing.proofs.Prelude.{behind_lead, judged, step_lead, step, Reading, accepted, refused, whole_text, SharedStep, ends, further, shared_judged, after_step, shared_step}
+use Rattle.cert_sharing.proofs.Prelude.{shared_reading, read_shared, read_text, passed_anywhere, pass_both, skeleton_path, IsMetText, IsAnswer, There}
+use Rattle.cert_laws.proofs.LeadTables.{In}
+use Rattle.cert_laws.proofs.Paths.{first_sound, Takes}
+use Rattle.cert_laws.proofs.Reached.{moves_path, moves_text, same_taken, there_first, no_refusal, StopsFor}
+use Rattle.cert_laws.proofs.FirstRefusals.{skeleton_of, read_of, Reached, reached_start, next_reached, lead_move, is_judged, goes_there}
 use Rattle.cert_laws.proofs.StuckReaders.{refused_where_stuck, refused_behind_end}
 use Rattle.cert_laws.proofs.ExactReader.{weight, lighter}
 use Rattle.cert_sharing.proofs.OneShared.{by_shares, shares_anywhere}
 use Rattle.cert_sharing.proofs.UseMarks.{behind_both, pass_join}
-use Rattle.cert_laws.proofs.Reached.{no_refusal, StopsFor}
 use Rattle.cert_sharing.proofs.Exact.{met_never, one_certificate_refusal}
-use Rattle.cert_grammar.proofs.ScanLaws.{IsWordOf}
-use Rattle.cert_laws.proofs.FirstRefusals.{goes_there}
 
 -- a reader that does not go on stops
-pub stops : (names : NameTable) (at : ℕ) (items : List Item) (left : List ℕ) → ((l : Left) → step names (record { at = at; items = items; bytes = left }) ≡ goes_on l → ⊥) → StopsFor (λ m. verdict names 0 (demands_of m) ≡ None) items left
+pub stops : (names : NameTable) (at : ℕ) (items : List Item) (left : List ℕ) → ((l : Left) → step names (record { at = at; items = items; bytes = left }) ≡ goes_on l → ⊥)
+    → StopsFor (λ m. verdict names 0 (demands_of m) ≡ None) items left
 stops names at [] left f = tt
 stops names at (i ∷ items) left f = λ m new h t v. by (first_there (leads i) left) refl m new h t v
   where
@@ -45,8 +50,8 @@ plain names bytes l s e at p q h = inr (
   h,
   λ f place (t, k).
       no_refusal by_shares (λ m. verdict names 0 (demands_of m) ≡ None) (Pass names) (λ m ms v. v) p.reached.front nothing_shared (opening ∷ []) l.items bytes l.bytes (marks_of t)
-          k.front k.mark (f, place) (length (marks_text k.front)) p.reached.moves p.passed
-          (stops names l.at l.items l.bytes (λ m g. let both : goes_on m ≡ refuses e at = sym g ∙ q in absurd cc)) (skeleton_path t) k.goes k.passed k.refused,
+      k.front k.mark (f, place) (length (marks_text k.front)) p.reached.moves p.passed
+      (stops names l.at l.items l.bytes (λ m g. let both : goes_on m ≡ refuses e at = sym g ∙ q in absurd cc)) (skeleton_path t) k.goes k.passed k.refused,
 )
 
 -- where it accepts, the text is one in which all is met

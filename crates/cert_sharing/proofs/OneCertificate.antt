@@ -1,11 +1,24 @@
 -- Bytes are the text of one certificate at most.
-use Rattle.cert_sharing.proofs.Prelude.{◌≡◌, ℕ, suc, Bool, true, false, List, [], ◌∷◌, ◌++◌, length, codes, Option, Some, None, refl, sym, ap, ◌∙◌, append_assoc, arith, Term, Position, Head, file, auxiliary, Derivation, Automaton, InfeasibilityEvidence, by_caps, by_automaton, PairEvidence, trivial_pair, infeasible_pair, conflicting_pair, joined_pair, unfeasible_pair, PairEntry, LinearEntry, MeasureCertificate, linear_measure, precedence_measure, Redex, Apartness, by_normal_forms, by_rigid_caps, Peak, Simplification, dropped, inlined, Certificate, ortho_certificate, quasi_certificate, peak_certificate, simplified_certificate, NameTable, name_of, Version, first_version, second_version, Uses, in_full, by_number, used_by, used_by_evidence, used_by_pairs, used_by_redexes, used_by_apart, used_by_steps, automata_of, automaton_text, IsAutomaton, IsMeasured, AreEntries, AreHeads, IsMeasure, IsWithin, IsCertificateText, Naming, shares, automaton_ends, Mark, fixed, closed, marks_text, term_marks, derivation_marks, closing, use_marks, automaton_marks, automata_marks, infeasibility_marks, evidence_marks, pairs_marks, coefficients_marks, measured_marks, entries_marks, heads_marks, measure_marks, redexes_marks, apart_marks, simplifications_marks, body_marks, answer_marks, certificate_marks, is_among, texts_of, shared_by, number_in, uses_of, AreAutomata, HaveNames, Skeleton, states_line, same_marks, same_skeletons, nothing_left, automaton_path, spelt_automaton, AllOf, all_of, tail_same, ◌+◌, ◌==◌, cond, subst, eq-eqb, var, app, Terms, nil, cons, count, size, no_steps, first_step, Step, by_rule, by_hypothesis, Derivations, no_derivations, first_derivation, derivation_count, step_count, Transition, name_at, number_of, IsSpelt, AreSpelt, IsHead, AreTransitions, Counted, Demand, has_arity, behind, mark_text, number_for, places_text, position, places, arguments_marks, further_marks, steps_marks, step_marks, derivations_marks, state, accepting_marks, further_states_marks, states_marks, head_marks, transitions_marks}
+use Rattle.cert_sharing.proofs.Prelude.{◌≡◌, ℕ, suc, Bool, true, false, List, [], ◌∷◌, ◌++◌, length, codes, Option, Some, None, refl, sym, ap, ◌∙◌, append_assoc, arith, Term, Position, Head, file}
+use Rattle.cert_sharing.proofs.Prelude.{auxiliary, Derivation, Automaton, InfeasibilityEvidence, by_caps, by_automaton, PairEvidence, trivial_pair, infeasible_pair, conflicting_pair, joined_pair}
+use Rattle.cert_sharing.proofs.Prelude.{unfeasible_pair, PairEntry, LinearEntry, MeasureCertificate, linear_measure, precedence_measure, Redex, Apartness, by_normal_forms, by_rigid_caps, Peak}
+use Rattle.cert_sharing.proofs.Prelude.{Simplification, dropped, inlined, Certificate, ortho_certificate, quasi_certificate, peak_certificate, simplified_certificate, NameTable, name_of, Version}
+use Rattle.cert_sharing.proofs.Prelude.{first_version, second_version, Uses, in_full, by_number, used_by, used_by_evidence, used_by_pairs, used_by_redexes, used_by_apart, used_by_steps, automata_of}
+use Rattle.cert_sharing.proofs.Prelude.{automaton_text, IsAutomaton, IsMeasured, AreEntries, AreHeads, IsMeasure, IsWithin, IsCertificateText, Naming, shares, automaton_ends, Mark, fixed, closed}
+use Rattle.cert_sharing.proofs.Prelude.{marks_text, term_marks, derivation_marks, closing, use_marks, automaton_marks, automata_marks, infeasibility_marks, evidence_marks, pairs_marks}
+use Rattle.cert_sharing.proofs.Prelude.{coefficients_marks, measured_marks, entries_marks, heads_marks, measure_marks, redexes_marks, apart_marks, simplifications_marks, body_marks, answer_marks}
+use Rattle.cert_sharing.proofs.Prelude.{certificate_marks, is_among, texts_of, shared_by, number_in, AreAutomata, HaveNames, states_line, same_marks, same_skeletons, nothing_left, automaton_path}
+use Rattle.cert_sharing.proofs.Prelude.{spelt_automaton, AllOf, all_of, tail_same, ◌+◌, ◌==◌, cond, subst, eq-eqb, var, app, Terms, nil, cons, count, size, no_steps, first_step, Step, by_rule}
+use Rattle.cert_sharing.proofs.Prelude.{by_hypothesis, Derivations, no_derivations, first_derivation, derivation_count, step_count, Transition, name_at, number_of, IsSpelt, AreSpelt, IsHead}
+use Rattle.cert_sharing.proofs.Prelude.{AreTransitions, Counted, Demand, has_arity, behind, mark_text, number_for, places_text, position, places, arguments_marks, further_marks, steps_marks}
+use Rattle.cert_sharing.proofs.Prelude.{step_marks, derivations_marks, state, accepting_marks, further_states_marks, states_marks, head_marks, transitions_marks, IsShared, uses_with}
 use Rattle.std.proofs.lemmas.List.{append-nil}
 use Rattle.cert_sharing.proofs.FirstUses.{AreAmong, place_text}
 use Rattle.cert_sharing.proofs.SpeltShares.{of_certificate, none_left, numbered_with, spelt_whole, spelt_skeleton}
-use Rattle.cert_sharing.proofs.Prelude.{IsShared, uses_with}
 use Rattle.std.specs.Prelude.{unwrap_or}
 use Rattle.cert_grammar.proofs.ScanWords.{places_of_text}
+use Rattle.cert_sharing.proofs.UseMarks.{seal}
+use Rattle.cert_laws.proofs.PassEvidence.{target_marks}
 
 -- a symbol is told by its name
 pub same_symbol : (names : NameTable) (f g : ℕ) (u v : List ℕ) → name_at names f ≡ Some u → number_of names.symbols u ≡ Some f → name_at names g ≡ Some v
@@ -147,9 +160,6 @@ same_head (Some f) (Some g) names bound qs rs k l h i e =
     let states = same_further_states qs rs bound _ _ (states_further qs rs bound (has_arity (x f) (length qs)) (has_arity (x g) (length rs)) k l rest) in
     record { symbols = ap Some same; states = states.0; rest = cc }
 
-abbrev target_line : ℕ → Transition → List Mark
-target_line bound t = fixed (codes " ") ∷ state bound t.target ∷ fixed (codes "\n") ∷ []
-
 same_transitions : (ts us : List Transition) (names : NameTable) (bound : ℕ) (k l : List Mark) → AreTransitions names bound ts → AreTransitions names bound us
     → length ts ≡ length us → transitions_marks (name_of names) bound ts ++ k ≡ transitions_marks (name_of names) bound us ++ l → (ts ≡ us) × (k ≡ l)
 same_transitions [] [] names bound k l h i n e = (refl, e)
@@ -157,14 +167,14 @@ same_transitions [] (u ∷ us) names bound k l h i n e = absurd (let q : 0 ≡ s
 same_transitions (t ∷ ts) [] names bound k l h i n e = absurd (let q : suc (length ts) ≡ 0 = n in omega arith)
 same_transitions (t ∷ ts) (u ∷ us) names bound k l h i n e =
     let x = name_of names in
-    let lines = regroup (head_marks x bound t.symbol t.arguments ++ target_line bound t) (transitions_marks x bound ts) k
-    (head_marks x bound u.symbol u.arguments ++ target_line bound u) (transitions_marks x bound us) l e in
+    let lines = regroup (head_marks x bound t.symbol t.arguments ++ target_marks bound t.target) (transitions_marks x bound ts) k
+    (head_marks x bound u.symbol u.arguments ++ target_marks bound u.target) (transitions_marks x bound us) l e in
     let heads = same_head t.symbol u.symbol names bound t.arguments u.arguments _ _ h.0 i.0
-    (regroup (head_marks x bound t.symbol t.arguments) (target_line bound t) _ (head_marks x bound u.symbol u.arguments) (target_line bound u) _ lines) in
+    (regroup (head_marks x bound t.symbol t.arguments) (target_marks bound t.target) _ (head_marks x bound u.symbol u.arguments) (target_marks bound u.target) _ lines) in
     let others = same_transitions ts us names bound k l h.3 i.3 (let q : suc (length ts) ≡ suc (length us) = n in omega arith) (cc) in
     let target : t.target ≡ u.target = cc in
     let first : ◌≡◌ {A = Transition} (record { symbol = t.symbol; arguments = t.arguments; target = t.target })
-        (record { symbol = u.symbol; arguments = u.arguments; target = u.target }) = cc (heads.symbols, heads.states) in
+    (record { symbol = u.symbol; arguments = u.arguments; target = u.target }) = cc (heads.symbols, heads.states) in
     (cc, others.1)
 
 pub same_automata : (a b : Automaton) (names : NameTable) (k l : List Mark) → IsAutomaton names a → IsAutomaton names b
@@ -179,7 +189,7 @@ same_automata a b names k l h i e =
     (number_for Counted.transitions (length b.transitions) ∷ fixed (codes "\n") ∷ (transitions_marks x b.states b.transitions ++ l)) (cc) in
     let trans = same_transitions a.transitions b.transitions names a.states k l h.transitions (subst (λ (n : ℕ). AreTransitions names n b.transitions) (sym bounds) i.transitions) (cc) (cc) in
     let same : ◌≡◌ {A = Automaton} (record { states = a.states; accepting = a.accepting; transitions = a.transitions })
-        (record { states = b.states; accepting = b.accepting; transitions = b.transitions }) = cc (bounds, accepted.0, trans.0) in
+    (record { states = b.states; accepting = b.accepting; transitions = b.transitions }) = cc (bounds, accepted.0, trans.0) in
     (same, trans.1)
 
 -- ---- parts that use automata
@@ -235,7 +245,7 @@ same_pairs (p ∷ ps) (q ∷ qs) names u w P Q n s h i e =
     (regroup (evidence_marks x u p.evidence) (pairs_marks x u (suc n) ps) closing (evidence_marks x w q.evidence) (pairs_marks x w (suc n) qs) closing (cc)) in
     let others = same_pairs ps qs names u w P Q (suc n) s mine.1 yours.1 shown.1 in
     let first : ◌≡◌ {A = PairEntry} (record { inner = p.inner; position = p.position; outer = p.outer; evidence = p.evidence })
-        (record { inner = q.inner; position = q.position; outer = q.outer; evidence = q.evidence }) = cc (shown.0) in
+    (record { inner = q.inner; position = q.position; outer = q.outer; evidence = q.evidence }) = cc (shown.0) in
     cc
 
 same_redexes : (ps qs : List Redex) (names : NameTable) (u w : Uses) (P Q : Automaton → Type 0) (n : ℕ) → SameUses names u w P Q → AllOf P (used_by_redexes ps)
@@ -254,7 +264,7 @@ same_redexes (p ∷ ps) (q ∷ qs) names u w P Q n s h i e =
     (infeasibility_marks x w q.evidence) (redexes_marks x w (suc n) qs) closing (cc)) in
     let others = same_redexes ps qs names u w P Q (suc n) s mine.1 yours.1 shown.1 in
     let first : ◌≡◌ {A = Redex} (record { which = p.which; position = p.position; rule = p.rule; evidence = p.evidence })
-        (record { which = q.which; position = q.position; rule = q.rule; evidence = q.evidence }) = cc (shown.0) in
+    (record { which = q.which; position = q.position; rule = q.rule; evidence = q.evidence }) = cc (shown.0) in
     cc
 
 -- ---- measures
@@ -385,7 +395,7 @@ same_bodies (peak_certificate p) (peak_certificate q) names u w P Q given s a b 
     let second = same_derivation p.second q.second _ _ (regroup (derivation_marks p.second) (apart_marks x u p.apart) closing (derivation_marks q.second) (apart_marks x w q.apart) closing first.1) in
     let apart = same_apart p.apart q.apart names u w P Q s h i second.1 in
     let peak : ◌≡◌ {A = Peak} (record { start = p.start; first = p.first; second = p.second; apart = p.apart })
-        (record { start = q.start; first = q.first; second = q.second; apart = q.apart }) = cc (start.0, first.0, second.0, apart) in
+    (record { start = q.start; first = q.first; second = q.second; apart = q.apart }) = cc (start.0, first.0, second.0, apart) in
     ap peak_certificate peak
 same_bodies (simplified_certificate ss c) (simplified_certificate ts d) names u w P Q given s a b h i e =
     let x = name_of names in
@@ -410,9 +420,6 @@ same_answers (Some true) None a b k l p q r s e = absurd (clash _ _ _ _ r e)
 same_answers (Some false) None a b k l p q r s e = absurd (clash _ _ _ _ s e)
 same_answers (Some true) (Some false) a b k l p q r s e = absurd (clash _ _ _ _ refl e)
 same_answers (Some false) (Some true) a b k l p q r s e = absurd (clash _ _ _ _ refl e)
-
-abbrev seal : List Mark
-seal = closed (shares automaton_ends) ∷ []
 
 same_shared : (bs ds : List Automaton) (names : NameTable) (k l : List Mark) → AreAutomata names bs → AreAutomata names ds → length bs ≡ length ds
     → automata_marks (name_of names) bs ++ k ≡ automata_marks (name_of names) ds ++ l → (bs ≡ ds) × (k ≡ l)

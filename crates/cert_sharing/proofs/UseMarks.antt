@@ -5,13 +5,12 @@ use Rattle.cert_sharing.proofs.Prelude.{trivial_pair, infeasible_pair, conflicti
 use Rattle.cert_sharing.proofs.Prelude.{Simplification, dropped, inlined, Certificate, ortho_certificate, quasi_certificate, peak_certificate, simplified_certificate, Uses, in_full, by_number}
 use Rattle.cert_sharing.proofs.Prelude.{used_by, used_by_evidence, used_by_pairs, used_by_redexes, used_by_apart, used_by_steps, automata_of, largest, Naming, Counted, limit, unfolded}
 use Rattle.cert_sharing.proofs.Prelude.{CertificateCause, bad_share, automaton_begins, automaton_ends, Demand, in_range, is_few, fits_answer, shares, Mark, fixed, word, closed, mark_text, marks_text}
-use Rattle.cert_sharing.proofs.Prelude.{demands_of, are_places, number, number_for, position, term_marks, derivation_marks, use_mark, accepting_marks, transitions_marks, automaton_marks}
-use Rattle.cert_sharing.proofs.Prelude.{automata_marks, infeasibility_marks, evidence_marks, pairs_marks, measure_marks, redexes_marks, apart_marks, simplifications_marks, body_marks, is_among}
-use Rattle.cert_sharing.proofs.Prelude.{AllNew, Shared, text_at, first_of, share_verdict, effects, behind_mark, behind_marks, PassShares}
+use Rattle.cert_sharing.proofs.Prelude.{demands_of, are_places, number, number_for, term_marks, derivation_marks, use_mark, accepting_marks, transitions_marks, automaton_marks, automata_marks}
+use Rattle.cert_sharing.proofs.Prelude.{infeasibility_marks, evidence_marks, pairs_marks, measure_marks, redexes_marks, apart_marks, simplifications_marks, body_marks, is_among, AllNew, Shared}
+use Rattle.cert_sharing.proofs.Prelude.{text_at, first_of, share_verdict, effects, behind_mark, behind_marks, PassShares, pair_front, redex_front, steps_front}
 use Rattle.cert_grammar.specs.WordMarks.{numeral}
 use Rattle.cert_laws.proofs.Asking.{AllAsk, MarksAsk, term_asks, derivation_asks, measure_asks, behind_word_ask}
 use Rattle.cert_sharing.proofs.FirstUses.{greatest}
-use Rattle.cert_laws.proofs.PassWhole.{pair_front, redex_front, steps_front}
 
 abbrev pub state : List (List ℕ) → List ℕ → ℕ → ℕ → Shared
 state ts b u w = record { texts = ts; begun = b; used = u; unfolds_to = w }
@@ -111,7 +110,7 @@ abbrev pub marked_texts : Naming → List Automaton → List (List ℕ)
 marked_texts x [] = []
 marked_texts x (a ∷ others) = marks_text (automaton_marks x a) ∷ marked_texts x others
 
-abbrev seal : List Mark
+abbrev pub seal : List Mark
 seal = closed (shares automaton_ends) ∷ []
 
 sealed_behind : (a : Automaton) (x : Naming) (ts : List (List ℕ)) (b : List ℕ) (u w : ℕ)
