@@ -1,17 +1,11 @@
 -- One entry more, and the last line.
-use Rattle.std.proofs.Common.{◌≡◌, ◌⊎◌, inl, inr, ℕ, zero, suc, ◌+◌, ◌-◌, ◌≤◌, slice_get, Some, ◌<◌, cond, List, [], ◌∷◌, ◌++◌, length, refl, sym, ap, ◌∙◌, subst, codes, decimal}
-use Rattle.std.proofs.Common.{append_assoc, append-nil, length-append, arith}
-use Rattle.general_lemmas.proofs.Lists.{three_parts}
-use Rattle.certificates.specs.Prelude.{Automaton, PairEntry, Certificate}
-use Rattle.cops_names.specs.NameTable.{NameTable}
-use Rattle.cert_grammar.specs.Prelude.{position_text, Version, first_version, second_version, Uses, IsUnsimplified, IsOfVersion, used_by_evidence, used_by_pairs, used_by_steps}
-use Rattle.cert_grammar.specs.Prelude.{automata_of, is_among, texts_of, with_new, shared_by, unfolded_length, AllNew, AreAutomata, automaton_text, evidence_text, pairs_text}
-use Rattle.cert_grammar.specs.Prelude.{ArePairs, measure_text, simplifications_text, heading_text, body_text, answer_line, certificate_text, IsWithin, IsCertificateText}
+use Rattle.cert_openings.proofs.Prelude.{◌≡◌, ◌⊎◌, inl, inr, ℕ, zero, suc, ◌+◌, ◌-◌, ◌≤◌, slice_get, Some, ◌<◌, cond, List, [], ◌∷◌, ◌++◌, length, refl, sym, ap, ◌∙◌, subst, codes, decimal}
+use Rattle.cert_openings.proofs.Prelude.{append_assoc, append-nil, length-append, arith, three_parts, Automaton, PairEntry, Certificate, NameTable, position_text, Version, first_version}
+use Rattle.cert_openings.proofs.Prelude.{second_version, Uses, IsUnsimplified, IsOfVersion, used_by_evidence, used_by_pairs, used_by_steps, automata_of, is_among, texts_of, with_new, shared_by}
+use Rattle.cert_openings.proofs.Prelude.{unfolded_length, AllNew, AreAutomata, automaton_text, evidence_text, pairs_text, ArePairs, measure_text, simplifications_text, heading_text, body_text}
+use Rattle.cert_openings.proofs.Prelude.{answer_line, certificate_text, IsWithin, IsCertificateText, is_shared, front_text, whole_text, none_left, Opening, ortho_opening, quasi_opening}
+use Rattle.cert_openings.proofs.Prelude.{simplified_opening, certificate_for, uses_with, AreLeft, IsRead, Takes, IsWhole, IsReadTo, IsTold}
 use Rattle.cert_sharing.proofs.FirstUses.{told, pick, pick_number}
-use Rattle.cert_sharing.proofs.PassShares.{is_shared}
-use Rattle.cert_sharing.proofs.SpeltShares.{front_text, whole_text, none_left}
-use Rattle.cert_openings.specs.Openings.{Opening, ortho_opening, quasi_opening, simplified_opening, certificate_for, uses_with, AreLeft, IsRead, Takes}
-use Rattle.cert_openings.specs.Laws.{IsWhole, IsReadTo, IsTold}
 
 -- ---- the automata of one entry more
 
