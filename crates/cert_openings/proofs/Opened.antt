@@ -105,13 +105,6 @@ read_front v names given o es left bytes rest end (a, w, l, s, e) p =
 abbrev pub Opened : (names : NameTable) (bytes : List ℕ) (o : Opening) (end : ℕ) → Type 0
 Opened names bytes o end = Gone names bytes o [] end
 
-pub opened : (names : NameTable) (bytes : List ℕ) (o : Opening) (end : ℕ) → IsRead names bytes o [] end → Opened names bytes o end
-opened names bytes o end h = gone names bytes o [] end h
-
-pub opened_rest : (names : NameTable) (bytes : List ℕ) (o : Opening) (end : ℕ) → (h : IsRead names bytes o [] end) → (opened names bytes o end h).rest ≡ h.rest
-unfolding opened
-opened_rest names bytes o end h = gone_rest names bytes o [] end h
-
 -- with the last line it is a text of the grammar
 pub with_end : (names : NameTable) (bytes : List ℕ) (o : Opening) (end : ℕ) → (h : Opened names bytes o end)
     → (s : Skeleton) × (marks_of s ≡ opening_marks (name_of names) h.uses h.shared h.answer o ++ closing)

@@ -229,19 +229,12 @@ module _ {v : Version} {shared : List Automaton} {names : NameTable} {bytes left
       subst (λ (x : Opening). IsRead names bytes x (es ++ p ∷ []) (place_of bytes rest)) (sym there.0)
       (subst (λ (x : List math.PairEntry). IsRead names bytes u.opening (x ++ p ∷ []) (place_of bytes rest)) (sym there.1) read.read)
 
-  rest_as : (o : Opening) (es : List math.PairEntry) (at : ℕ) → o ≡ u.opening → es ≡ u.entries → (r : IsRead names bytes o es at) → r.rest ≡ left
-  rest_as o es at e f r = by (u.opening) e (u.entries) f (λ r. one_rest v shared names bytes left count now u at r)
-    where
-      by : (x : Opening) → o ≡ x → (xs : List math.PairEntry) → es ≡ xs → ((q : IsRead names bytes x xs at) → q.rest ≡ left) → r.rest ≡ left
-      by x e xs f each = (subst (λ (x : Opening). ((q : IsRead names bytes x es at) → q.rest ≡ left)) (sym e)
-          (subst (λ (xs : List math.PairEntry). ((q : IsRead names bytes x xs at) → q.rest ≡ left)) (sym f) each)) r
-
   -- what is left is the last line
   left_last : (o : Opening) (es : List math.PairEntry) → HasRead (up_to names bytes left) o es → IsAll (up_to names bytes left) o es → left ≡ last_line
   left_last o es h k =
       let there = left_there o es h in
-      let whole = text_is_whole names bytes o es k in
-      sym (rest_as o es whole.at there.0 there.1 whole.read) ∙ whole.last
+      let whole = text_is_whole names bytes u.opening u.entries (subst (IsCertificateText names bytes) (cc (there.0, there.1)) k) in
+      sym (one_rest v shared names bytes left count now u whole.at whole.read) ∙ whole.last
 
   pub never_whole : {sb : Shared} (p : math.PairEntry) (rest : List ℕ)
       → Run names (length bytes) (pairs_from v n ∷ []) (λ x. pairs_marks x (uses_with v names shared) n (p ∷ [])) (pairs_from v (suc n) ∷ []) left rest now sb
