@@ -1,17 +1,13 @@
 -- Where the last line may stand one item is left, and the marks before it end in bytes: whatever stands behind these bytes, a reader goes along them.
-use Rattle.std.proofs.Common.{◌≡◌, inl, inr, ℕ, zero, Bool, true, false, not, cond, ◌&&◌, List, [], ◌∷◌, ◌++◌, refl, sym, ap, ◌∙◌, subst, codes, append_assoc, append-nil}
-use Rattle.std.proofs.lemmas.Bool.{and_parts}
-use Rattle.std.proofs.lemmas.List.{append_cancel_left}
-use Rattle.cert_grammar.specs.Prelude.{all_used, shares, same_bytes, Mark, fixed, word, mark_text, marks_text, closing, GoesTo, IsReached, Skeleton, marks_of, Item, opening, between, space, line}
-use Rattle.cert_grammar.specs.Prelude.{automaton_end, any_number, any_position, measure, evidence, infeasibility, node, name_behind, term_behind, term_closed, Lead, text}
-use Rattle.cert_grammar.specs.Prelude.{keyword, numeral_lead, position_lead, variable_lead, leads, first_version, mode_of, mark_of, items_of, number_begins, place_begins, bar_begins}
+use Rattle.cert_openings.proofs.Prelude.{◌≡◌, inl, inr, ℕ, zero, Bool, true, false, not, cond, ◌&&◌, List, [], ◌∷◌, ◌++◌, refl, sym, ap, ◌∙◌, subst, codes, append_assoc, append-nil, and_parts}
+use Rattle.cert_openings.proofs.Prelude.{append_cancel_left, all_used, shares, same_bytes, Mark, fixed, word, mark_text, marks_text, closing, GoesTo, IsReached, Skeleton, marks_of, Item, opening}
+use Rattle.cert_openings.proofs.Prelude.{between, space, line, automaton_end, any_number, any_position, measure, evidence, infeasibility, node, name_behind, term_behind, term_closed, Lead, text}
+use Rattle.cert_openings.proofs.Prelude.{keyword, numeral_lead, position_lead, variable_lead, leads, first_version, mode_of, mark_of, items_of, number_begins, place_begins, bar_begins, Moves}
+use Rattle.cert_openings.proofs.Prelude.{same_taken, skeleton_path, text_both}
 use Rattle.cert_grammar.proofs.ScanLaws.{IsWordOf}
 use Rattle.cert_laws.proofs.LeadTables.{In}
 use Rattle.cert_laws.proofs.Moves.{takes_along}
 use Rattle.cert_laws.proofs.Paths.{Takes, Path}
-use Rattle.cert_laws.proofs.Reached.{Moves, same_taken}
-use Rattle.cert_laws.proofs.SkeletonPaths.{skeleton_path}
-use Rattle.cert_laws.proofs.Spelt.{text_both}
 
 -- ---- items at which the last line may stand
 

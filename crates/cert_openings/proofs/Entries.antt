@@ -1,17 +1,11 @@
 -- One entry more, and the last line.
-use Rattle.std.proofs.Common.{◌≡◌, ◌⊎◌, inl, inr, ℕ, zero, suc, ◌+◌, ◌-◌, ◌≤◌, slice_get, Some, ◌<◌, cond, List, [], ◌∷◌, ◌++◌, length, refl, sym, ap, ◌∙◌, subst, codes, decimal}
-use Rattle.std.proofs.Common.{append_assoc, append-nil, length-append, arith}
-use Rattle.general_lemmas.proofs.Lists.{three_parts}
-use Rattle.certificates.specs.Prelude.{Automaton, PairEntry, Certificate}
-use Rattle.cops_names.specs.NameTable.{NameTable}
-use Rattle.cert_grammar.specs.Prelude.{position_text, Version, first_version, second_version, Uses, IsUnsimplified, IsOfVersion, used_by_evidence, used_by_pairs, used_by_steps}
-use Rattle.cert_grammar.specs.Prelude.{automata_of, is_among, texts_of, with_new, shared_by, unfolded_length, AllNew, AreAutomata, automaton_text, evidence_text, pairs_text}
-use Rattle.cert_grammar.specs.Prelude.{ArePairs, measure_text, simplifications_text, heading_text, body_text, answer_line, certificate_text, IsWithin, IsCertificateText}
+use Rattle.cert_openings.proofs.Prelude.{◌≡◌, ◌⊎◌, inl, inr, ℕ, zero, suc, ◌+◌, ◌-◌, ◌≤◌, slice_get, Some, ◌<◌, cond, List, [], ◌∷◌, ◌++◌, length, refl, sym, ap, ◌∙◌, subst, codes, decimal}
+use Rattle.cert_openings.proofs.Prelude.{append_assoc, append-nil, length-append, arith, three_parts, Automaton, PairEntry, Certificate, NameTable, position_text, Version, first_version}
+use Rattle.cert_openings.proofs.Prelude.{second_version, Uses, IsUnsimplified, IsOfVersion, used_by_evidence, used_by_pairs, used_by_steps, automata_of, is_among, texts_of, with_new, shared_by}
+use Rattle.cert_openings.proofs.Prelude.{unfolded_length, AllNew, AreAutomata, automaton_text, evidence_text, pairs_text, ArePairs, measure_text, simplifications_text, heading_text, body_text}
+use Rattle.cert_openings.proofs.Prelude.{answer_line, certificate_text, IsWithin, IsCertificateText, is_shared, front_text, whole_text, none_left, Opening, ortho_opening, quasi_opening}
+use Rattle.cert_openings.proofs.Prelude.{simplified_opening, certificate_for, uses_with, AreLeft, IsRead, Takes, IsWhole, IsReadTo, IsTold}
 use Rattle.cert_sharing.proofs.FirstUses.{told, pick, pick_number}
-use Rattle.cert_sharing.proofs.PassShares.{is_shared}
-use Rattle.cert_sharing.proofs.SpeltShares.{front_text, whole_text, none_left}
-use Rattle.cert_openings.specs.Openings.{Opening, ortho_opening, quasi_opening, simplified_opening, certificate_for, uses_with, AreLeft, IsRead, Takes}
-use Rattle.cert_openings.specs.Laws.{IsWhole, IsReadTo, IsTold}
 
 -- ---- the automata of one entry more
 
@@ -33,10 +27,6 @@ unfolded_both : (a b : List Automaton) (names : NameTable) → unfolded_length n
 unfolded_both [] b names = omega arith
 unfolded_both (x ∷ a) b names = let q = unfolded_both a b names in omega (arith, q)
 
-shared_more : (o : Opening) (es : List PairEntry) (p : PairEntry) (names : NameTable)
-    → shared_by names (certificate_for o (es ++ p ∷ [])) ≡ with_new names (shared_by names (certificate_for o es)) (used_by_evidence p.evidence)
-shared_more o es p names = ap (with_new names []) (automata_more o es p) ∙ new_both (automata_of (certificate_for o es)) (used_by_evidence p.evidence) names []
-
 -- ---- its text
 
 -- an overlap alone
@@ -47,16 +37,18 @@ pairs_text_more : (es : List PairEntry) (p : PairEntry) (names : NameTable) (u :
 pairs_text_more [] p names u = refl
 pairs_text_more (e ∷ es) p names u = cc (pairs_text_more es p names u, append_assoc (entry_text names u e) (pairs_text names u es) (pairs_text names u (p ∷ [])))
 
-behind_steps : (b d w x : List ℕ) → b ++ 10 ∷ (d ++ (w ++ x)) ≡ (b ++ 10 ∷ (d ++ w)) ++ x
-behind_steps b d w x = cc (append_assoc d w x, append_assoc b (10 ∷ (d ++ w)) x)
-
 body_more : (o : Opening) (es : List PairEntry) (p : PairEntry) (names : NameTable) (u : Uses)
     → body_text names u (certificate_for o (es ++ p ∷ [])) ≡ body_text names u (certificate_for o es) ++ pairs_text names u (p ∷ [])
 body_more ortho_opening es p names u = ap (λ (w : List ℕ). codes "ortho\n" ++ w) (pairs_text_more es p names u)
 body_more (quasi_opening m) es p names u =
     cc (pairs_text_more es p names u, append_assoc (measure_text names m) (pairs_text names u es) (pairs_text names u (p ∷ [])))
 body_more (simplified_opening steps o) es p names u =
-    cc (body_more o es p names u, behind_steps (decimal (length steps)) (simplifications_text names u steps) (body_text names u (certificate_for o es)) (pairs_text names u (p ∷ [])))
+    let lines = simplifications_text names u steps ++ body_text names u (certificate_for o es) in
+    cc (
+      body_more o es p names u,
+      append_assoc (simplifications_text names u steps) (body_text names u (certificate_for o es)) (pairs_text names u (p ∷ [])),
+      append_assoc (decimal (length steps)) (10 ∷ lines) (pairs_text names u (p ∷ [])),
+    )
 
 -- ---- its limits
 
@@ -85,7 +77,7 @@ allowed_more (simplified_opening steps o) es ps second_version h = unsimplified_
 same_shared : (o : Opening) (es : List PairEntry) (p : PairEntry) (names : NameTable) (left then : List Automaton)
     → with_new names (shared_by names (certificate_for o es)) (used_by_evidence p.evidence) ++ then ≡ shared_by names (certificate_for o es) ++ left
     → shared_by names (certificate_for o (es ++ p ∷ [])) ++ then ≡ shared_by names (certificate_for o es) ++ left
-same_shared o es p names left then e = ap (λ (l : List Automaton). l ++ then) (shared_more o es p names) ∙ e
+same_shared o es p names left then e = cc (automata_more o es p, new_both (automata_of (certificate_for o es)) (used_by_evidence p.evidence) names [])
 
 left_more : (v : Version) (o : Opening) (es : List PairEntry) (p : PairEntry) (names : NameTable) (left then : List Automaton) → AreLeft v names (certificate_for o es) left
     → Takes v names (certificate_for o es) left (used_by_evidence p.evidence) then → AreLeft v names (certificate_for o (es ++ p ∷ [])) then

@@ -1,17 +1,9 @@
 -- A read opening, with entries behind it, by its marks: they pass, and so do its shared automata.
-use Rattle.std.proofs.Common.{◌≡◌, ◌⊎◌, inl, inr, ℕ, ◌+◌, Bool, true, false, List, [], ◌++◌, length, Option, Some, None, refl, sym, ap, ◌∙◌, subst, codes, length-append, append-nil, arith}
-use Rattle.general_lemmas.proofs.Lists.{three_parts}
-use Rattle.certificates.specs.Prelude.{Automaton, PairEntry, Certificate}
-use Rattle.cops_names.specs.NameTable.{NameTable}
-use Rattle.cert_grammar.specs.Prelude.{name_of, IsWithin, Version, Uses, version_of, IsOfVersion}
-use Rattle.cert_grammar.specs.Prelude.{shared_by, is_answer, marks_text, answer_marks}
-use Rattle.cert_grammar.specs.Prelude.{closing, heading_text, body_text, nothing_shared, PassShares, Skeleton, marks_of}
-use Rattle.cert_laws.proofs.Spelt.{Spells}
+use Rattle.cert_openings.proofs.Prelude.{◌≡◌, ◌⊎◌, inl, inr, ℕ, ◌+◌, Bool, true, false, List, [], ◌++◌, length, Option, Some, None, refl, sym, ap, ◌∙◌, subst, codes, length-append, append-nil, arith}
+use Rattle.cert_openings.proofs.Prelude.{three_parts, Automaton, PairEntry, Certificate, NameTable, name_of, IsWithin, Version, Uses, version_of, IsOfVersion, shared_by, is_answer, marks_text}
+use Rattle.cert_openings.proofs.Prelude.{answer_marks, closing, heading_text, body_text, nothing_shared, PassShares, Skeleton, marks_of, Spells, front_marks, same_version, spelt_front, pass_front}
+use Rattle.cert_openings.proofs.Prelude.{Opening, ortho_opening, quasi_opening, simplified_opening, certificate_for, uses_with, AreLeft, IsRead, told_marks, IsReadTo}
 use Rattle.cert_laws.proofs.SpeltWhole.{answer_of}
-use Rattle.cert_sharing.proofs.SpeltShares.{front_marks, same_version, spelt_front, pass_front}
-use Rattle.cert_openings.specs.Openings.{Opening, ortho_opening, quasi_opening, simplified_opening, certificate_for, uses_with, AreLeft, IsRead}
-use Rattle.cert_sharing.proofs.PassShares.{told_marks}
-use Rattle.cert_openings.specs.Laws.{IsReadTo}
 use Rattle.cert_openings.proofs.Along.{Along, along}
 use Rattle.cert_openings.proofs.OpeningMarks.{opening_marks, with_closing}
 
@@ -38,7 +30,7 @@ pub given_of : (a : List ℕ) → (a ≡ []) ⊎ (a ≡ codes "YES\n") → (g : 
 given_of a (inl e) = (None, e, refl)
 given_of a (inr e) = (Some true, e, refl)
 
-pub gone : (names : NameTable) (bytes : List ℕ) (o : Opening) (es : List PairEntry) (end : ℕ) → IsRead names bytes o es end → Gone names bytes o es end
+unfoldable pub gone : (names : NameTable) (bytes : List ℕ) (o : Opening) (es : List PairEntry) (end : ℕ) → IsRead names bytes o es end → Gone names bytes o es end
 gone names bytes o es end h =
     let c = certificate_for o es in
     let v = h.version in
@@ -112,13 +104,6 @@ read_front v names given o es left bytes rest end (a, w, l, s, e) p =
 
 abbrev pub Opened : (names : NameTable) (bytes : List ℕ) (o : Opening) (end : ℕ) → Type 0
 Opened names bytes o end = Gone names bytes o [] end
-
-pub opened : (names : NameTable) (bytes : List ℕ) (o : Opening) (end : ℕ) → IsRead names bytes o [] end → Opened names bytes o end
-opened names bytes o end h = gone names bytes o [] end h
-
-pub opened_rest : (names : NameTable) (bytes : List ℕ) (o : Opening) (end : ℕ) → (h : IsRead names bytes o [] end) → (opened names bytes o end h).rest ≡ h.rest
-unfolding opened
-opened_rest names bytes o end h = gone_rest names bytes o [] end h
 
 -- with the last line it is a text of the grammar
 pub with_end : (names : NameTable) (bytes : List ℕ) (o : Opening) (end : ℕ) → (h : Opened names bytes o end)

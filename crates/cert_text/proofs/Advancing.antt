@@ -1,14 +1,14 @@
 -- What one call of `Pairs::next` reads, or refuses.
 use Rattle.std.proofs.Common.{◌≡◌, inl, inr, ◌≤◌, ◌==◌, ℕ, suc, List, [], ◌∷◌, ◌++◌, length, drop, take, Option, Some, None, IfSome, IfNone, refl, sym, ap, ◌∙◌, subst, arith, eqb-true}
-use Rattle.std.proofs.lemmas.List.{length_push}
+use Rattle.std.proofs.lemmas.List.{length_push, append_cancel_left}
 use Rattle.std.proofs.Math.Seq.{take-append_seam}
 use Rattle.general_lemmas.proofs.Lists.{drop_whole}
-use Rattle.certificates.specs.Prelude.{Automaton, Certificate}
+use Rattle.certificates.specs.Prelude.{Automaton}
 use Rattle.certificates.specs.Certificates as math
 use Rattle.cops_names.specs.NameTable.{NameTable}
 use Rattle.cert_model.specs.declared.model.PairEntry.{PairEntry}
 use Rattle.cert_model.specs.CertificateView.{pair_entry_view}
-use Rattle.cert_grammar.specs.Prelude.{name_of, Version, first_version, second_version, CanSimplify, pairs_marks, closing, IsCertificateText, CertificateCause, syntax, bad_share, Naming}
+use Rattle.cert_grammar.specs.Prelude.{name_of, Version, first_version, second_version, CanSimplify, pairs_marks, closing, CertificateCause, syntax, bad_share, Naming}
 use Rattle.cert_grammar.specs.Prelude.{Mark, IsCertificateRefused, Item, pairs_from, entries_from, heads_from, Shared, nothing_shared}
 use Rattle.cert_grammar.specs.Items as Items
 use Rattle.cert_sharing.proofs.FirstUses.{texts_length}
@@ -219,103 +219,74 @@ module _ {v : Version} {shared : List Automaton} {names : NameTable} {bytes left
         next = inl (ap (λ (k : ℕ). pairs_from v (suc k)) (sym e));
       }
 
-  module _ (old : Reading) (is : up_to names bytes left ≡ old) where
-    read_here : (o : Opening) (es : List math.PairEntry) → HasRead old o es → IsRead names bytes o es (place_of bytes left)
-    read_here o es r = subst (λ (q : Reading). HasRead q o es) (sym is) r
+  pub reads_on : {sb : Shared} (p : math.PairEntry) (rest : List ℕ) → EvidenceUses v shared p.evidence
+      → Run names (length bytes) (pairs_from v n ∷ []) (λ x. pairs_marks x (uses_with v names shared) n (p ∷ [])) (pairs_from v (suc n) ∷ []) left rest now sb
+      → ReadsOn (up_to names bytes left) p (up_to names bytes rest)
+  reads_on {sb} p rest plain r o es h =
+      let there = left_there o es h in
+      let read = run_read v shared names bytes rest u.given u.opening (u.entries ++ p ∷ []) (pairs_from v (suc n) ∷ []) u.can_share
+      (plain_more v shared u.opening u.entries p u.plain plain) u.plain_shared (longer p rest sb r) in
+      subst (λ (x : Opening). IsRead names bytes x (es ++ p ∷ []) (place_of bytes rest)) (sym there.0)
+      (subst (λ (x : List math.PairEntry). IsRead names bytes u.opening (x ++ p ∷ []) (place_of bytes rest)) (sym there.1) read.read)
 
-    text_here : (c : Certificate) → IsCertificateText old.names old.bytes c → IsCertificateText names bytes c
-    text_here c h = subst (λ (q : Reading). IsCertificateText q.names q.bytes c) (sym is) h
+  -- what is left is the last line
+  left_last : (o : Opening) (es : List math.PairEntry) → HasRead (up_to names bytes left) o es → IsAll (up_to names bytes left) o es → left ≡ last_line
+  left_last o es h k =
+      let there = left_there o es h in
+      let whole = text_is_whole names bytes u.opening u.entries (subst (IsCertificateText names bytes) (cc (there.0, there.1)) k) in
+      sym (one_rest v shared names bytes left count now u whole.at whole.read) ∙ whole.last
 
-    after_here : (o : Opening) (es : List math.PairEntry) (place : ℕ) → IsRead old.names old.bytes o es place → IsRead names bytes o es place
-    after_here o es place h = subst (λ (q : Reading). IsRead q.names q.bytes o es place) (sym is) h
+  pub never_whole : {sb : Shared} (p : math.PairEntry) (rest : List ℕ)
+      → Run names (length bytes) (pairs_from v n ∷ []) (λ x. pairs_marks x (uses_with v names shared) n (p ∷ [])) (pairs_from v (suc n) ∷ []) left rest now sb
+      → (o : Opening) (es : List math.PairEntry) → HasRead (up_to names bytes left) o es → IsAll (up_to names bytes left) o es → ⊥
+  never_whole p rest r o es h k = bytes_apart 112 101 _ _ refl
+      (sym (walks_text names (pairs_marks (name_of names) (uses_with v names shared) n (p ∷ [])) _ _ (r.walks within [])) ∙ left_last o es h k)
 
-    pub reads_on : {sb : Shared} (p : math.PairEntry) (rest : List ℕ) → EvidenceUses v shared p.evidence
-        → Run names (length bytes) (pairs_from v n ∷ []) (λ x. pairs_marks x (uses_with v names shared) n (p ∷ [])) (pairs_from v (suc n) ∷ []) left rest now sb
-        → ReadsOn old p (up_to names bytes rest)
-    reads_on {sb} p rest plain r o es h =
-        let there = left_there o es (read_here o es h) in
-        let read = run_read v shared names bytes rest u.given u.opening (u.entries ++ p ∷ []) (pairs_from v (suc n) ∷ []) u.can_share
-        (plain_more v shared u.opening u.entries p u.plain plain) u.plain_shared (longer p rest sb r) in
-        subst (λ (x : Opening). IsRead names bytes x (es ++ p ∷ []) (place_of bytes rest)) (sym there.0)
-        (subst (λ (x : List math.PairEntry). IsRead names bytes u.opening (x ++ p ∷ []) (place_of bytes rest)) (sym there.1) read.read)
+  module _ (rest : List ℕ) (sb : Shared) (r : Run names (length bytes) (pairs_from v n ∷ []) (λ x. closing) [] left rest now sb) where
+    left_text : left ≡ last_line ++ rest
+    left_text = walks_text names closing _ _ (r.walks within [])
 
-    rest_as : (o : Opening) (es : List math.PairEntry) (at : ℕ) → o ≡ u.opening → es ≡ u.entries → (r : IsRead names bytes o es at) → r.rest ≡ left
-    rest_as o es at e f r = by (u.opening) e (u.entries) f (λ r. one_rest v shared names bytes left count now u at r)
-      where
-        by : (x : Opening) → o ≡ x → (xs : List math.PairEntry) → es ≡ xs → ((q : IsRead names bytes x xs at) → q.rest ≡ left) → r.rest ≡ left
-        by x e xs f each = (subst (λ (x : Opening). ((q : IsRead names bytes x es at) → q.rest ≡ left)) (sym e)
-            (subst (λ (xs : List math.PairEntry). ((q : IsRead names bytes x xs at) → q.rest ≡ left)) (sym f) each)) r
+    -- each shared automaton is used there
+    none_left : drop now.used shared ≡ []
+    none_left =
+        let used = eqb-true now.used (length now.texts) (alone (now.used == length now.texts) (bad_share, 0) (r.shares within []).0.0) in
+        drop_whole shared now.used (used ∙ ap length u.known.1 ∙ texts_length names shared)
 
-    -- what is left is the last line
-    left_last : (o : Opening) (es : List math.PairEntry) → HasRead old o es → IsAll old o es → left ≡ last_line
-    left_last o es h k =
-        let there = left_there o es (read_here o es h) in
-        let whole = text_is_whole names bytes o es (text_here (certificate_for o es) k) in
-        sym (rest_as o es whole.at there.0 there.1 whole.read) ∙ whole.last
+    pub at_end : rest ≡ [] → IsAtEnd (up_to names bytes left)
+    at_end e o es h =
+        let same = one_reading names bytes o u.opening es u.entries (place_of bytes left) h u.read.read in
+        whole_is_text names bytes o es (place_of bytes left) h (same.left ∙ u.read.is_left ∙ none_left) ((left_there o es h).2 ∙ left_text ∙ ap (λ (w : List ℕ). last_line ++ w) e)
 
-    pub never_whole : {sb : Shared} (p : math.PairEntry) (rest : List ℕ)
-        → Run names (length bytes) (pairs_from v n ∷ []) (λ x. pairs_marks x (uses_with v names shared) n (p ∷ [])) (pairs_from v (suc n) ∷ []) left rest now sb
-        → (o : Opening) (es : List math.PairEntry) → HasRead old o es → IsAll old o es → ⊥
-    never_whole p rest r o es h k = bytes_apart 112 101 _ _ refl
-        (sym (walks_text names (pairs_marks (name_of names) (uses_with v names shared) n (p ∷ [])) _ _ (r.walks within [])) ∙ left_last o es h k)
+    pub no_entry : (o : Opening) (es : List math.PairEntry) (p : math.PairEntry) (place : ℕ) → HasRead (up_to names bytes left) o es → IsRead names bytes o (es ++ p ∷ []) place → ⊥
+    no_entry o es p place h k = entry_stands v shared names bytes left count now u o es p place h k _ left_text
 
-    module _ (rest : List ℕ) (sb : Shared) (r : Run names (length bytes) (pairs_from v n ∷ []) (λ x. closing) [] left rest now sb) where
-      left_text : left ≡ last_line ++ rest
-      left_text = walks_text names closing _ _ (r.walks within [])
+    pub not_whole : (rest ≡ [] → ⊥) → (o : Opening) (es : List math.PairEntry) → HasRead (up_to names bytes left) o es → IsAll (up_to names bytes left) o es → ⊥
+    not_whole some o es h k = some (append_cancel_left last_line rest [] (sym left_text ∙ left_last o es h k))
 
-      -- each shared automaton is used there
-      none_left : drop now.used shared ≡ []
-      none_left =
-          let used = eqb-true now.used (length now.texts) (alone (now.used == length now.texts) (bad_share, 0) (r.shares within []).0.0) in
-          drop_whole shared now.used (used ∙ ap length u.known.1 ∙ texts_length names shared)
+    pub behind_refused : (at : ℕ) → (rest ≡ [] → ⊥) → at ≡ place_of bytes rest → IsCertificateRefused names bytes syntax at
+    behind_refused at some e =
+        let w = uses_with v names shared in
+        let run = run_then names (length bytes) (Items.opening ∷ []) (u.item ∷ []) [] (λ x. read_marks x w shared u.given u.opening u.entries) (λ x. closing) bytes left rest
+        nothing_shared now sb u.run (next_run names (length bytes) v n u.item (λ x. closing) [] left rest now sb next (λ q. cc) r) in
+        refused_behind names bytes rest (λ x. read_marks x w shared u.given u.opening u.entries ++ closing) at refl some e run
 
-      pub at_end : rest ≡ [] → IsAtEnd old
-      at_end e o es h =
-          let here = read_here o es h in
-          let same = one_reading names bytes o u.opening es u.entries (place_of bytes left) here u.read.read in
-          let whole = whole_is_text names bytes o es (place_of bytes left) here (same.left ∙ u.read.is_left ∙ none_left)
-          ((left_there o es here).2 ∙ left_text ∙ ap (λ (w : List ℕ). last_line ++ w) e) in
-          subst (λ (q : Reading). IsCertificateText q.names q.bytes (certificate_for o es)) is whole
+  module _ (e : CertError) (s : IsStoppedWhere (WithinEntry v n left) names (length bytes) (pairs_from v n ∷ []) left now (told e)) where
+    stop : IsStoppedWhere (WithinEntry v n left) names (length bytes) (u.item ∷ []) left now (told e)
+    stop = next_stop names (length bytes) v n u.item left now (told e) next s
 
-      pub no_entry : (o : Opening) (es : List math.PairEntry) (p : math.PairEntry) (place : ℕ) → HasRead old o es → IsRead old.names old.bytes o (es ++ p ∷ []) place → ⊥
-      no_entry o es p place h k = entry_stands v shared names bytes left count now u o es p place (read_here o es h) (after_here o (es ++ p ∷ []) place k) _ left_text
+    pub refused_there : IsRefusedAs names bytes e
+    refused_there =
+        refused_as names bytes e refl
+        (other_stop (WithinEntry v n left) Anywhere (λ items q h. tt) names (length bytes) (Items.opening ∷ []) bytes nothing_shared (told e)
+        (stop_behind (WithinEntry v n left) names (length bytes) (Items.opening ∷ []) (u.item ∷ [])
+        (λ x. read_marks x (uses_with v names shared) shared u.given u.opening u.entries) bytes left nothing_shared now (told e) u.run stop))
 
-      pub not_whole : (rest ≡ [] → ⊥) → (o : Opening) (es : List math.PairEntry) → HasRead old o es → IsAll old o es → ⊥
-      not_whole some o es h k = by rest some (sym left_text ∙ left_last o es h k)
-        where
-          by : (q : List ℕ) → (q ≡ [] → ⊥) → last_line ++ q ≡ last_line → ⊥
-          by [] f e = f refl
-          by (x ∷ q) f e = cc
+    -- nothing is told of a text that goes on
+    pub not_told : (o : Opening) (es : List math.PairEntry) → HasRead (up_to names bytes left) o es → IsAll (up_to names bytes left) o es → told e ≡ None
+    not_told o es h k = none_if (told e) (λ x q. never_both names bytes (certificate_for o es) x.0 x.1 k (refused_as_told names bytes e x.0 x.1 refused_there q))
 
-      pub behind_refused : (at : ℕ) → (rest ≡ [] → ⊥) → at ≡ place_of bytes rest → IsCertificateRefused old.names old.bytes syntax at
-      behind_refused at some e =
-          let w = uses_with v names shared in
-          let run = run_then names (length bytes) (Items.opening ∷ []) (u.item ∷ []) [] (λ x. read_marks x w shared u.given u.opening u.entries) (λ x. closing) bytes left rest
-          nothing_shared now sb u.run (next_run names (length bytes) v n u.item (λ x. closing) [] left rest now sb next (λ q. cc) r) in
-          subst (λ (q : Reading). IsCertificateRefused q.names q.bytes syntax at) is
-          (refused_behind names bytes rest (λ x. read_marks x w shared u.given u.opening u.entries ++ closing) at refl some e run)
-
-    module _ (e : CertError) (s : IsStoppedWhere (WithinEntry v n left) names (length bytes) (pairs_from v n ∷ []) left now (told e)) where
-      stop : IsStoppedWhere (WithinEntry v n left) names (length bytes) (u.item ∷ []) left now (told e)
-      stop = next_stop names (length bytes) v n u.item left now (told e) next s
-
-      refused_here : IsRefusedAs names bytes e
-      refused_here =
-          refused_as names bytes e refl
-          (other_stop (WithinEntry v n left) Anywhere (λ items q h. tt) names (length bytes) (Items.opening ∷ []) bytes nothing_shared (told e)
-          (stop_behind (WithinEntry v n left) names (length bytes) (Items.opening ∷ []) (u.item ∷ [])
-          (λ x. read_marks x (uses_with v names shared) shared u.given u.opening u.entries) bytes left nothing_shared now (told e) u.run stop))
-
-      pub refused_there : IsRefusedAs old.names old.bytes e
-      refused_there = subst (λ (q : Reading). IsRefusedAs q.names q.bytes e) is refused_here
-
-      -- nothing is told of a text that goes on
-      pub not_told : (o : Opening) (es : List math.PairEntry) → HasRead old o es → IsAll old o es → told e ≡ None
-      not_told o es h k = none_if (told e)
-          (λ x q. never_both names bytes (certificate_for o es) x.0 x.1 (text_here (certificate_for o es) k) (refused_as_told names bytes e x.0 x.1 refused_here q))
-
-      pub not_told_at : (o : Opening) (es : List math.PairEntry) (p : math.PairEntry) (place : ℕ) → HasRead old o es → IsRead old.names old.bytes o (es ++ p ∷ []) place → told e ≡ None
-      not_told_at o es p place h k = none_if (told e) (λ x q.
-          let at_item = subst (IsStoppedWhere (WithinEntry v n left) names (length bytes) (u.item ∷ []) left now) q stop in
-          let there = subst (λ (m : ℕ). IsStoppedWhere (WithinEntry v m left) names (length bytes) (u.item ∷ []) left now (Some x)) is_n at_item in
-          in_entry v shared names bytes left count now u x (there within) o es p place (read_here o es h) (after_here o (es ++ p ∷ []) place k))
+    pub not_told_at : (o : Opening) (es : List math.PairEntry) (p : math.PairEntry) (place : ℕ) → HasRead (up_to names bytes left) o es → IsRead names bytes o (es ++ p ∷ []) place → told e ≡ None
+    not_told_at o es p place h k = none_if (told e) (λ x q.
+        let at_item = subst (IsStoppedWhere (WithinEntry v n left) names (length bytes) (u.item ∷ []) left now) q stop in
+        let there = subst (λ (m : ℕ). IsStoppedWhere (WithinEntry v m left) names (length bytes) (u.item ∷ []) left now (Some x)) is_n at_item in
+        in_entry v shared names bytes left count now u x (there within) o es p place h k)

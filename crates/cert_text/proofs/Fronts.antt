@@ -81,7 +81,7 @@ front_body (Some ss) u w shared given c =
     append_assoc (answer_marks given) (heading_marks u w shared ++ steps_marks u w (Some ss)) (body_marks u w given c)
     ∙ ap (λ (z : List Mark). answer_marks given ++ z) (append_assoc (heading_marks u w shared) (steps_marks u w (Some ss)) (body_marks u w given c))
 
-behind_is : (steps : Option (List Simplification)) (o : Opening) (es : List PairEntry) → certificate_behind steps (certificate_for o es) ≡ certificate_for (opening_behind steps o) es
+pub behind_is : (steps : Option (List Simplification)) (o : Opening) (es : List PairEntry) → certificate_behind steps (certificate_for o es) ≡ certificate_for (opening_behind steps o) es
 behind_is None o es = refl
 behind_is (Some ss) o es = refl
 

@@ -36,7 +36,7 @@ use Rattle.cert_text.specs.ReadingView.{place_of, EndsMeasure, IsNext, read_mark
 use Rattle.cert_text.specs.OpenedText.{OpenedText, at_entries, whole, IsOpenedAs, IsRefusedBehind, IsToldBefore}
 use Rattle.cert_text.specs.Front.{steps_marks, opening_behind, opened_behind, CanStep, IsBegun}
 use Rattle.cert_text.proofs.Runs.{run_read}
-use Rattle.cert_text.proofs.Fronts.{begun_on, certificate_behind, read_behind, whole_behind, run_of, refused_behind_it, none_behind, told_before}
+use Rattle.cert_text.proofs.Fronts.{begun_on, certificate_behind, behind_is, read_behind, whole_behind, run_of, refused_behind_it, none_behind, told_before}
 
 -- ---- what follows for each text that is opened
 
@@ -87,8 +87,7 @@ plain_behind second_version shared (Some ss) c u h p = (u, h.1, p)
 
 plain_opening : (v : Version) (shared : List Automaton) (steps : Option (List Simplification)) (o : Opening) → IsUnsimplified (certificate_for o []) → CanStep v shared steps
     → IsPlainBy v shared (certificate_for o []) → IsPlainBy v shared (certificate_for (opening_behind steps o) [])
-plain_opening v shared None o u h p = plain_behind v shared None (certificate_for o []) u h p
-plain_opening v shared (Some ss) o u h p = plain_behind v shared (Some ss) (certificate_for o []) u h p
+plain_opening v shared steps o u h p = subst (IsPlainBy v shared) (behind_is steps o []) (plain_behind v shared steps (certificate_for o []) u h p)
 
 measure_end : (v : Version) (m : MeasureCertificate) → HasMeasure v m → EndsMeasure v (behind_measure v m)
 measure_end first_version m h = (_, refl)

@@ -8,7 +8,7 @@ use Rattle.cert_grammar.specs.Prelude.{name_of, Version, IsCertificateRefused, C
 use Rattle.cert_openings.specs.Openings.{Opening, certificate_for, uses_with}
 use Rattle.cert_openings.specs.Laws.{IsReadTo}
 use Rattle.cert_words.specs.declared.error.CertError.{CertError}
-use Rattle.cert_words.specs.declared.error.CertError.TheVariants.{CertSyntax, UnknownName, WrongArity, BadNumber, BadShare, CertTooDeep, TooMany, NoMemory}
+use Rattle.cert_words.specs.declared.error.CertError.TheVariants.{NoMemory}
 use Rattle.cert_words.specs.Words.{told}
 use Rattle.cert_words.specs.CertRefusals.{IsRefusedAs}
 use Rattle.cert_words.specs.Walks.{left_at, Run}
@@ -46,14 +46,8 @@ stop_refused names bytes e s =
 
 -- what is told where a reader stops is the refusal of the text
 refused_from : (names : NameTable) (bytes : List ℕ) (e : CertError) → IsStoppedWhere Anywhere names (length bytes) (opening ∷ []) bytes nothing_shared (told e) → IsRefusedAs names bytes e
-refused_from names bytes (CertSyntax at) s = stop_refused names bytes _ (s (omega arith))
-refused_from names bytes (UnknownName at) s = stop_refused names bytes _ (s (omega arith))
-refused_from names bytes (WrongArity at) s = stop_refused names bytes _ (s (omega arith))
-refused_from names bytes (BadNumber at) s = stop_refused names bytes _ (s (omega arith))
-refused_from names bytes (BadShare at) s = stop_refused names bytes _ (s (omega arith))
-refused_from names bytes (CertTooDeep at) s = stop_refused names bytes _ (s (omega arith))
-refused_from names bytes (TooMany what at) s = stop_refused names bytes _ (s (omega arith))
 refused_from names bytes NoMemory s = tt
+refused_from names bytes _ s = stop_refused names bytes _ (s (omega arith))
 
 pub refused_as : (names : NameTable) (bytes : List ℕ) (e : CertError) → {sa : Shared} → sa ≡ nothing_shared
     → IsStoppedWhere Anywhere names (length bytes) (opening ∷ []) bytes sa (told e) → IsRefusedAs names bytes e
@@ -79,14 +73,8 @@ as_told : (names : NameTable) (bytes : List ℕ) (x y : CertificateCause × ℕ)
 as_told names bytes x y h e = let same : x ≡ y = cc in subst (λ (z : CertificateCause × ℕ). IsCertificateRefused names bytes z.0 z.1) same h
 
 pub refused_as_told : (names : NameTable) (bytes : List ℕ) (e : CertError) (f : CertificateCause) (at : ℕ) → IsRefusedAs names bytes e → told e ≡ Some (f, at) → IsCertificateRefused names bytes f at
-refused_as_told names bytes (CertSyntax place) f at h t = as_told names bytes _ (f, at) h t
-refused_as_told names bytes (UnknownName place) f at h t = as_told names bytes _ (f, at) h t
-refused_as_told names bytes (WrongArity place) f at h t = as_told names bytes _ (f, at) h t
-refused_as_told names bytes (BadNumber place) f at h t = as_told names bytes _ (f, at) h t
-refused_as_told names bytes (BadShare place) f at h t = as_told names bytes _ (f, at) h t
-refused_as_told names bytes (CertTooDeep place) f at h t = as_told names bytes _ (f, at) h t
-refused_as_told names bytes (TooMany what place) f at h t = as_told names bytes _ (f, at) h t
 refused_as_told names bytes NoMemory f at h t = absurd cc
+refused_as_told names bytes _ f at h t = as_told names bytes _ (f, at) h t
 
 -- ---- bytes that are left, or none
 

@@ -27,9 +27,9 @@ returns-in-Some c =
     record {
       entry = tt;
       none = tt;
-      none_exactly = not_told u (c.self.inside.count + 1) (omega arith) c.args.self.now c.self.view_is e stop;
-      ready = not_told_at u (c.self.inside.count + 1) (omega arith) c.args.self.now c.self.view_is e stop;
-      refused = refused_there u (c.self.inside.count + 1) (omega arith) c.args.self.now c.self.view_is e stop;
+      none_exactly = rw (← c.self.view_is) (not_told u (c.self.inside.count + 1) (omega arith) e stop);
+      ready = rw (← c.self.view_is) (not_told_at u (c.self.inside.count + 1) (omega arith) e stop);
+      refused = rw (← c.self.view_is) (refused_there u (c.self.inside.count + 1) (omega arith) e stop);
       stays = search rules;
       text = search rules;
     }
@@ -51,9 +51,9 @@ returns-in-Some-found c =
     let run = ran c.self.invariant.0 none c.in-Some-found.ensures.pair in
     let p = pair_entry_view c.in-Some-found.entry in
     record {
-      entry = reads_on u (c.self.inside.count + 1) (omega arith) c.args.self.now c.self.view_is p c.next_pair-found.new.at.left.now (c.in-Some-found.ensures.plain none) run;
+      entry = rw (← c.self.view_is) (reads_on u (c.self.inside.count + 1) (omega arith) p c.next_pair-found.new.at.left.now (c.in-Some-found.ensures.plain none) run);
       none = tt;
-      none_exactly = never_whole u (c.self.inside.count + 1) (omega arith) c.args.self.now c.self.view_is p c.next_pair-found.new.at.left.now run;
+      none_exactly = rw (← c.self.view_is) (never_whole u (c.self.inside.count + 1) (omega arith) p c.next_pair-found.new.at.left.now run);
       ready = λ o es e place h k. tt;
       refused = tt;
       stays = tt;
@@ -63,13 +63,14 @@ returns-in-Some-found c =
 pub returns-then-more-eq0 : goal.returns-then-more-eq0
 returns-then-more-eq0 c =
     let u = up_to_by (sym c.uses_of-uses.ensures.version) (sym c.uses_of-uses.ensures.automata) c.self.invariant.1 in
+    let left = c.next_pair-found.new.at.left.now in
     let run = ran c.self.invariant.0 (sym c.take.ensures.value ∙ c.in_default.is) c.in-None.ensures.last in
     let zero : length c.next_pair-found.new.at.left.now ≡ 0 = search rules in
     record {
       entry = tt;
-      none = at_end u (c.self.inside.count + 1) (omega arith) c.args.self.now c.self.view_is c.next_pair-found.new.at.left.now _ run (nil_from_length c.next_pair-found.new.at.left.now zero);
+      none = rw (← c.self.view_is) (at_end u (c.self.inside.count + 1) (omega arith) left _ run (nil_from_length left zero));
       none_exactly = λ o es h k. tt;
-      ready = no_entry u (c.self.inside.count + 1) (omega arith) c.args.self.now c.self.view_is c.next_pair-found.new.at.left.now _ run;
+      ready = rw (← c.self.view_is) (no_entry u (c.self.inside.count + 1) (omega arith) left _ run);
       refused = tt;
       stays = search rules;
       text = search rules;
@@ -78,15 +79,16 @@ returns-then-more-eq0 c =
 pub returns-else-more-eq0 : goal.returns-else-more-eq0
 returns-else-more-eq0 c =
     let u = up_to_by (sym c.uses_of-uses.ensures.version) (sym c.uses_of-uses.ensures.automata) c.self.invariant.1 in
+    let left = c.next_pair-found.new.at.left.now in
     let run = ran c.self.invariant.0 (sym c.take.ensures.value ∙ c.in_default.is) c.in-None.ensures.last in
-    let left : 0 < length c.next_pair-found.new.at.left.now = search rules in
-    let some = not_nil c.next_pair-found.new.at.left.now left in
+    let long : 0 < length c.next_pair-found.new.at.left.now = search rules in
+    let some = not_nil left long in
     record {
       entry = tt;
       none = tt;
-      none_exactly = λ o es h k. absurd (not_whole u (c.self.inside.count + 1) (omega arith) c.args.self.now c.self.view_is c.next_pair-found.new.at.left.now _ run some o es h k);
-      ready = λ o es e place h k. absurd (no_entry u (c.self.inside.count + 1) (omega arith) c.args.self.now c.self.view_is c.next_pair-found.new.at.left.now _ run o es e place h k);
-      refused = behind_refused u (c.self.inside.count + 1) (omega arith) c.args.self.now c.self.view_is c.next_pair-found.new.at.left.now _ run c.saturating_sub.result some c.saturating_sub.ensures;
+      none_exactly = rw (← c.self.view_is) (λ o es h k. absurd (not_whole u (c.self.inside.count + 1) (omega arith) left _ run some o es h k));
+      ready = rw (← c.self.view_is) (λ o es e place h k. absurd (no_entry u (c.self.inside.count + 1) (omega arith) left _ run o es e place h k));
+      refused = rw (← c.self.view_is) (behind_refused u (c.self.inside.count + 1) (omega arith) left _ run c.saturating_sub.result some c.saturating_sub.ensures);
       stays = search rules;
       text = search rules;
     }
