@@ -1,6 +1,7 @@
 -- The marks of shared automata, one behind another.
 use Rattle.cert_reading.proofs.Prelude.{◌≡◌, List, [], ◌∷◌, ◌++◌, map, sym, ap, ◌∙◌, subst, append_assoc, append-nil, Automaton, Naming, Mark, automata_marks, Shared, automaton_marks}
 use Rattle.cert_reading.proofs.Prelude.{automaton_behind, BeginsAnew, AreWithoutStates, sealed_marks, ArePlainAutomata}
+use Rattle.cert_reading.proofs.AutomatonMarks.{more_of}
 
 -- an automaton begins with its first word
 pub automaton_anew : (u : Naming) (a : Automaton) → BeginsAnew (automaton_marks u a)
@@ -13,8 +14,4 @@ automata_push f u (b ∷ done) a = append_assoc (sealed_marks u (f b)) (automata
 
 pub plain_automata : {A : Type 0} (f : A → Automaton) (done after : List A) (a : A) → after ≡ done ++ a ∷ [] → ArePlainAutomata (map f done) → AreWithoutStates (f a).transitions
     → ArePlainAutomata (map f after)
-plain_automata {A} f done after a e h k = subst (λ (xs : List A). ArePlainAutomata (map f xs)) (sym e) (by done h)
-  where
-    by : (xs : List A) → ArePlainAutomata (map f xs) → ArePlainAutomata (map f (xs ++ a ∷ []))
-    by [] p = (k, tt)
-    by (x ∷ xs) p = (p.0, by xs p.1)
+plain_automata f done after a e h k = more_of ArePlainAutomata f (λ x xs ys g p. (p.0, g p.1)) done after a e (k, tt) h

@@ -47,10 +47,15 @@ transitions_push f u b (s ∷ ts) t = one_more f u b s ts (transitions_marks u b
 pub head_first : (s t : List Mark) (b p : Mark) → (s ++ (b ∷ p ∷ [])) ++ t ≡ ((s ++ (b ∷ [])) ++ (p ∷ t)) ++ []
 head_first s t b p = append_assoc s (b ∷ p ∷ []) t ∙ sym (append-nil ((s ++ (b ∷ [])) ++ (p ∷ t)) ∙ append_assoc s (b ∷ []) (p ∷ t))
 
+-- what is true of each item of a list is true with one more
+pub more_of : {A B : Type 0} (P : List B → Type 0) (f : A → B) → ((x : B) (xs ys : List B) → (P xs → P ys) → P (x ∷ xs) → P (x ∷ ys)) → (done after : List A) (a : A) → after ≡ done ++ a ∷ []
+    → P (f a ∷ []) → P (map f done) → P (map f after)
+more_of {A} P f step done after a e one h = subst (λ (xs : List A). P (map f xs)) (sym e) (by done h)
+  where
+    by : (xs : List A) → P (map f xs) → P (map f (xs ++ a ∷ []))
+    by [] p = one
+    by (x ∷ xs) p = step (f x) (map f xs) (map f (xs ++ a ∷ [])) (by xs) p
+
 pub plain_push : {A : Type 0} (f : A → Transition) (done after : List A) (t : A) → after ≡ done ++ t ∷ [] → AreWithoutStates (map f done) → HasNoStates (f t).symbol (f t).arguments
     → AreWithoutStates (map f after)
-plain_push {A} f done after t e h k = subst (λ xs. AreWithoutStates (map f xs)) (sym e) (by done h)
-  where
-    by : (xs : List A) → AreWithoutStates (map f xs) → AreWithoutStates (map f (xs ++ t ∷ []))
-    by [] h = (k, tt)
-    by (x ∷ xs) h = (h.0, by xs h.1)
+plain_push f done after t e h k = more_of AreWithoutStates f (λ x xs ys g p. (p.0, g p.1)) done after t e (k, tt) h

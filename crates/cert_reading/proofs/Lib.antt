@@ -14,3 +14,4 @@ pub mod KindMarks
 pub mod SharedKnown
 pub mod Prelude
 pub mod Lemmas
+pub mod Loops

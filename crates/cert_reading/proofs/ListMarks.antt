@@ -3,6 +3,7 @@ use Rattle.cert_reading.proofs.Prelude.{◌≡◌, ◌+◌, ℕ, suc, List, [], 
 use Rattle.cert_reading.proofs.Prelude.{Redex, Simplification, dropped, inlined, Automaton, largest, Version, Uses, Naming, Mark, fixed, word, numbers, pairs, redexes, in_range, is_few}
 use Rattle.cert_reading.proofs.Prelude.{number, coefficients_marks, entries_marks, heads_marks, simplifications_marks, infeasibility_marks, evidence_marks, pairs_marks, redexes_marks}
 use Rattle.cert_reading.proofs.Prelude.{seen_push, line_marks, HasUsed, EvidenceUses, PairsUse, RedexesUse, StepsUse, numeral}
+use Rattle.cert_reading.proofs.AutomatonMarks.{more_of}
 
 abbrev pub coefficient_marks : ℕ → ℕ → List Mark
 coefficient_marks n k = fixed (codes " ") ∷ word (numeral k) (in_range 0 0 (suc largest) k ∷ is_few numbers n ∷ []) ∷ []
@@ -65,11 +66,7 @@ plain_pairs v all f done after a e h k = subst (PairsUse v all) (sym (seen_push 
 
 pub plain_redexes : {A : Type 0} (v : Version) (all : List Automaton) (f : A → Redex) (done after : List A) (a : A) → after ≡ done ++ a ∷ [] → RedexesUse v all (map f done)
     → HasUsed v all (f a).evidence → RedexesUse v all (map f after)
-plain_redexes {A} v all f done after a e h k = subst (λ (xs : List A). RedexesUse v all (map f xs)) (sym e) (by done h)
-  where
-    by : (xs : List A) → RedexesUse v all (map f xs) → RedexesUse v all (map f (xs ++ a ∷ []))
-    by [] p = (k, tt)
-    by (x ∷ xs) p = (p.0, by xs p.1)
+plain_redexes v all f done after a e h k = more_of (RedexesUse v all) f (λ x xs ys g p. (p.0, g p.1)) done after a e (k, tt) h
 
 -- steps that simplify the system
 steps_first : (u : Naming) (w : Uses) (s : Simplification) (ss : List Simplification) → simplifications_marks u w (s ∷ ss) ≡ simplifications_marks u w (s ∷ []) ++ simplifications_marks u w ss
@@ -85,18 +82,10 @@ steps_push f u w (b ∷ done) a =
     ∙ append_assoc (simplifications_marks u w (f b ∷ [])) (simplifications_marks u w (map f done)) (simplifications_marks u w (f a ∷ []))
     ∙ ap (λ (ms : List Mark). simplifications_marks u w (f b ∷ []) ++ ms) (steps_push f u w done a) ∙ sym (steps_first u w (f b) (map f (done ++ a ∷ [])))
 
-plain_first : (v : Version) (all : List Automaton) (s : Simplification) (ss : List Simplification) → StepsUse v all (s ∷ []) → StepsUse v all ss → StepsUse v all (s ∷ ss)
-plain_first v all (dropped rule e) ss h k = (h.0, k)
-plain_first v all (inlined rule condition) ss h k = k
-
-plain_one : (v : Version) (all : List Automaton) (s : Simplification) (ss : List Simplification) → StepsUse v all (s ∷ ss) → StepsUse v all (s ∷ []) × StepsUse v all ss
-plain_one v all (dropped rule e) ss h = ((h.0, tt), h.1)
-plain_one v all (inlined rule condition) ss h = (tt, h)
-
 pub plain_steps : {A : Type 0} (v : Version) (all : List Automaton) (f : A → Simplification) (done after : List A) (a : A) → after ≡ done ++ a ∷ [] → StepsUse v all (map f done)
     → StepsUse v all (f a ∷ []) → StepsUse v all (map f after)
-plain_steps {A} v all f done after a e h k = subst (λ (xs : List A). StepsUse v all (map f xs)) (sym e) (by done h)
+plain_steps v all f done after a e h k = more_of (StepsUse v all) f (with_first v all) done after a e k h
   where
-    by : (xs : List A) → StepsUse v all (map f xs) → StepsUse v all (map f (xs ++ a ∷ []))
-    by [] p = k
-    by (x ∷ xs) p = let q = plain_one v all (f x) (map f xs) p in plain_first v all (f x) (map f (xs ++ a ∷ [])) q.0 (by xs q.1)
+    with_first : (v : Version) (all : List Automaton) (s : Simplification) (ss rs : List Simplification) → (StepsUse v all ss → StepsUse v all rs) → StepsUse v all (s ∷ ss) → StepsUse v all (s ∷ rs)
+    with_first v all (dropped rule e) ss rs g h = (h.0, g h.1)
+    with_first v all (inlined rule condition) ss rs g h = g h

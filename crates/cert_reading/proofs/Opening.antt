@@ -4,7 +4,7 @@ use Rattle.cert_reading.proofs.Prelude.{arith, eqb-true, NameTable, Version, fir
 use Rattle.cert_reading.proofs.Prelude.{shared_line, body, between, line, any_number, pairs_from, entries_from, heads_from, measured_name, measured_condition, head_name, coefficients_behind}
 use Rattle.cert_reading.proofs.Prelude.{is_there, first_there, behind_automata, Shared, BeginsEntry, CertError, Reading, told, Choice, Run, IsStuckAt, front_same, went, stopped, Front}
 use Rattle.cert_reading.proofs.Prelude.{keyword_run, one_stop, stuck_stops, Place, ReadsWhere, IsBehind, AreBehind, BeginsList, BeforeEntries, WithinOpening, item_by, SymbolAt, Kind, Ortho}
-use Rattle.cert_reading.proofs.Prelude.{Quasi, Peak}
+use Rattle.cert_reading.proofs.Prelude.{Quasi, Peak, Reads, Naming, Mark}
 use Rattle.cert_reading.proofs.Stopping.{word_where, low_unopened, pair_later}
 use Rattle.cert_words.specs.declared.error.CertError.TheVariants.{CertSyntax}
 
@@ -34,6 +34,10 @@ alone_early v i end pairs (inr s) = end (same_item i (between line) s)
 
 pub other_place : (i : Item) (q : List ℕ) → IsOther i → BeforeEntries (i ∷ []) q
 other_place i q o = λ v. record { early = alone_early v i (λ e. subst IsOther e o) (λ h. subst IsOther h.1 o); closed = λ j e h b. no_list v j (subst IsOther (same_item i j e) o) h }
+
+pub other_word : {names : NameTable} {end : ℕ} {i : Item} {to : List Item} {f : Naming → List Mark} {s t : Reading} → IsOther i
+    → (s.refused ≡ None → IfSome t.refused (λ e. IsStuckAt names end i s.left.now s.shares (told e))) → Reads names end (i ∷ []) f to s t → ReadsWhere BeforeEntries names end (i ∷ []) f to s t
+other_word {i = i} o h x = word_where (λ some. other_place i _ o) h x
 
 pub other_below : (low : Item) → IsOther low → (i : Item) (m : List Item) (q : List ℕ) → BeforeEntries (i ∷ (m ++ low ∷ [])) q
 other_below low o i m q = λ v. low_unopened v low (λ h. subst IsOther h.1 o) i m q

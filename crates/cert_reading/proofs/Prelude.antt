@@ -1,23 +1,22 @@
 -- The names from below that lemmas and answers cite, passed on from one place. Declares nothing.
-pub use Rattle.std.proofs.Common.{◌≡◌, ◌+◌, ℕ, suc, List, [], ◌∷◌, ◌++◌, length, map, codes, refl, sym, ap, ◌∙◌, arith, subst, append_assoc, inl, inr, ◌<◌, ◌==◌, zero, Bool, true, false}
-pub use Rattle.std.proofs.Common.{Option, Some, None, IfSome, IsTrue, eqb-true, ap₂, ◌≤◌, drop, take, ◌-◌, max, slice_get, ◌*◌, if◌then◌else◌}
-pub use Rattle.std.proofs.lemmas.List.{append-nil, drop_at, length-map, length_push}
+pub use Rattle.std.proofs.Common.{◌≡◌, ◌+◌, ℕ, suc, List, [], ◌∷◌, ◌++◌, length, map, codes, refl, sym, ap, ◌∙◌, arith, subst, append_assoc, ◌<◌, None, ◌≤◌, ◌-◌, inl, inr, ◌==◌, zero, Bool}
+pub use Rattle.std.proofs.Common.{true, false, Option, Some, IfSome, IsTrue, eqb-true, ap₂, drop, take, max, is_some, slice_get, ◌*◌, if◌then◌else◌}
+pub use Rattle.std.proofs.lemmas.List.{append-nil, length-map, length_push, drop_at}
 pub use Rattle.cert_grammar.proofs.Views.{seen_push, first_pushed}
 pub use Rattle.cert_grammar.specs.Prelude.{largest, Version, Uses, Naming, Mark, fixed, word, numbers, pairs, redexes, in_range, is_few, number, coefficients_marks, entries_marks}
-pub use Rattle.cert_grammar.specs.Prelude.{heads_marks, simplifications_marks, infeasibility_marks, evidence_marks, pairs_marks, redexes_marks, first_version, second_version, fits_answer}
-pub use Rattle.cert_grammar.specs.Prelude.{is_answer, syntax, Item, Lead, keyword, pair_or_end, heading, shared_line, body, between, line, any_number, pairs_from, entries_from, heads_from}
-pub use Rattle.cert_grammar.specs.Prelude.{measured_name, measured_condition, head_name, coefficients_behind, is_there, first_there, behind_automata, Shared, has_arity, symbol, behind}
-pub use Rattle.cert_grammar.specs.Prelude.{is_node, term_marks, arguments_marks, further_marks, Frame, node, term_closed, with_next, name_of, shared_automata, marks_text, number_for}
+pub use Rattle.cert_grammar.specs.Prelude.{heads_marks, simplifications_marks, infeasibility_marks, evidence_marks, pairs_marks, redexes_marks, Item, first_version, second_version}
+pub use Rattle.cert_grammar.specs.Prelude.{fits_answer, is_answer, syntax, Lead, keyword, pair_or_end, heading, shared_line, body, between, line, any_number, pairs_from, entries_from}
+pub use Rattle.cert_grammar.specs.Prelude.{heads_from, measured_name, measured_condition, head_name, coefficients_behind, is_there, first_there, behind_automata, Shared, has_arity, symbol}
+pub use Rattle.cert_grammar.specs.Prelude.{behind, is_node, term_marks, arguments_marks, further_marks, Frame, node, term_closed, with_next, name_of, shared_automata, marks_text, number_for}
 pub use Rattle.cert_grammar.specs.Prelude.{automata_marks, texts_of, AllNew, AreAutomata, behind_marks, PassShares, state, version_of, IsOfVersion, used_by, used_by_evidence, used_by_pairs}
 pub use Rattle.cert_grammar.specs.Prelude.{used_by_redexes, used_by_apart, used_by_steps, automata_of, number_in, shared_by, certificate_marks, HaveNames, Pass, nothing_shared, opening}
 pub use Rattle.cert_grammar.specs.Prelude.{IsVersionText, IsCertificateText, name_lead, leads, mark_of, taken, Left, CertificateCause, space, HasMeasure, entries, longest, accepts, refuses}
 pub use Rattle.cert_grammar.specs.Prelude.{goes_on, step, step_lead, after_step, shared_step, automaton_marks, steps_mark, steps_marks, step_marks, derivations_marks, head_marks}
 pub use Rattle.cert_grammar.specs.Prelude.{accepting_marks, further_states_marks, states_marks, transitions_marks, derivations_left, text, evidence, infeasibility, IsUnsimplified}
-pub use Rattle.cert_grammar.specs.Prelude.{body_marks, demands_of, use_mark, states_line, shared_use, state_count, automata_left, automaton_end, shared_count, last_line, apart, redexes_from}
-pub use Rattle.cert_grammar.specs.Prelude.{derivation_marks, closing, apart_marks, start_line, any_position, coefficient, measure, too_many, rule_mark, derivations, nesting_count}
-pub use Rattle.cert_grammar.specs.Prelude.{steps_left, steps_of, condition_count, is_number, states_behind, argument_state, further_states, head_closed, transitions_of, transitions_left}
-pub use Rattle.cert_grammar.specs.Prelude.{target, states, transitions, accepting_line, accepting, transition_count, by_number, simplifications, simplification_count, simplifications_of}
-pub use Rattle.cert_grammar.specs.Prelude.{in_full, answer_marks, simplified, measure_marks, next_argument, symbol_end, name_behind, term_behind, simplifications_left}
+pub use Rattle.cert_grammar.specs.Prelude.{body_marks, demands_of, use_mark, states_line, shared_use, state_count, automata_left, automaton_end, shared_count, apart, derivation_marks}
+pub use Rattle.cert_grammar.specs.Prelude.{closing, apart_marks, start_line, redexes_from, coefficient, measure, too_many, rule_mark, derivations, steps_left, steps_of, is_number}
+pub use Rattle.cert_grammar.specs.Prelude.{states_behind, argument_state, further_states, head_closed, transitions_of, states, transitions, by_number, simplifications, simplification_count}
+pub use Rattle.cert_grammar.specs.Prelude.{simplifications_of, in_full, answer_marks, simplified, measure_marks, next_argument, symbol_end, name_behind, term_behind, simplifications_left}
 pub use Rattle.cert_grammar.specs.WordMarks.{numeral}
 pub use Rattle.cert_model.proofs.DerivationViews.{derivation_of_steps, step_of_rule, step_of_hypothesis}
 pub use Rattle.cert_model.specs.CertificateView.{apart_view, redex_view, linear_entry_view, head_view, pair_entry_view, simp_view, certificate_view, measure_view}
@@ -43,12 +42,12 @@ pub use Rattle.cert_sharing.proofs.UseMarks.{counts_still, counts_both, counts_p
 pub use Rattle.cert_sharing.proofs.UseMarks.{measure_still, counts_steps}
 pub use Rattle.cert_words.proofs.NodeReads.{suc_is, node_leads, refused_node, any_frame, frames, frames_deep}
 pub use Rattle.cert_words.proofs.Stepping.{Front, keyword_run, one_stop, stuck_stops, some_now, none_now, one, two, stuck_among, counted_there, counted_out, go, stop, arity_met, text_run}
-pub use Rattle.cert_words.proofs.Stepping.{stop_as, three, front_of}
-pub use Rattle.cert_words.proofs.Walking.{front_same, went, stopped, then_reads, as_marks, open_before, goes_as, already, walks_then, walks_shorter, stops_then, goes_then, goes_open}
-pub use Rattle.cert_words.proofs.Walking.{not_both, run_then, framed_run, as_run, front_then, read_run, then_nothing, framed, as_reads}
+pub use Rattle.cert_words.proofs.Stepping.{three, front_of}
+pub use Rattle.cert_words.proofs.Walking.{then_reads, as_marks, then_nothing, as_reads, front_same, went, stopped, open_before, goes_as, already, walks_then, walks_shorter, stops_then}
+pub use Rattle.cert_words.proofs.Walking.{goes_then, goes_open, not_both, run_then, framed_run, as_run, front_then, read_run, framed}
 pub use Rattle.cert_words.proofs.Whole.{walks_pass, walks_text}
 pub use Rattle.cert_words.specs.Choices.{Choice, Chosen, lead_of}
-pub use Rattle.cert_words.specs.Walks.{Run, IsStuckAt, Reads, AreWithoutStates, Walks, left_at, RefusesAt, BeginsAnew, HasNoStates, IsStuckBehind, IsStopped, ReadsOn}
+pub use Rattle.cert_words.specs.Walks.{Reads, Run, IsStuckAt, Walks, AreWithoutStates, left_at, RefusesAt, BeginsAnew, HasNoStates, IsStuckBehind, IsStopped, ReadsOn}
 pub use Rattle.cert_words.specs.Words.{told}
 pub use Rattle.cert_words.specs.declared.error.CertError.{CertError}
 pub use Rattle.cert_words.specs.declared.reading.Reading.{Reading}

@@ -3,7 +3,7 @@ use Rattle.cert_reading.proofs.Prelude.{inl, inr, codes, ◌≡◌, ◌≤◌, �
 use Rattle.cert_reading.proofs.Prelude.{CertificateCause, Naming, Mark, Item, between, line, pairs_from, Version, Shared, CertError, Reading, told, left_at, Walks, Run, IsStuckAt}
 use Rattle.cert_reading.proofs.Prelude.{IsStuckBehind, IsStopped, ReadsOn, Reads, walks_then, walks_shorter, stops_then, goes_as, goes_then, goes_open, not_both, run_then, framed_run}
 use Rattle.cert_reading.proofs.Prelude.{as_run, front_then, open_before, read_run, Place, IsStoppedWhere, ReadsOnWhere, ReadsWhere, Anywhere, lowest, IsBehind, AreBehind, WithinOpening}
-use Rattle.cert_reading.proofs.Prelude.{WithinEntry}
+use Rattle.cert_reading.proofs.Prelude.{WithinEntry, is_some, Bool, true, some_now, framed, then_reads, already}
 
 module _ (P : Place) (names : NameTable) (end : ℕ) where
   -- with nothing behind
@@ -110,6 +110,24 @@ pub open_before_where : {P : Place} {names : NameTable} {end : ℕ} {from to : L
     → t.refused ≡ None → s.refused ≡ None
 open_before_where {P} {names} {end} {from} {to} {f} {s} {t} x e =
     goes_open (Run names end from f to s.left.now t.left.now s.shares t.shares) (IsStoppedWhere P names end from s.left.now s.shares) s.refused t.refused e x.on
+
+-- where the code has found that the text is refused
+pub refused_reads : {names : NameTable} {end : ℕ} {from to other : List Item} {f g : Naming → List Mark} {s t : Reading} {b : Bool} → b ≡ is_some t.refused → b ≡ true
+    → Reads names end from f to s t → Reads names end from g other s t
+refused_reads e q x = let r = some_now e q in already r.0 r.1 x
+
+pub refused_where : {P : Place} {names : NameTable} {end : ℕ} {from to other : List Item} {f g : Naming → List Mark} {s t : Reading} {b : Bool} → b ≡ is_some t.refused → b ≡ true
+    → ReadsWhere P names end from f to s t → ReadsWhere P names end from g other s t
+refused_where e q x = let r = some_now e q in already_where r.0 r.1 x
+
+-- what is read at the front of items, and what is read behind it
+pub at_front : {names : NameTable} {end : ℕ} {i : Item} {more to : List Item} {f : Naming → List Mark} {s t : Reading} → Reads names end (i ∷ []) f to s t
+    → Reads names end (i ∷ more) f (to ++ more) s t
+at_front {more = more} x = framed more x
+
+pub read_on : {names : NameTable} {end : ℕ} {i : Item} {more to after : List Item} {f g : Naming → List Mark} {s t u : Reading} → Reads names end (i ∷ []) f to s t
+    → Reads names end (to ++ more) g after t u → Reads names end (i ∷ more) (λ v. f v ++ g v) after s u
+read_on x y = then_reads (at_front x) y
 
 -- a word
 pub word_where : {P : Place} {names : NameTable} {end : ℕ} {i : Item} {to : List Item} {f : Naming → List Mark} {s t : Reading} → ((t.refused ≡ None → ⊥) → P (i ∷ []) s.left.now)

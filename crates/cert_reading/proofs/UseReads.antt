@@ -2,7 +2,7 @@
 use Rattle.cert_reading.proofs.Prelude.{◌≡◌, ◌≤◌, ◌-◌, ℕ, List, [], ◌∷◌, ◌++◌, length, codes, slice_get, Some, None, sym, ap, ◌∙◌, arith, Automaton, NameTable, name_of, Version}
 use Rattle.cert_reading.proofs.Prelude.{first_version, second_version, Naming, Mark, fixed, demands_of, use_mark, texts_of, number_in, AllNew, Shared, Item, texts_length, pick, pick_number}
 use Rattle.cert_reading.proofs.Prelude.{IsStill, places_still, Counts, counts_still, counts_both, counts_put, counts_use, pick_stands, Reading, left_at, Run, Reads, read_run, open_before}
-use Rattle.cert_reading.proofs.Prelude.{walks_shorter, IsKnown, line_marks, AreShared, Place, ReadsWhere}
+use Rattle.cert_reading.proofs.Prelude.{walks_shorter, IsKnown, line_marks, AreShared, Place, ReadsWhere, AreStill}
 use Rattle.cert_reading.proofs.Stopping.{open_before_where, ran}
 use Rattle.rewriting.proofs.Once.{same_some}
 
@@ -33,6 +33,15 @@ known_where first_version all x ns c h = tt
 known_where {P} {names} {end} {from} {to} {f} {s} {t} second_version all x ns c h = λ none.
     known_on names end from to f s.left.now t.left.now s.shares t.shares all ns c (h (open_before_where x none))
     (ran (open_before_where x none) none x)
+
+-- the same of marks that ask nothing of shared automata
+pub known_still : {names : NameTable} {end : ℕ} {from to : List Item} {f : Naming → List Mark} {s t : Reading} (v : Version) (all : List Automaton) → Reads names end from f to s t
+    → AreStill (f (name_of names)) → AreShared v names all end s → AreShared v names all end t
+known_still {names} {f = f} v all x still h = known_behind v all x [] (counts_still (f (name_of names)) still) h
+
+pub still_where : {P : Place} {names : NameTable} {end : ℕ} {from to : List Item} {f : Naming → List Mark} {s t : Reading} (v : Version) (all : List Automaton)
+    → ReadsWhere P names end from f to s t → AreStill (f (name_of names)) → AreShared v names all end s → AreShared v names all end t
+still_where {names = names} {f = f} v all x still h = known_where v all x [] (counts_still (f (name_of names)) still) h
 
 -- the front of a line of overlaps or redexes uses no automaton
 pub front_counts : (m : Mark) (first : ℕ) (p : List ℕ) (second : ℕ) → IsStill (demands_of m) → Counts (m ∷ line_marks first p second) []

@@ -1,4 +1,4 @@
-use Rattle.cert_reading.proofs.Lemmas.{begun, begun_push, begun_closed}
+use Rattle.cert_reading.proofs.Lemmas.{length_grown, begun, begun_push, begun_closed}
 use Rattle.cert_reading.proofs.Prelude.{◌≡◌, ◌<◌, ◌+◌, None, ◌∙◌, suc, refl, sym, ap, length, List, ℕ, [], ◌∷◌, ◌++◌, codes, arith, length_push, name_of, is_number, has_arity, fixed, behind}
 use Rattle.cert_reading.proofs.Prelude.{states_marks, space, between, states_behind, argument_state, further_states, head_closed, arity_at, first_pushed, then_reads, as_reads, as_marks}
 use Rattle.cert_reading.proofs.Prelude.{open_before, arity_met}
@@ -11,8 +11,8 @@ arguments-init c =
     let one : c.put.new.at.refused ≡ None → c.put.new.list.items ≡ c.number-first.result ∷ [] = λ none. first_pushed _ _ c.number-first.result c.new-args.ensures.items (c.put.ensures.grown none) in
     record {
       read = as_reads (λ none. (ap (λ (qs : List ℕ). further_states c.args.states name (length qs) ∷ []) (sym (one none)), λ u. ap (begun c.args.states) (sym (one none))))
-          (then_reads (c.opened.ensures.opened c.if-not-opened.false names c.args.f 0 (states_behind c.args.states name) (argument_state c.args.states name 1 ∷ []) (between space ∷ []) refl)
-          (then_reads (c.number-first.ensures.read names (argument_state c.args.states name 1) (λ q. further_states c.args.states name 1 ∷ []) refl)
+          (then_reads (c.opened.ensures.opened c.if-not-opened.false names c.args.f 0 (states_behind c.args.states name) _ _ refl)
+          (then_reads (c.number-first.ensures.read names _ _ refl)
           (c.put.ensures.read names c.args.end (further_states c.args.states name 1 ∷ []))));
       some = λ none. let e = ap length (one none) in omega (arith, e);
     }
@@ -23,16 +23,15 @@ arguments-preserved c =
     let name = name_of names c.args.f in
     let k = length c.arguments.args.items in
     let there =
-    then_reads (c.either.ensures.one c.arguments-test.true names (further_states c.args.states name k) (argument_state c.args.states name (suc k) ∷ []) (head_closed name k ∷ []) refl)
-    (then_reads (c.number-next.ensures.read names (argument_state c.args.states name (suc k)) (λ q. further_states c.args.states name (suc k) ∷ []) refl)
+    then_reads (c.either.ensures.one c.arguments-test.true names (further_states c.args.states name k) _ _ refl)
+    (then_reads (c.number-next.ensures.read names _ _ refl)
     (c.put-in-arguments.ensures.read names c.args.end (further_states c.args.states name (suc k) ∷ []))) in
-    let more : c.put-in-arguments.new.at.refused ≡ None → length c.put-in-arguments.new.list.items ≡ k + 1 = λ none. ap length (c.put-in-arguments.ensures.grown none)
-    ∙ length_push c.arguments.args.items c.number-next.result in
+    let more : c.put-in-arguments.new.at.refused ≡ None → length c.put-in-arguments.new.list.items ≡ k + 1 = λ none. length_grown c.arguments.args.items c.number-next.result (c.put-in-arguments.ensures.grown none) in
     let some : c.put-in-arguments.new.at.refused ≡ None → 0 < k = λ none. c.arguments.invariant.some (open_before there none) in
     record {
       read = as_reads (λ none. (
         let e = more none in let n : suc k ≡ length c.put-in-arguments.new.list.items = omega (arith, e) in ap (λ (m : ℕ). further_states c.args.states name m ∷ []) n,
-        λ u. begun_push c.args.states c.arguments.args.items c.number-next.result (some none) ∙ ap (begun c.args.states) (sym (c.put-in-arguments.ensures.grown none)),
+        λ u. cc (begun_push c.args.states c.arguments.args.items c.number-next.result (some none), c.put-in-arguments.ensures.grown none),
       ))
           (then_reads c.arguments.invariant.read there);
       some = λ none. let e = more none in omega (arith, e);
@@ -48,8 +47,8 @@ returns c =
     let met = arity_met names f k c.has_so_many-2.result c.requires
     (c.has_so_many-2.ensures ∙ ap (λ (n : ℕ). is_number n (arity_at names f)) (let ok = c.arguments.args.ok.0 in let counted = c.len.ensures in omega (arith, ok, counted))) in
     let there =
-    then_reads (c.either.ensures.other c.arguments-test.false names (further_states b name k) (argument_state b name (suc k) ∷ []) (head_closed name k ∷ []) refl)
-    (then_reads (c.checked.ensures names f k (head_closed name k) (between space ∷ []) refl met) (c.text-2.ensures.read names (between space) [] refl)) in
+    then_reads (c.either.ensures.other c.arguments-test.false names (further_states b name k) _ _ refl)
+    (then_reads (c.checked.ensures names f k _ _ refl met) (c.text-2.ensures.read names _ _ refl)) in
     as_marks (λ none u. begun_closed b c.arguments.args.items (behind (has_arity (u f) k) ∷ fixed (codes " ") ∷ []) (c.arguments.invariant.some (open_before there none)))
     (then_reads c.arguments.invariant.read there)
 
@@ -60,6 +59,6 @@ returns-then-not-opened c =
     let name = name_of names f in
     let b = c.args.states in
     as_marks (λ none u. ap (λ (qs : List ℕ). states_marks b qs ++ (behind (has_arity (u f) (length qs)) ∷ fixed (codes " ") ∷ [])) (sym c.new-args.ensures.items))
-    (then_reads (c.opened.ensures.none c.if-not-opened.true names f 0 (states_behind b name) (argument_state b name 1 ∷ []) (between space ∷ []) refl
+    (then_reads (c.opened.ensures.none c.if-not-opened.true names f 0 _ _ _ refl
     (arity_met names f 0 c.has_so_many.result c.requires c.has_so_many.ensures))
-    (c.text.ensures.read names (between space) [] refl))
+    (c.text.ensures.read names _ _ refl))

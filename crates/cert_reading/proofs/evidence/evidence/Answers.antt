@@ -1,61 +1,56 @@
-use Rattle.cert_reading.proofs.Lemmas.{past, known_behind}
-use Rattle.cert_reading.proofs.Prelude.{[], ◌∷◌, codes, refl, arith, fixed, number, space, line, between, any_number, derivations_left, evidence, counts_still, then_reads, framed}
-use Rattle.cert_reading.proofs.Prelude.{version_by, automata_by, use_between, use_item}
+use Rattle.cert_reading.proofs.Lemmas.{past, read_on, known_still}
+use Rattle.cert_reading.proofs.Prelude.{[], ◌∷◌, refl, arith, number, any_number, then_reads, evidence, use_between, use_item, framed, version_by, automata_by}
 use Rattle.cert_reading.proofs.EvidenceKinds.{kinds, are_kinds}
 use Rattle.cert_reading.proofs.evidence.evidence.Goals as goal
 
 pub returns-in-0-clause-read : goal.returns-in-0-clause-read
 returns-in-0-clause-read c =
+    let names = c.args.names.now in
     let v = version_by c.args.uses in
-    rw c.in-0.is at (c.choose.ensures.chosen c.args.names.now (evidence v) (kinds v) (are_kinds v) refl)
+    rw c.in-0.is at (c.choose.ensures.chosen names (evidence v) (kinds v) (are_kinds v) refl)
 
 pub returns-in-1-clause-read : goal.returns-in-1-clause-read
 returns-in-1-clause-read c =
     let names = c.args.names.now in
     let v = version_by c.args.uses in
-    then_reads (rw c.in-1.is at (c.choose.ensures.chosen names (evidence v) (kinds v) (are_kinds v) refl))
-    (then_reads (framed (any_number line ∷ []) (c.number-inner.ensures.read names (any_number space) (λ k. between space ∷ []) refl))
-    (then_reads (framed (any_number line ∷ []) (c.text.ensures.read names (between space) [] refl))
-    (then_reads (c.number-outer.ensures.read names (any_number line) (λ k. between line ∷ []) refl) (c.text-in-1.ensures.read names (between line) [] refl))))
+    then_reads (rw c.in-1.is at (c.choose.ensures.chosen names (evidence v) (kinds v) (are_kinds v) refl)) (read_on (c.number-inner.ensures.read names _ _ refl)
+    (read_on (c.text.ensures.read names _ _ refl) (read_on (c.number-outer.ensures.read names _ _ refl) (c.text-in-1.ensures.read names _ _ refl))))
 
 pub returns-in-2-clause-read : goal.returns-in-2-clause-read
 returns-in-2-clause-read c =
     let names = c.args.names.now in
     let v = version_by c.args.uses in
-    then_reads (rw c.in-2.is at (c.choose.ensures.chosen names (evidence v) (kinds v) (are_kinds v) refl))
-    (then_reads (framed (derivations_left 1 0 ∷ []) (c.derivation-left.ensures names 0)) (c.derivation-right.ensures names 0))
+    then_reads (rw c.in-2.is at (c.choose.ensures.chosen names (evidence v) (kinds v) (are_kinds v) refl)) (read_on (c.derivation-left.ensures names 0) (c.derivation-right.ensures names 0))
 
 pub returns-in-3-clause-read : goal.returns-in-3-clause-read
 returns-in-3-clause-read c =
     let names = c.args.names.now in
     let v = version_by c.args.uses in
-    then_reads (rw c.in-3.is at (c.choose.ensures.chosen names (evidence v) (kinds v) (are_kinds v) refl))
-    (then_reads (framed (derivations_left 1 0 ∷ derivations_left 1 0 ∷ []) (c.number-cond.ensures.read names (any_number line) (λ k. between line ∷ []) refl))
-    (then_reads (framed (derivations_left 1 0 ∷ derivations_left 1 0 ∷ []) (c.text-in-3.ensures.read names (between line) [] refl))
-    (then_reads (framed (derivations_left 1 0 ∷ []) (c.derivation-first.ensures names 0)) (c.derivation-second.ensures names 0))))
+    then_reads (rw c.in-3.is at (c.choose.ensures.chosen names (evidence v) (kinds v) (are_kinds v) refl)) (read_on (c.number-cond.ensures.read names _ _ refl)
+    (read_on (c.text-in-3.ensures.read names _ _ refl) (read_on (c.derivation-first.ensures names 0) (c.derivation-second.ensures names 0))))
 
 pub returns-in-4-clause-read : goal.returns-in-4-clause-read
 returns-in-4-clause-read c =
+    let names = c.args.names.now in
     let v = version_by c.args.uses in
-    rw c.in-4.is at (c.choose.ensures.chosen c.args.names.now (evidence v) (kinds v) (are_kinds v) refl)
+    rw c.in-4.is at (c.choose.ensures.chosen names (evidence v) (kinds v) (are_kinds v) refl)
 
 pub used_automaton-automaton-requires : goal.used_automaton-automaton-requires
 used_automaton-automaton-requires c =
     let names = c.args.names.now in
     let v = version_by c.args.uses in
-    let front = then_reads (rw c.in-5.is at (c.choose.ensures.chosen names (evidence v) (kinds v) (are_kinds v) refl))
-    (framed (use_item v ∷ []) (c.number-cond-in-5.ensures.read names (any_number (use_between v)) (λ k. between (use_between v) ∷ []) refl)) in
-    known_behind v (automata_by c.args.uses) front [] (counts_still (fixed (codes "auto ") ∷ number c.number-cond-in-5.result ∷ []) (tt, (tt, tt))) c.requires
+    let number = c.number-cond-in-5.ensures.read names (any_number (use_between v)) _ refl in
+    known_still v (automata_by c.args.uses) (then_reads (rw c.in-5.is at (c.choose.ensures.chosen names (evidence v) (kinds v) (are_kinds v) refl)) (framed (use_item v ∷ []) number)) (tt, (tt, tt)) c.requires
 
 pub returns-in-5-clause-read : goal.returns-in-5-clause-read
 returns-in-5-clause-read c =
     let names = c.args.names.now in
     let v = version_by c.args.uses in
-    then_reads (rw c.in-5.is at (c.choose.ensures.chosen names (evidence v) (kinds v) (are_kinds v) refl))
-    (then_reads (framed (use_item v ∷ []) (c.number-cond-in-5.ensures.read names (any_number (use_between v)) (λ k. between (use_between v) ∷ []) refl)) c.used_automaton-automaton.ensures.read)
+    then_reads (rw c.in-5.is at (c.choose.ensures.chosen names (evidence v) (kinds v) (are_kinds v) refl)) (read_on (c.number-cond-in-5.ensures.read names _ _ refl)
+    c.used_automaton-automaton.ensures.read)
 
 pub returns-in_default-clause-read : goal.returns-in_default-clause-read
 returns-in_default-clause-read c =
+    let names = c.args.names.now in
     let v = version_by c.args.uses in
-    past c.args.names.now c.args.end (evidence v) (kinds v) _ _ _ _ _ (let other = c.in_default in omega (arith, other))
-    (c.choose.ensures.chosen c.args.names.now (evidence v) (kinds v) (are_kinds v) refl)
+    past names c.args.end (evidence v) (kinds v) _ _ _ _ _ (let other = c.in_default in omega (arith, other)) (c.choose.ensures.chosen names (evidence v) (kinds v) (are_kinds v) refl)

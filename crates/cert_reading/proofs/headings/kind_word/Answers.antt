@@ -1,8 +1,5 @@
-use Rattle.cert_words.proofs.Walking.{front_same, stopped}
-use Rattle.cert_words.proofs.Stepping.{stuck_stops}
-use Rattle.cert_words.specs.Words.{told}
 use Rattle.cert_reading.proofs.Lemmas.{word_where, other_place}
-use Rattle.cert_reading.proofs.Prelude.{refl, ap, leads, body, Shared, none_now, stuck_among}
+use Rattle.cert_reading.proofs.Prelude.{front_same, stopped, stuck_stops, told, refl, ap, leads, body, Shared, none_now, stuck_among}
 use Rattle.cert_reading.proofs.headings.kind_word.Goals as goal
 
 pub kind_there-requires : goal.kind_there-requires

@@ -1,9 +1,6 @@
-use Rattle.cert_words.proofs.Walking.{front_same, stopped}
-use Rattle.cert_words.proofs.Stepping.{stuck_stops}
-use Rattle.cert_words.specs.Words.{told}
 use Rattle.cert_reading.proofs.Lemmas.{word_where, other_place, none_refused}
-use Rattle.cert_reading.proofs.Prelude.{◌≡◌, ◌∙◌, ℕ, List, [], ◌∷◌, false, codes, refl, ap, second_version, Item, Lead, leads, simplified, simplification_count, text, body, is_there}
-use Rattle.cert_reading.proofs.Prelude.{first_there, Shared, none_now, one, text_run, stuck_among, go}
+use Rattle.cert_reading.proofs.Prelude.{front_same, stopped, stuck_stops, told, ◌≡◌, ◌∙◌, ℕ, List, [], ◌∷◌, false, codes, refl, ap, second_version, Item, Lead, leads, simplified}
+use Rattle.cert_reading.proofs.Prelude.{simplification_count, text, body, is_there, first_there, Shared, none_now, one, text_run, stuck_among, go}
 use Rattle.cert_reading.proofs.headings.simplified_word.Goals as goal
 
 -- the first lead is not there

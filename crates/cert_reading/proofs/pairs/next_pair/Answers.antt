@@ -9,15 +9,11 @@ pub returns-then-not-counted_or-clause-last : goal.returns-then-not-counted_or-c
 returns-then-not-counted_or-clause-last c =
     let n = c.args.n in
     let v = version_by c.args.uses in
-    let line = line_items ++ (evidence v ∷ pairs_from v (suc n) ∷ []) in
     let names = c.args.names.now in
     let ends = Items.line in
-    then_where (word_where (λ s. first_entry v n c.args.at.now.left.now c.args.at.now.left.now)
-    (λ none. c.counted_or.ensures.here none names (pairs_from v n) line (between ends ∷ []) refl)
-    (c.counted_or.ensures.other c.if-not-counted_or.true names (pairs_from v n) line (between ends ∷ []) refl))
-    (word_behind (λ going. line_entry v n c.args.at.now.left.now c.counted_or.new.at.left.now
-    (c.counted_or.ensures.text c.if-not-counted_or.true (open_before (c.counted_or.ensures.other c.if-not-counted_or.true names (pairs_from v n) line (between ends ∷ []) refl)
-    going) going)) (λ none. c.choose.ensures.here none names (between ends) (line_end ∷ []) refl refl)
+    let last = c.counted_or.ensures.other c.if-not-counted_or.true names (pairs_from v n) _ _ refl in
+    then_where (word_where (λ s. first_entry v n c.args.at.now.left.now c.args.at.now.left.now) (λ none. c.counted_or.ensures.here none names (pairs_from v n) _ _ refl) last)
+    (word_behind (λ going. line_entry v n c.args.at.now.left.now c.counted_or.new.at.left.now (c.counted_or.ensures.text c.if-not-counted_or.true (open_before last going) going)) (λ none. c.choose.ensures.here none names (between ends) (line_end ∷ []) refl refl)
     (one_choice names c.args.end (between ends) line_end _ _ _ (c.choose.ensures.chosen names (between ends) (line_end ∷ []) refl refl)))
 
 pub evidence-evidence-requires : goal.evidence-evidence-requires
@@ -26,10 +22,8 @@ evidence-evidence-requires c =
     let n = c.args.n in
     let v = version_by c.args.uses in
     let numbers = c.between_numbers-inner.result in
-    let rest = evidence v ∷ pairs_from v (suc n) ∷ [] in
-    known_behind v (automata_by c.args.uses)
-    (then_reads (c.counted_or.ensures.word c.if-not-counted_or.false names (pairs_from v n) (line_items ++ rest) (between Items.line ∷ []) refl)
-    (framed rest (c.between_numbers-inner.ensures names))) []
+    known_behind v (automata_by c.args.uses) (then_reads (c.counted_or.ensures.word c.if-not-counted_or.false names (pairs_from v n) _ _ refl)
+    (framed (evidence v ∷ pairs_from v (suc n) ∷ []) (c.between_numbers-inner.ensures names))) []
     (front_counts (word (codes "pair") (is_few pairs n ∷ [])) numbers.0 numbers.1.items numbers.2 tt) c.requires
 
 pub returns-clause-pair : goal.returns-clause-pair
@@ -37,11 +31,9 @@ returns-clause-pair c =
     let names = c.args.names.now in
     let n = c.args.n in
     let v = version_by c.args.uses in
-    let line = line_items ++ (evidence v ∷ pairs_from v (suc n) ∷ []) in
     as_marks_where (λ none u. sym (append-nil _))
-    (then_where (word_where (λ s. first_entry v n c.args.at.now.left.now c.args.at.now.left.now)
-    (λ none. c.counted_or.ensures.here none names (pairs_from v n) line (between Items.line ∷ []) refl)
-    (c.counted_or.ensures.word c.if-not-counted_or.false names (pairs_from v n) line (between Items.line ∷ []) refl))
+    (then_where (word_where (λ s. first_entry v n c.args.at.now.left.now c.args.at.now.left.now) (λ none. c.counted_or.ensures.here none names (pairs_from v n) _ _ refl)
+    (c.counted_or.ensures.word c.if-not-counted_or.false names (pairs_from v n) _ _ refl))
     (low_where (pairs_from v (suc n)) (low_entry v n c.args.at.now.left.now (pairs_from v (suc n)) (pair_later v (suc n) (suc n) (omega arith)))
     (then_reads (framed (evidence v ∷ []) (c.between_numbers-inner.ensures names)) c.evidence-evidence.ensures.read)))
 

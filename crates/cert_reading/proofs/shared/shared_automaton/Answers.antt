@@ -1,4 +1,4 @@
-use Rattle.cert_reading.proofs.Lemmas.{then_where, already_where, word_where, low_where, sealed_where, other_place, other_below}
+use Rattle.cert_reading.proofs.Lemmas.{other_word, refused_where, then_where, already_where, word_where, low_where, sealed_where, other_place, other_below}
 use Rattle.cert_reading.proofs.Prelude.{[], ◌∷◌, refl, automaton_view, name_of, automaton_marks, space, between, state_count, automata_left, automaton_end, behind_automata, then_reads}
 use Rattle.cert_reading.proofs.Prelude.{framed, none_now, some_now}
 use Rattle.cert_reading.proofs.AutomataMarks.{automaton_anew}
@@ -10,7 +10,7 @@ returns-clause-read c = λ more given.
     let a = automaton_view c.behind_word-automaton.result in
     let anew = automaton_anew (name_of names) a in
     let none = none_now c.is_some.ensures c.if-is_some.false in
-    let read = then_reads (c.begins.ensures.read names (automata_left more given) (between space ∷ state_count ∷ automaton_end more given ∷ []) refl)
+    let read = then_reads (c.begins.ensures.read names (automata_left more given) _ refl)
     (framed (automaton_end more given ∷ []) c.behind_word-automaton.ensures.read) in
     sealed_where {f = λ u. automaton_marks u a} (other_place (automaton_end more given) _ tt) none
     (c.ended.ensures.here none names (automata_left more given ∷ []) (λ u. automaton_marks u a) (automaton_end more given) (behind_automata more given ∷ []) c.args.at.now refl anew refl read) read
@@ -19,11 +19,8 @@ returns-clause-read c = λ more given.
 pub returns-then-is_some-clause-read : goal.returns-then-is_some-clause-read
 returns-then-is_some-clause-read c = λ more given.
     let names = c.args.names.now in
-    let new = between space ∷ state_count ∷ automaton_end more given ∷ [] in
-    let e = some_now c.is_some.ensures c.if-is_some.true in
-    already_where e.0 e.1
-    (then_where (word_where (λ x. other_place (automata_left more given) _ tt) (λ none. c.begins.ensures.here none names (automata_left more given) new refl)
-    (c.begins.ensures.read names (automata_left more given) new refl))
+    refused_where c.is_some.ensures c.if-is_some.true
+    (then_where (other_word tt (λ none. c.begins.ensures.here none names (automata_left more given) _ refl) (c.begins.ensures.read names (automata_left more given) _ refl))
     (low_where (automaton_end more given) (other_below (automaton_end more given) tt) c.behind_word-automaton.ensures.read))
 
 pub returns-clause-plain : goal.returns-clause-plain

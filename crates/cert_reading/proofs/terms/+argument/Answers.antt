@@ -20,36 +20,28 @@ argument-returns-in-Variable-clause-read t c = λ g fs e.
     let comma = c.either-comma.result in
     let i = term_behind (n + 1) (g ∷ fs) in
     as_marks (λ none u. ap (λ (x : Term). term_marks u c.args.depth n x ++ (argument_end comma ∷ [])) (sym (view-Var c.in-Variable.x)))
-    (then_reads (c.in-Variable.ensures.read (node n (g ∷ fs)) (λ name. name_behind (n + 1) name (g ∷ fs) ∷ []) (i ∷ []) (node_leads n c.args.depth g fs e))
-    (either_end comma (n + 1) g fs
-    (λ q. c.either-comma.ensures.one q names i (node (n + 1) (with_next g ∷ fs) ∷ []) (term_closed (n + 1) g.name g.argument fs ∷ []) refl)
-    (λ q. c.either-comma.ensures.other q names i (node (n + 1) (with_next g ∷ fs) ∷ []) (term_closed (n + 1) g.name g.argument fs ∷ []) refl)))
+    (then_reads (c.in-Variable.ensures.read (node n (g ∷ fs)) _ _ (node_leads n c.args.depth g fs e))
+    (either_end comma (n + 1) g fs (λ q. c.either-comma.ensures.one q names i _ _ refl) (λ q. c.either-comma.ensures.other q names i _ _ refl)))
 
 pub argument-returns-in-Comma-clause-read : goal.argument-returns-in-Comma-clause-read
 argument-returns-in-Comma-clause-read t c = λ g fs e.
     let names = c.args.names.now in
     let n = c.args.n in
     let f = c.in-Symbol.f in
-    let name = name_of names f in
     let found = c.in-Symbol.ensures.found (none_now c.is_some.ensures c.if-is_some.false) in
     symbol_alone c.args.depth n f _ (fixed (codes ",")) (view-Fun f c.new.result ∙ ap (λ l. app f (views l)) c.new.ensures.items)
-    (c.in-Symbol.ensures.read (node n (g ∷ fs)) (λ w. name_behind (n + 1) w (g ∷ fs) ∷ []) (term_behind (n + 1) (g ∷ fs) ∷ []) (node_leads n c.args.depth g fs e))
-    (then_reads (c.in-Comma.ensures.comma refl names f 0 (name_behind (n + 1) name (g ∷ fs)) (node (n + 1) (record { name = name; argument = 1 } ∷ g ∷ fs) ∷ [])
-    (next_argument (n + 1) g fs ∷ []) (symbol_end (n + 1) g fs ∷ []) refl (arity_met names f 0 c.has_so_many.result found c.has_so_many.ensures))
-    (c.text.ensures.read names (next_argument (n + 1) g fs) (node (n + 1) (with_next g ∷ fs) ∷ []) refl))
+    (c.in-Symbol.ensures.read (node n (g ∷ fs)) _ _ (node_leads n c.args.depth g fs e))
+    (then_reads (c.in-Comma.ensures.comma refl names f 0 _ _ _ _ refl (arity_met names f 0 c.has_so_many.result found c.has_so_many.ensures)) (c.text.ensures.read names _ _ refl))
 
 pub argument-returns-in-Close-clause-read : goal.argument-returns-in-Close-clause-read
 argument-returns-in-Close-clause-read t c = λ g fs e.
     let names = c.args.names.now in
     let n = c.args.n in
     let f = c.in-Symbol.f in
-    let name = name_of names f in
     let found = c.in-Symbol.ensures.found (none_now c.is_some.ensures c.if-is_some.false) in
     symbol_alone c.args.depth n f _ (fixed (codes ")")) (view-Fun f c.new-in-Close.result ∙ ap (λ l. app f (views l)) c.new-in-Close.ensures.items)
-    (c.in-Symbol.ensures.read (node n (g ∷ fs)) (λ w. name_behind (n + 1) w (g ∷ fs) ∷ []) (term_behind (n + 1) (g ∷ fs) ∷ []) (node_leads n c.args.depth g fs e))
-    (then_reads (c.in-Close.ensures.close refl names f 0 (name_behind (n + 1) name (g ∷ fs)) (node (n + 1) (record { name = name; argument = 1 } ∷ g ∷ fs) ∷ [])
-    (next_argument (n + 1) g fs ∷ []) (symbol_end (n + 1) g fs ∷ []) refl (arity_met names f 0 c.has_so_many.result found c.has_so_many.ensures))
-    (c.text-in-Close.ensures.read names (symbol_end (n + 1) g fs) (term_closed (n + 1) g.name g.argument fs ∷ []) refl))
+    (c.in-Symbol.ensures.read (node n (g ∷ fs)) _ _ (node_leads n c.args.depth g fs e))
+    (then_reads (c.in-Close.ensures.close refl names f 0 _ _ _ _ refl (arity_met names f 0 c.has_so_many.result found c.has_so_many.ensures)) (c.text-in-Close.ensures.read names _ _ refl))
 
 pub argument-returns-in-Open-clause-read : goal.argument-returns-in-Open-clause-read
 argument-returns-in-Open-clause-read t c = λ g fs e.
@@ -64,9 +56,8 @@ argument-returns-in-Open-clause-read t c = λ g fs e.
     let met = arity_met names f k c.has_so_many-in-Open.result found (c.has_so_many-in-Open.ensures ∙ ap (λ (m : ℕ). is_number m (arity_at names f)) many) in
     let deeper : suc (suc (length (g ∷ fs))) ≡ c.args.depth + 1 = omega (arith, e) in
     symbol_read c.args.depth n f k (map view args.items) _ (argument_end c.argument_closed-comma.result) (view-Fun f args) (sym (length-map args.items view))
-    (c.in-Symbol.ensures.read (node n (g ∷ fs)) (λ w. name_behind (n + 1) w (g ∷ fs) ∷ []) (term_behind (n + 1) (g ∷ fs) ∷ []) (node_leads n c.args.depth g fs e))
-    (c.in-Open.ensures.opened refl names f 0 (name_behind (n + 1) name (g ∷ fs)) (node (n + 1) (record { name = name; argument = 1 } ∷ g ∷ fs) ∷ [])
-    (next_argument (n + 1) g fs ∷ []) (symbol_end (n + 1) g fs ∷ []) refl)
+    (c.in-Symbol.ensures.read (node n (g ∷ fs)) _ _ (node_leads n c.args.depth g fs e))
+    (c.in-Open.ensures.opened refl names f 0 _ _ _ _ refl)
     (c.arguments-args.ensures.read name (g ∷ fs) deeper) c.arguments-args.ensures.some (c.argument_closed-comma.ensures names f k c.arguments-args.result.1 g fs met)
 
 pub argument-returns-in-Open-clause-counted : goal.argument-returns-in-Open-clause-counted

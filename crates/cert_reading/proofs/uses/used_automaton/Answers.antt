@@ -1,11 +1,11 @@
-use Rattle.cert_reading.proofs.Lemmas.{UseFacts, use_facts, number_there, use_line}
+use Rattle.cert_reading.proofs.Lemmas.{read_on, UseFacts, use_facts, number_there, use_line}
 use Rattle.cert_reading.proofs.Prelude.{◌≡◌, ◌≤◌, ◌-◌, ℕ, [], ◌∷◌, None, Some, slice_get, map, refl, sym, ap, subst, length-map, automaton_view, space, line, between, states_line}
 use Rattle.cert_reading.proofs.Prelude.{shared_use, then_reads, then_nothing, as_marks, framed}
 use Rattle.cert_reading.proofs.uses.used_automaton.Goals as goal
 
 pub returns-in-InFull-clause-read : goal.returns-in-InFull-clause-read
 returns-in-InFull-clause-read c =
-    rw c.in-InFull.is (then_reads (framed (states_line ∷ []) (c.text.ensures.read c.args.names.now (between line) [] refl)) c.automaton.ensures.read)
+    rw c.in-InFull.is (read_on (c.text.ensures.read c.args.names.now _ _ refl) c.automaton.ensures.read)
 
 pub returns-in-InFull-clause-plain : goal.returns-in-InFull-clause-plain
 returns-in-InFull-clause-plain c = λ none. rw c.in-InFull.is (c.automaton.ensures.plain none)
@@ -17,9 +17,8 @@ returns-in-ByNumber c =
     let all = map automaton_view c.in-ByNumber.automata.now in
     let a = automaton_view c.copied.result in
     let n = c.used-number.result in
-    let whole = then_reads (framed (shared_use ∷ []) (c.text-in-ByNumber.ensures.read names (between space) [] refl))
-    (then_reads (c.used-number.ensures.read names shared_use (λ m. between line ∷ []) refl)
-    (then_nothing (c.text-in-ByNumber-2.ensures.read names (between line) [] refl) (c.copied.ensures.read names c.args.end []))) in
+    let whole = then_reads (framed (shared_use ∷ []) (c.text-in-ByNumber.ensures.read names (between space) _ refl))
+    (then_reads (c.used-number.ensures.read names _ _ refl) (then_nothing (c.text-in-ByNumber-2.ensures.read names _ _ refl) (c.copied.ensures.read names c.args.end []))) in
     let facts : c.copied.new.at.refused ≡ None → UseFacts names all n = λ none. use_facts all n known none whole in
     let stands : c.copied.new.at.refused ≡ None → slice_get all (n - 1) ≡ Some a =
     λ none. c.copied.ensures.copied none (facts none).low (subst (λ (m : ℕ). n ≤ m) (length-map c.in-ByNumber.automata.now automaton_view) (facts none).high) in

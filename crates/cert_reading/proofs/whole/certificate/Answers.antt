@@ -1,4 +1,4 @@
-use Rattle.cert_reading.proofs.Lemmas.{then_where, as_marks_where, anywhere, open_before_where, first_still, known_where}
+use Rattle.cert_reading.proofs.Lemmas.{still_where, then_where, as_marks_where, anywhere, open_before_where, first_still, known_where}
 use Rattle.cert_reading.proofs.Prelude.{map, Bool, [], ◌∷◌, ◌++◌, codes, refl, sym, ap, subst, append_assoc, automaton_view, certificate_view, first_version, second_version, in_full}
 use Rattle.cert_reading.proofs.Prelude.{by_number, number_in, fixed, answer_marks, body_marks, closing, opening, simplified, Shared, counts_still, behind_version, first_marks, shared_marks}
 use Rattle.cert_reading.proofs.Prelude.{IsPlainBy, ReadsWhere, BeforeEntries, Anywhere, AreShared}
@@ -26,7 +26,7 @@ second_body-requires c =
     let given = c.first_line-given.result.0 in
     let second = c.first_line-given.result.1 in
     let none : AreShared second_version names [] c.args.end c.args.at.now = λ x. (c.requires.within, (tt, ap (λ (s : Shared). s.texts) c.requires.fresh)) in
-    let fresh = known_where second_version [] (c.first_line-given.ensures names) [] (counts_still (first_marks given second) (first_still given second)) none in
+    let fresh = still_where second_version [] (c.first_line-given.ensures names) (first_still given second) none in
     subst (λ xs. AreShared second_version names (map automaton_view xs) c.args.end c.shared_automata-automata.new.at) (sym c.deref.ensures.value) (c.shared_automata-automata.ensures.known fresh)
 
 pub returns : goal.returns

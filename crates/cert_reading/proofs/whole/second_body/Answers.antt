@@ -1,4 +1,5 @@
-use Rattle.cert_reading.proofs.Lemmas.{then_where, then_nothing_where, as_marks_where, anywhere, reads_anywhere, open_before_where, kind_marks, kind_still, known_behind, known_where}
+use Rattle.cert_reading.proofs.Lemmas.{known_still, still_where, then_where, then_nothing_where, as_marks_where, anywhere, reads_anywhere, open_before_where, kind_marks, kind_still}
+use Rattle.cert_reading.proofs.Lemmas.{known_behind, known_where}
 use Rattle.cert_reading.proofs.Prelude.{◌∙◌, ℕ, suc, List, map, length, [], ◌∷◌, ◌++◌, codes, refl, sym, ap, subst, append_assoc, automaton_view, simp_view, certificate_view, largest}
 use Rattle.cert_reading.proofs.Prelude.{second_version, by_number, number_in, Mark, fixed, word, in_range, is_few, simplifications, simplifications_marks, body_marks, closing, between, line}
 use Rattle.cert_reading.proofs.Prelude.{simplification_count, simplifications_of, body, numeral, counts_still, then_reads, framed, open_before, kind_mark, IsPlainBy}
@@ -6,8 +7,7 @@ use Rattle.certificates.specs.Certificates as math
 use Rattle.cert_reading.proofs.whole.second_body.Goals as goal
 
 pub of_kind-requires : goal.of_kind-requires
-of_kind-requires c = known_where second_version (map automaton_view c.args.automata.now) (c.in-Some.ensures.kind c.args.names.now) []
-    (counts_still (kind_mark c.args.given c.in-Some.kind ∷ []) (kind_still c.args.given c.in-Some.kind)) c.requires
+of_kind-requires c = still_where second_version (map automaton_view c.args.automata.now) (c.in-Some.ensures.kind c.args.names.now) (kind_still c.args.given c.in-Some.kind) c.requires
 
 pub returns-in-Some-clause-read : goal.returns-in-Some-clause-read
 returns-in-Some-clause-read c =
@@ -21,10 +21,8 @@ all_simplifications-steps-requires c =
     let names = c.args.names.now in
     let all = map automaton_view c.args.automata.now in
     let n = c.counted_steps-count.result in
-    let first = known_where second_version all (c.in_default.ensures.steps names) [] (counts_still (fixed (codes "simplify ") ∷ []) (tt, tt)) c.requires in
-    let count = then_reads (c.counted_steps-count.ensures names simplification_count (λ k. between line ∷ simplifications_of k) refl)
-    (framed (simplifications_of n) (c.text.ensures.read names (between line) [] refl)) in
-    known_behind second_version all count [] (counts_still (word (numeral n) (in_range 0 1 (suc largest) n ∷ is_few simplifications n ∷ []) ∷ fixed (codes "\n") ∷ []) (tt, (tt, tt))) first
+    let count = then_reads (c.counted_steps-count.ensures names simplification_count _ refl) (framed (simplifications_of n) (c.text.ensures.read names (between line) _ refl)) in
+    known_still second_version all count (tt, (tt, tt)) (still_where second_version all (c.in_default.ensures.steps names) (tt, tt) c.requires)
 
 pub body-body-requires : goal.body-body-requires
 body-body-requires c = c.all_simplifications-steps.ensures.known
@@ -47,8 +45,8 @@ returns-clause-read c =
     (codes "\n") ∷ ms) (sym (append_assoc (simplifications_marks u w ss) (body_marks u w given d) closing))
     ∙ ap (λ (e : math.Certificate). body_marks u w given e ++ closing) (sym (c.behind_steps.ensures.steps none)))
     (then_where (anywhere (c.in_default.ensures.steps names))
-    (then_where (reads_anywhere (framed rest (then_reads (c.counted_steps-count.ensures names simplification_count (λ k. between line ∷ simplifications_of k) refl)
-    (framed (simplifications_of n) (c.text.ensures.read names (between line) [] refl)))))
+    (then_where (reads_anywhere (framed rest (then_reads (c.counted_steps-count.ensures names simplification_count _ refl)
+    (framed (simplifications_of n) (c.text.ensures.read names (between line) _ refl)))))
     (then_where (reads_anywhere (framed rest c.all_simplifications-steps.ensures.read))
     (then_nothing_where c.body-body.ensures.read (reads_anywhere (c.behind_steps.ensures.read names c.args.end []))))))
 
@@ -58,8 +56,7 @@ returns-clause-plain c = λ none.
     let was = open_before (c.behind_steps.ensures.read c.args.names.now c.args.end []) none in
     subst (IsPlainBy second_version all) (sym (c.behind_steps.ensures.steps none)) (
       c.body-body.ensures.unsimplified,
-      c.all_simplifications-steps.ensures.plain
-          (open_before_where c.body-body.ensures.read (open_before (c.behind_steps.ensures.read c.args.names.now c.args.end []) none)),
+      c.all_simplifications-steps.ensures.plain (open_before_where c.body-body.ensures.read was),
       c.body-body.ensures.plain was,
     )
 
