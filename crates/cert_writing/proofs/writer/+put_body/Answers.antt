@@ -23,6 +23,5 @@ returns-in-Simplified g t c =
     let ok = steps.ok.0 in
     let counted = c.len.ensures in
     let many : c.len.result ≡ length (map simp_view steps.items) = omega (arith, ok, counted, length-map steps.items simp_view) in
-    rw (c.in-Simplified.is, simplified_shown) (p _ _ _ _ _ c.put-in-Simplified.ensures (p _ _ _ _ _ (rw many at c.put_number.ensures)
-    (p _ _ _ _ _ c.put-in-Simplified-2.ensures
-    (p _ _ _ _ _ (rw c.deref-in-Simplified.ensures.value at c.put_steps.ensures) (rw c.deref-in-Simplified-2.ensures at c.put_body.ensures)))))
+    rw (c.in-Simplified.is, simplified_shown) (p _ _ _ _ _ (rw many at c.put_numbered.ensures) (p _ _ _ _ _ c.put-in-Simplified.ensures
+    (p _ _ _ _ _ (rw c.deref-in-Simplified.ensures.value at c.put_steps.ensures) (rw c.deref-in-Simplified-2.ensures at c.put_body.ensures))))

@@ -8,5 +8,5 @@ returns g c =
     let ok = transitions.ok.0 in
     let counted = c.len.ensures in
     let many : c.len.result ≡ length (map transition_view transitions.items) = omega (arith, ok, counted, length-map transitions.items transition_view) in
-    p _ _ _ _ _ c.put.ensures (p _ _ _ _ _ c.put_number.ensures (p _ _ _ _ _ c.put-2.ensures (p _ _ _ _ _ (rw c.deref.ensures.value at c.put_numbers.ensures)
-    (p _ _ _ _ _ c.put-3.ensures (p _ _ _ _ _ (rw many at c.put_number-2.ensures) (p _ _ _ _ _ c.put-4.ensures (rw c.deref-2.ensures.value at c.put_transitions.ensures)))))))
+    p _ _ _ _ _ c.put_numbered.ensures (p _ _ _ _ _ c.put.ensures (p _ _ _ _ _ (rw c.deref.ensures.value at c.put_numbers.ensures)
+    (p _ _ _ _ _ (rw many at c.put_numbered-2.ensures) (p _ _ _ _ _ c.put-2.ensures (rw c.deref-2.ensures.value at c.put_transitions.ensures)))))
