@@ -1,5 +1,5 @@
 //! Whether evidence and overlaps can be spelt: the numbers of states, the heads of transitions, the derivations.
-ghost use Rattle.std.specs.Prelude.{◌↔◌, ◌∷◌, [], IsTrue, map};
+ghost use Rattle.std.specs.Prelude.{◌↔◌, IsTrue, map};
 ghost use Rattle.cert_model.specs.EvidenceView.{transition_view, automaton_view, inf_evidence_view, pair_evidence_view};
 ghost use Rattle.cert_model.specs.CertificateView.{pair_entry_view};
 ghost use Rattle.cert_grammar.specs.EvidenceText.{AreStates, IsHead, AreTransitions, IsAutomaton, IsInfeasibility, IsEvidence, ArePairs};
@@ -31,19 +31,14 @@ fn is_head(names: &Names, symbol: Option<u32>, states: &[u32]) -> bool
     }
 }
 
-fn is_transition(names: &Names, states: u32, transition: &Transition) -> bool
-    ensures { IsTrue result ↔ AreTransitions names.now states (transition_view transition.now ∷ []) }
-{
-    is_head(names, transition.symbol, &transition.args)
-        && are_states(states, &transition.args)
-        && transition.target < states
-}
-
 fn are_transitions(names: &Names, states: u32, transitions: &[Transition]) -> bool
     ensures { IsTrue result ↔ AreTransitions names.now states (map transition_view transitions.now) }
 {
     'transitions: for transition in transitions {
-        if !is_transition(names, states, transition) {
+        if !is_head(names, transition.symbol, &transition.args)
+            || !are_states(states, &transition.args)
+            || transition.target >= states
+        {
             return false;
         }
     }
@@ -92,21 +87,16 @@ fn is_evidence(names: &Names, evidence: &PairEvidence) -> bool
     }
 }
 
-fn is_pair(names: &Names, pair: &PairEntry) -> bool
-    ensures { IsTrue result ↔ ArePairs names.now (pair_entry_view pair.now ∷ []) }
-{
-    is_number(pair.inner)
-        && are_places(&pair.pos)
-        && is_number(pair.outer)
-        && is_evidence(names, &pair.evidence)
-}
-
 /// Whether overlaps with their evidence are within the limits.
 pub fn are_pairs(names: &Names, pairs: &[PairEntry]) -> bool
     ensures { IsTrue result ↔ ArePairs names.now (map pair_entry_view pairs.now) }
 {
     'pairs: for pair in pairs {
-        if !is_pair(names, pair) {
+        if !is_number(pair.inner)
+            || !are_places(&pair.pos)
+            || !is_number(pair.outer)
+            || !is_evidence(names, &pair.evidence)
+        {
             return false;
         }
     }

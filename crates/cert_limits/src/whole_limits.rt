@@ -3,7 +3,7 @@ ghost use Rattle.std.specs.Prelude.{◌↔◌, ◌∷◌, [], IsTrue, map};
 ghost use Rattle.term_core.specs.HeadView.{head_view};
 ghost use Rattle.cert_model.specs.CertificateView.{pair_entry_view, linear_entry_view, measure_view, redex_view, apart_view, peak_view, simp_view, certificate_view};
 ghost use Rattle.certificates.specs.Certificates.{ortho_certificate, peak_certificate};
-ghost use Rattle.cert_grammar.specs.Prelude.{IsMeasured, AreEntries, AreHeads, IsMeasure, AreRedexEntries, IsApart, AreSimplifications, IsWithin, second_version, IsUnsimplified};
+ghost use Rattle.cert_grammar.specs.Prelude.{IsMeasured, AreEntries, AreHeads, IsMeasure, AreRedexEntries, IsApart, AreSimplifications, IsWithin, second_version};
 ghost use Rattle.cert_grammar.specs.Prelude.{IsOfVersion};
 
 use crate::evidence_limits::{are_pairs, is_infeasibility};
@@ -27,19 +27,14 @@ fn is_measured(names: &Names, head: &Head) -> bool
     }
 }
 
-fn is_entry(names: &Names, entry: &LinearEntry) -> bool
-    ensures { IsTrue result ↔ AreEntries names.now (linear_entry_view entry.now ∷ []) }
-{
-    is_measured(names, &entry.head)
-        && entry.coeffs.len() <= MOST_NUMBERS
-        && are_numbers(&entry.coeffs)
-}
-
 fn are_entries(names: &Names, entries: &[LinearEntry]) -> bool
     ensures { IsTrue result ↔ AreEntries names.now (map linear_entry_view entries.now) }
 {
     'entries: for entry in entries {
-        if !is_entry(names, entry) {
+        if !is_measured(names, &entry.head)
+            || entry.coeffs.len() > MOST_NUMBERS
+            || !are_numbers(&entry.coeffs)
+        {
             return false;
         }
     }
@@ -70,20 +65,15 @@ fn is_measure(names: &Names, measure: &MeasureCert) -> bool
     }
 }
 
-fn is_redex(names: &Names, redex: &Redex) -> bool
-    ensures { IsTrue result ↔ AreRedexEntries names.now (redex_view redex.now ∷ []) }
-{
-    is_number(redex.which)
-        && are_places(&redex.pos)
-        && is_number(redex.rule)
-        && is_infeasibility(names, &redex.evidence)
-}
-
 fn are_redexes(names: &Names, redexes: &[Redex]) -> bool
     ensures { IsTrue result ↔ AreRedexEntries names.now (map redex_view redexes.now) }
 {
     'redexes: for redex in redexes {
-        if !is_redex(names, redex) {
+        if !is_number(redex.which)
+            || !are_places(&redex.pos)
+            || !is_number(redex.rule)
+            || !is_infeasibility(names, &redex.evidence)
+        {
             return false;
         }
     }
@@ -159,17 +149,6 @@ pub fn is_within(names: &Names, cert: &Certificate) -> bool
     }
 }
 
-// Whether no steps stand before the body.
-#[tactic(auto, using(cert_model::proofs::CertificateViews::ortho_shown, cert_model::proofs::CertificateViews::quasi_shown, cert_model::proofs::CertificateViews::peak_shown, cert_model::proofs::CertificateViews::simplified_shown))]
-fn is_unsimplified(cert: &Certificate) -> bool
-    ensures { IsTrue result ↔ IsUnsimplified (certificate_view cert.now) }
-{
-    match cert {
-        Certificate::Ortho(_) | Certificate::Quasi(_, _) | Certificate::Peak(_) => true,
-        Certificate::Simplified { .. } => false,
-    }
-}
-
 /// Whether the second version of the text has such certificates: those that are simplified once at most.
 #[tactic(auto, using(cert_model::proofs::CertificateViews::ortho_shown, cert_model::proofs::CertificateViews::quasi_shown, cert_model::proofs::CertificateViews::peak_shown, cert_model::proofs::CertificateViews::simplified_shown))]
 pub fn is_of_second(cert: &Certificate) -> bool
@@ -177,6 +156,9 @@ pub fn is_of_second(cert: &Certificate) -> bool
 {
     match cert {
         Certificate::Ortho(_) | Certificate::Quasi(_, _) | Certificate::Peak(_) => true,
-        Certificate::Simplified { body, .. } => is_unsimplified(body),
+        Certificate::Simplified { body, .. } => match &**body {
+            Certificate::Ortho(_) | Certificate::Quasi(_, _) | Certificate::Peak(_) => true,
+            Certificate::Simplified { .. } => false,
+        },
     }
 }

@@ -1,5 +1,5 @@
 -- What the answers cite, passed on from one place. Declares nothing.
-pub use Rattle.std.proofs.Common.{◌≡◌, ◌++◌, map, drop, ℕ, List, ap, ◌∙◌, refl, ◌+◌, sym, [], length, min, arith}
+pub use Rattle.std.proofs.Common.{◌≡◌, ◌++◌, map, drop, ℕ, List, ap, ◌∙◌, refl, ◌+◌, sym, [], length, min}
 pub use Rattle.std.proofs.lemmas.List.{length-map}
 pub use Rattle.certificates.specs.Evidence.{Automaton}
 pub use Rattle.certificates.specs.Derivations.{derivation_of, derivations_of}

@@ -84,3 +84,11 @@ pub fn put_number<O: Output>(to: &mut O, n: usize)
     let mut buffer = Buffer::new();
     to.put(buffer.format(n).as_bytes());
 }
+
+/// Puts a text and a number behind it.
+pub fn put_numbered<O: Output>(to: &mut O, text: &[u8], n: usize)
+    ensures { O.took to.old (text.now ++ decimal n) to.new }
+{
+    to.put(text);
+    put_number(to, n);
+}

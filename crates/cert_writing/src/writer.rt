@@ -1,15 +1,14 @@
 //! The text of a certificate with its measure, overlaps or peak, and how many bytes it has.
-ghost use Rattle.std.specs.Prelude.{◌≡◌, ◌++◌, length, map, min, codes, decimal, IfOk};
+ghost use Rattle.std.specs.Prelude.{◌≡◌, length, map, min, IfOk};
 ghost use Rattle.term_core.specs.HeadView.{head_view};
 ghost use Rattle.cert_model.specs.CertificateView.{linear_entry_view, measure_view, redex_view, apart_view, peak_view, simp_view, certificate_view};
 ghost use Rattle.cert_writing.specs.Written.{greatest};
 ghost use Rattle.cert_grammar.specs.Prelude.{measured_text, entries_text, heads_text, measure_text, redexes_text, apart_text, peak_text, simplifications_text, body_text, certificate_text};
 ghost use Rattle.cert_grammar.specs.Prelude.{second_version};
 ghost use Rattle.cert_writing.specs.WrittenUses.{uses_view, step_text};
-ghost use Rattle.cert_writing.specs.SharedAutomata.{joined};
 
 use crate::numbers::{AutomatonTexts, put_texts};
-use crate::output::{Counter, Output, put_number};
+use crate::output::{Counter, Output, put_numbered};
 use crate::written_evidence::{Uses, put_infeasibility, put_numbers, put_pairs};
 use crate::written_steps::put_derivation;
 use crate::written_terms::{put_name, put_position, put_term};
@@ -28,10 +27,8 @@ fn put_measured<O: Output>(to: &mut O, names: &Names, head: &Head)
             put_name(to, names, *symbol);
         }
         Head::Aux { rule, cond } => {
-            to.put(b"aux ");
-            put_number(to, *rule as usize);
-            to.put(b" ");
-            put_number(to, *cond as usize);
+            put_numbered(to, b"aux ", *rule as usize);
+            put_numbered(to, b" ", *cond as usize);
         }
     }
 }
@@ -74,12 +71,10 @@ fn put_redexes<O: Output>(to: &mut O, names: &Names, uses: &Uses<'_>, redexes: &
     ensures { O.took to.old (redexes_text names.now (uses_view names.now uses.now) (map redex_view redexes.now)) to.new }
 {
     'redexes: for redex in redexes {
-        to.put(b"redex ");
-        put_number(to, redex.which as usize);
+        put_numbered(to, b"redex ", redex.which as usize);
         to.put(b" ");
         put_position(to, &redex.pos);
-        to.put(b" ");
-        put_number(to, redex.rule as usize);
+        put_numbered(to, b" ", redex.rule as usize);
         to.put(b" ");
         put_infeasibility(to, names, uses, &redex.evidence);
     }
@@ -113,16 +108,13 @@ fn put_step<O: Output>(to: &mut O, names: &Names, uses: &Uses<'_>, step: &Simp)
 {
     match step {
         Simp::Drop { rule, evidence } => {
-            to.put(b"drop ");
-            put_number(to, *rule as usize);
+            put_numbered(to, b"drop ", *rule as usize);
             to.put(b" ");
             put_infeasibility(to, names, uses, evidence);
         }
         Simp::Inline { rule, cond } => {
-            to.put(b"inline ");
-            put_number(to, *rule as usize);
-            to.put(b" ");
-            put_number(to, *cond as usize);
+            put_numbered(to, b"inline ", *rule as usize);
+            put_numbered(to, b" ", *cond as usize);
             to.put(b"\n");
         }
     }
@@ -155,23 +147,12 @@ fn put_body<O: Output>(to: &mut O, names: &Names, uses: &Uses<'_>, cert: &Certif
             put_peak(to, names, uses, peak);
         }
         Certificate::Simplified { steps, body } => {
-            to.put(b"simplify ");
-            put_number(to, steps.len());
+            put_numbered(to, b"simplify ", steps.len());
             to.put(b"\n");
             put_steps(to, names, uses, steps);
             put_body(to, names, uses, body);
         }
     }
-}
-
-// The lines before the body.
-fn put_heading<O: Output>(to: &mut O, texts: &AutomatonTexts)
-    ensures { O.took to.old (codes "concon 2\nshared " ++ (decimal (length texts.now) ++ (codes "\n" ++ joined texts.now))) to.new }
-{
-    to.put(b"concon 2\nshared ");
-    put_number(to, texts.len());
-    to.put(b"\n");
-    put_texts(to, texts);
 }
 
 /// Puts the text of a certificate, without an answer line. To number its automata memory is taken; where that is refused, the
@@ -181,7 +162,9 @@ pub fn put_certificate<O: Output>(alloc: Global, to: &mut O, names: &Names, cert
 {
     match AutomatonTexts::of(alloc, names, cert) {
         Ok(texts) => {
-            put_heading(to, &texts);
+            put_numbered(to, b"concon 2\nshared ", texts.len());
+            to.put(b"\n");
+            put_texts(to, &texts);
             put_body(to, names, &Uses::ByNumber(&texts), cert);
             to.put(b"end\n");
         }

@@ -6,7 +6,7 @@ ghost use Rattle.cert_grammar.specs.EvidenceText.{numbers_text, states_text, hea
 ghost use Rattle.cert_writing.specs.WrittenUses.{uses_view};
 
 use crate::numbers::AutomatonTexts;
-use crate::output::{Output, put_number};
+use crate::output::{Output, put_numbered};
 use crate::written_steps::put_derivation;
 use crate::written_terms::{put_name, put_position};
 use cert_model::{Automaton, InfEvidence, PairEntry, PairEvidence, Transition};
@@ -17,8 +17,7 @@ pub fn put_numbers<O: Output>(to: &mut O, numbers: &[u32])
     ensures { O.took to.old (numbers_text numbers.now) to.new }
 {
     'numbers: for number in numbers {
-        to.put(b" ");
-        put_number(to, *number as usize);
+        put_numbered(to, b" ", *number as usize);
     }
 }
 
@@ -27,11 +26,9 @@ fn put_states<O: Output>(to: &mut O, states: &[u32])
     ensures { O.took to.old (states_text states.now) to.new }
 {
     if let [first, rest @ ..] = states {
-        to.put(b"(");
-        put_number(to, *first as usize);
+        put_numbered(to, b"(", *first as usize);
         'others: for state in rest {
-            to.put(b",");
-            put_number(to, *state as usize);
+            put_numbered(to, b",", *state as usize);
         }
         to.put(b")");
     }
@@ -55,8 +52,7 @@ fn put_transitions<O: Output>(to: &mut O, names: &Names, transitions: &[Transiti
 {
     'transitions: for transition in transitions {
         put_head(to, names, transition.symbol, &transition.args);
-        to.put(b" ");
-        put_number(to, transition.target as usize);
+        put_numbered(to, b" ", transition.target as usize);
         to.put(b"\n");
     }
 }
@@ -65,12 +61,10 @@ fn put_transitions<O: Output>(to: &mut O, names: &Names, transitions: &[Transiti
 pub fn put_automaton<O: Output>(to: &mut O, names: &Names, automaton: &Automaton)
     ensures { O.took to.old (automaton_text names.now (automaton_view automaton.now)) to.new }
 {
-    to.put(b"states ");
-    put_number(to, automaton.states as usize);
+    put_numbered(to, b"states ", automaton.states as usize);
     to.put(b"\naccepting");
     put_numbers(to, &automaton.accepting);
-    to.put(b"\ntransitions ");
-    put_number(to, automaton.transitions.len());
+    put_numbered(to, b"\ntransitions ", automaton.transitions.len());
     to.put(b"\n");
     put_transitions(to, names, &automaton.transitions);
 }
@@ -95,8 +89,7 @@ fn put_use<O: Output>(to: &mut O, names: &Names, uses: &Uses<'_>, automaton: &Au
         }
         Uses::ByNumber(texts) => match texts.number(names, automaton) {
             Ok(number) => {
-                to.put(b" ");
-                put_number(to, number);
+                put_numbered(to, b" ", number);
                 to.put(b"\n");
             }
             Err(_) => to.refuse(),
@@ -116,8 +109,7 @@ pub fn put_infeasibility<O: Output>(
     match evidence {
         InfEvidence::Tcap => to.put(b"tcap\n"),
         InfEvidence::Auto { cond, automaton } => {
-            to.put(b"auto ");
-            put_number(to, *cond as usize);
+            put_numbered(to, b"auto ", *cond as usize);
             put_use(to, names, uses, automaton);
         }
     }
@@ -130,10 +122,8 @@ fn put_evidence<O: Output>(to: &mut O, names: &Names, uses: &Uses<'_>, evidence:
         PairEvidence::Trivial => to.put(b"trivial\n"),
         PairEvidence::Infeasible(evidence) => put_infeasibility(to, names, uses, evidence),
         PairEvidence::Conflict { inner, outer } => {
-            to.put(b"conflict ");
-            put_number(to, *inner as usize);
-            to.put(b" ");
-            put_number(to, *outer as usize);
+            put_numbered(to, b"conflict ", *inner as usize);
+            put_numbered(to, b" ", *outer as usize);
             to.put(b"\n");
         }
         PairEvidence::Join { left, right } => {
@@ -146,8 +136,7 @@ fn put_evidence<O: Output>(to: &mut O, names: &Names, uses: &Uses<'_>, evidence:
             first,
             second,
         } => {
-            to.put(b"unfeasible ");
-            put_number(to, *cond as usize);
+            put_numbered(to, b"unfeasible ", *cond as usize);
             to.put(b"\n");
             put_derivation(to, first);
             put_derivation(to, second);
@@ -160,12 +149,10 @@ pub fn put_pairs<O: Output>(to: &mut O, names: &Names, uses: &Uses<'_>, pairs: &
     ensures { O.took to.old (pairs_text names.now (uses_view names.now uses.now) (map pair_entry_view pairs.now)) to.new }
 {
     'pairs: for pair in pairs {
-        to.put(b"pair ");
-        put_number(to, pair.inner as usize);
+        put_numbered(to, b"pair ", pair.inner as usize);
         to.put(b" ");
         put_position(to, &pair.pos);
-        to.put(b" ");
-        put_number(to, pair.outer as usize);
+        put_numbered(to, b" ", pair.outer as usize);
         to.put(b" ");
         put_evidence(to, names, uses, &pair.evidence);
     }

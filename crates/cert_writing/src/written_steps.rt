@@ -3,15 +3,14 @@ ghost use Rattle.cert_model.specs.DerivationView.{derivation_view, step_view};
 ghost use Rattle.cert_grammar.specs.Steps as text;
 ghost use Rattle.cert_grammar.specs.Steps.{derivation_text, step_text};
 
-use crate::output::{Output, put_number};
+use crate::output::{Output, put_numbered};
 use crate::written_terms::put_position;
 use cert_model::{Derivation, Step};
 
 fn put_hypothesis_line<O: Output>(to: &mut O, number: u32, pos: &[u32])
     ensures { O.took to.old (text.hypothesis_line number pos.now) to.new }
 {
-    to.put(b"hyp ");
-    put_number(to, number as usize);
+    put_numbered(to, b"hyp ", number as usize);
     to.put(b" ");
     put_position(to, pos);
     to.put(b"\n");
@@ -22,8 +21,7 @@ fn put_hypothesis_line<O: Output>(to: &mut O, number: u32, pos: &[u32])
 pub fn put_derivation<O: Output>(to: &mut O, derivation: &Derivation)
     ensures { O.took to.old (derivation_text (derivation_view derivation.now)) to.new }
 {
-    to.put(b"steps ");
-    put_number(to, derivation.steps.len());
+    put_numbered(to, b"steps ", derivation.steps.len());
     to.put(b"\n");
     'steps: for step in &derivation.steps {
         put_step(to, step);
@@ -37,12 +35,10 @@ fn put_step<O: Output>(to: &mut O, step: &Step)
 {
     match step {
         Step::Rule { rule, pos, conds } => {
-            to.put(b"rule ");
-            put_number(to, *rule as usize);
+            put_numbered(to, b"rule ", *rule as usize);
             to.put(b" ");
             put_position(to, pos);
-            to.put(b" ");
-            put_number(to, conds.len());
+            put_numbered(to, b" ", conds.len());
             to.put(b"\n");
             'conds: for cond in conds {
                 put_derivation(to, cond);

@@ -3,7 +3,7 @@ ghost use Rattle.rewriting.specs.Terms as math;
 ghost use Rattle.term_core.specs.View.{view, views};
 ghost use Rattle.cert_grammar.specs.Words.{name_of, term_text, arguments_text, parts_text, position_text};
 
-use crate::output::{Output, put_number};
+use crate::output::{Output, put_number, put_numbered};
 use cops_names::Names;
 use term_core::Term;
 
@@ -19,8 +19,7 @@ fn put_parts<O: Output>(to: &mut O, places: &[u32])
     ensures { O.took to.old (parts_text places.now) to.new }
 {
     'places: for place in places {
-        to.put(b".");
-        put_number(to, *place as usize);
+        put_numbered(to, b".", *place as usize);
     }
 }
 
@@ -44,8 +43,7 @@ pub fn put_term<O: Output>(to: &mut O, names: &Names, term: &Term)
 {
     match term {
         Term::Var(x) => {
-            to.put(b"|");
-            put_number(to, *x as usize);
+            put_numbered(to, b"|", *x as usize);
         }
         Term::Fun(f, args) => {
             put_name(to, names, *f);

@@ -1,6 +1,4 @@
-use Rattle.std.proofs.Common.{drop, map, ◌↔◌}
-use Rattle.cert_model.specs.CertificateView.{pair_entry_view}
-use Rattle.cert_grammar.specs.EvidenceText.{ArePairs}
+use Rattle.cert_limits.proofs.Prelude.{drop, map, ◌↔◌, pair_entry_view, ArePairs}
 use Rattle.cert_limits.proofs.evidence_limits.are_pairs.Given as goal
 
 abbrev pub invariant-pairs : goal.invariant-pairs

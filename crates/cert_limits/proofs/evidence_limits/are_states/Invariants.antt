@@ -1,5 +1,4 @@
-use Rattle.std.proofs.Common.{drop, ◌↔◌}
-use Rattle.cert_grammar.specs.EvidenceText.{AreStates}
+use Rattle.cert_limits.proofs.Prelude.{drop, ◌↔◌, AreStates}
 use Rattle.cert_limits.proofs.evidence_limits.are_states.Given as goal
 
 abbrev pub invariant-numbers : goal.invariant-numbers

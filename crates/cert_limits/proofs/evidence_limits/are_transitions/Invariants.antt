@@ -1,6 +1,4 @@
-use Rattle.std.proofs.Common.{drop, map, ◌↔◌}
-use Rattle.cert_model.specs.EvidenceView.{transition_view}
-use Rattle.cert_grammar.specs.EvidenceText.{AreTransitions}
+use Rattle.cert_limits.proofs.Prelude.{drop, map, ◌↔◌, transition_view, AreTransitions}
 use Rattle.cert_limits.proofs.evidence_limits.are_transitions.Given as goal
 
 abbrev pub invariant-transitions : goal.invariant-transitions

@@ -1,7 +1,4 @@
-use Rattle.std.proofs.Common.{drop, map, ◌↔◌}
-use Rattle.certificates.specs.Derivations.{derivation_of, derivations_of}
-use Rattle.cert_model.specs.DerivationView.{derivation_view, step_view}
-use Rattle.cert_grammar.specs.Limits.{AreSteps, AreDerivations}
+use Rattle.cert_limits.proofs.Prelude.{drop, map, ◌↔◌, derivation_of, derivations_of, derivation_view, step_view, AreSteps, AreDerivations}
 use Rattle.cert_limits.proofs.step_limits.+is_derivation.Given as goal
 
 abbrev pub invariant-are_steps-each : goal.invariant-are_steps-each

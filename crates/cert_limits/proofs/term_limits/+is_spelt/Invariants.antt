@@ -1,6 +1,4 @@
-use Rattle.std.proofs.Common.{drop, ◌↔◌}
-use Rattle.term_core.specs.View.{views}
-use Rattle.cert_grammar.specs.Words.{AreSpelt}
+use Rattle.cert_limits.proofs.Prelude.{drop, ◌↔◌, views, AreSpelt}
 use Rattle.cert_limits.proofs.term_limits.+is_spelt.Given as goal
 
 abbrev pub invariant-are_spelt-arguments : goal.invariant-are_spelt-arguments

@@ -1,5 +1,4 @@
-use Rattle.std.proofs.Common.{drop, ◌↔◌}
-use Rattle.cert_grammar.specs.Prelude.{largest, AreAtMost}
+use Rattle.cert_limits.proofs.Prelude.{drop, ◌↔◌, largest, AreAtMost}
 use Rattle.cert_limits.proofs.term_limits.are_numbers.Given as goal
 
 abbrev pub invariant-numbers : goal.invariant-numbers

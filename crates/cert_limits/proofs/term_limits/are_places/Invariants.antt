@@ -1,5 +1,4 @@
-use Rattle.std.proofs.Common.{drop, ◌↔◌}
-use Rattle.cert_grammar.specs.Words.{ArePlaces}
+use Rattle.cert_limits.proofs.Prelude.{drop, ◌↔◌, ArePlaces}
 use Rattle.cert_limits.proofs.term_limits.are_places.Given as goal
 
 abbrev pub invariant-places : goal.invariant-places

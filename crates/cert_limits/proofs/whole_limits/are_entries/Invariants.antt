@@ -1,6 +1,4 @@
-use Rattle.std.proofs.Common.{drop, map, ◌↔◌}
-use Rattle.cert_model.specs.CertificateView.{linear_entry_view}
-use Rattle.cert_grammar.specs.CertificateText.{AreEntries}
+use Rattle.cert_limits.proofs.Prelude.{drop, map, ◌↔◌, linear_entry_view, AreEntries}
 use Rattle.cert_limits.proofs.whole_limits.are_entries.Given as goal
 
 abbrev pub invariant-entries : goal.invariant-entries

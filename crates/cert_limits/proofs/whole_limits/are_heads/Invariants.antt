@@ -1,6 +1,4 @@
-use Rattle.std.proofs.Common.{drop, map, ◌↔◌}
-use Rattle.term_core.specs.HeadView.{head_view}
-use Rattle.cert_grammar.specs.CertificateText.{AreHeads}
+use Rattle.cert_limits.proofs.Prelude.{drop, map, ◌↔◌, head_view, AreHeads}
 use Rattle.cert_limits.proofs.whole_limits.are_heads.Given as goal
 
 abbrev pub invariant-heads : goal.invariant-heads

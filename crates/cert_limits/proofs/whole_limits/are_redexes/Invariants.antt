@@ -1,6 +1,4 @@
-use Rattle.std.proofs.Common.{drop, map, ◌↔◌}
-use Rattle.cert_model.specs.CertificateView.{redex_view}
-use Rattle.cert_grammar.specs.CertificateText.{AreRedexEntries}
+use Rattle.cert_limits.proofs.Prelude.{drop, map, ◌↔◌, redex_view, AreRedexEntries}
 use Rattle.cert_limits.proofs.whole_limits.are_redexes.Given as goal
 
 abbrev pub invariant-redexes : goal.invariant-redexes

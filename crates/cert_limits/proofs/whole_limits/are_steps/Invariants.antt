@@ -1,6 +1,4 @@
-use Rattle.std.proofs.Common.{drop, map, ◌↔◌}
-use Rattle.cert_model.specs.CertificateView.{simp_view}
-use Rattle.cert_grammar.specs.CertificateText.{AreSimplifications}
+use Rattle.cert_limits.proofs.Prelude.{drop, map, ◌↔◌, simp_view, AreSimplifications}
 use Rattle.cert_limits.proofs.whole_limits.are_steps.Given as goal
 
 abbrev pub invariant-steps : goal.invariant-steps

@@ -1,4 +1,4 @@
-use Rattle.cert_writing.proofs.Prelude.{◌≡◌, length, map, arith, length-map, ortho_shown, quasi_shown, peak_shown, simplified_shown, simp_view}
+use Rattle.cert_writing.proofs.Prelude.{sym, ◌∙◌, length-map, ortho_shown, quasi_shown, peak_shown, simplified_shown, simp_view}
 use Rattle.cert_writing.proofs.writer.+put_body.Goals as goal
 
 pub returns-in-Ortho : goal.returns-in-Ortho
@@ -20,9 +20,6 @@ pub returns-in-Simplified : goal.returns-in-Simplified
 returns-in-Simplified g t c =
     let p = g.met.O.Output.parts in
     let steps = c.in-Simplified.steps in
-    let ok = steps.ok.0 in
-    let counted = c.len.ensures in
-    let many : c.len.result ≡ length (map simp_view steps.items) = omega (arith, ok, counted, length-map steps.items simp_view) in
-    rw (c.in-Simplified.is, simplified_shown) (p _ _ _ _ _ c.put-in-Simplified.ensures (p _ _ _ _ _ (rw many at c.put_number.ensures)
-    (p _ _ _ _ _ c.put-in-Simplified-2.ensures
-    (p _ _ _ _ _ (rw c.deref-in-Simplified.ensures.value at c.put_steps.ensures) (rw c.deref-in-Simplified-2.ensures at c.put_body.ensures)))))
+    let many = c.len.ensures ∙ steps.ok.0 ∙ sym (length-map steps.items simp_view) in
+    rw (c.in-Simplified.is, simplified_shown) (p _ _ _ _ _ (rw many at c.put_numbered.ensures) (p _ _ _ _ _ c.put-in-Simplified.ensures
+    (p _ _ _ _ _ (rw c.deref-in-Simplified.ensures.value at c.put_steps.ensures) (rw c.deref-in-Simplified-2.ensures at c.put_body.ensures))))

@@ -8,4 +8,4 @@ returns-in-File g c =
 pub returns-in-Aux : goal.returns-in-Aux
 returns-in-Aux g c =
     let p = g.met.O.Output.parts in
-    rw c.in-Aux.is (p _ _ _ _ _ c.put-in-Aux.ensures (p _ _ _ _ _ c.put_number.ensures (p _ _ _ _ _ c.put-in-Aux-2.ensures c.put_number-in-Aux.ensures)))
+    rw c.in-Aux.is (p _ _ _ _ _ c.put_numbered.ensures c.put_numbered-in-Aux.ensures)

@@ -1,12 +1,10 @@
-use Rattle.cert_writing.proofs.Prelude.{◌≡◌, length, map, arith, length-map, transition_view}
+use Rattle.cert_writing.proofs.Prelude.{sym, ◌∙◌, length-map, transition_view}
 use Rattle.cert_writing.proofs.written_evidence.put_automaton.Goals as goal
 
 pub returns : goal.returns
 returns g c =
     let p = g.met.O.Output.parts in
     let transitions = c.args.automaton.now.transitions in
-    let ok = transitions.ok.0 in
-    let counted = c.len.ensures in
-    let many : c.len.result ≡ length (map transition_view transitions.items) = omega (arith, ok, counted, length-map transitions.items transition_view) in
-    p _ _ _ _ _ c.put.ensures (p _ _ _ _ _ c.put_number.ensures (p _ _ _ _ _ c.put-2.ensures (p _ _ _ _ _ (rw c.deref.ensures.value at c.put_numbers.ensures)
-    (p _ _ _ _ _ c.put-3.ensures (p _ _ _ _ _ (rw many at c.put_number-2.ensures) (p _ _ _ _ _ c.put-4.ensures (rw c.deref-2.ensures.value at c.put_transitions.ensures)))))))
+    let many = c.len.ensures ∙ transitions.ok.0 ∙ sym (length-map transitions.items transition_view) in
+    p _ _ _ _ _ c.put_numbered.ensures (p _ _ _ _ _ c.put.ensures (p _ _ _ _ _ (rw c.deref.ensures.value at c.put_numbers.ensures)
+    (p _ _ _ _ _ (rw many at c.put_numbered-2.ensures) (p _ _ _ _ _ c.put-2.ensures (rw c.deref-2.ensures.value at c.put_transitions.ensures)))))

@@ -8,4 +8,4 @@ returns-in-InFull g c =
 pub returns-in-Ok : goal.returns-in-Ok
 returns-in-Ok g c =
     let p = g.met.O.Output.parts in
-    rw (c.in-ByNumber.is, ← c.in-Ok.ensures) (p _ _ _ _ _ c.put-in-Ok.ensures (p _ _ _ _ _ c.put_number.ensures c.put-in-Ok-2.ensures))
+    rw (c.in-ByNumber.is, ← c.in-Ok.ensures) (p _ _ _ _ _ c.put_numbered.ensures c.put-in-Ok.ensures)
