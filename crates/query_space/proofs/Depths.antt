@@ -1,5 +1,5 @@
 -- The lists for a query's conditions are those for the conditions of a rule, with condition depth 3.
-use Rattle.std.proofs.Common.{◌≡◌, ◌+◌, List, [], ◌∷◌, ◌++◌, flat_map, filter_map, refl, ap, ◌∙◌}
+use Rattle.std.proofs.Common.{◌≡◌, List, [], ◌∷◌, ◌++◌, flat_map, filter_map, refl, ap, ◌∙◌}
 use Rattle.general_lemmas.proofs.Lists.{flat_map_same}
 use Rattle.rewriting.specs.Prelude.{Term, Bindings, Condition, System}
 use Rattle.reach_lists.specs.Solutions.{Reached, Solution, starts, extended, extensions, solutions, asked}
