@@ -1,6 +1,5 @@
 -- One item after the other.
-use Rattle.std.proofs.Common.{ℕ, suc, ◌≡◌, ◌+◌, ◌-◌, ◌<◌, ◌≤◌, inl, inr, List, [], ◌∷◌, map, length, Option, None, Some, Result, Ok, Err, sym, ap, ◌∙◌, subst, subst₂, arith}
-use Rattle.std.specs.List.{range_with_len}
+use Rattle.std.proofs.Common.{ℕ, ◌≡◌, ◌+◌, ◌<◌, ◌≤◌, inl, inr, List, [], ◌∷◌, map, length, Option, None, Some, Result, Ok, Err, sym, ap, ◌∙◌, subst, subst₂}
 use Rattle.std.proofs.lemmas.List.{length-map}
 use Rattle.rewriting.specs.Prelude.{conditions_under, Condition, System, Substitution}
 use Rattle.rewriting.proofs.Conditions.{length-conditions_under}
@@ -17,6 +16,7 @@ use Rattle.first_found.specs.Items.{GivesNothing, NoneGives, one}
 use Rattle.first_found.proofs.Items.{first_here, first_right}
 use Rattle.search_spaces.specs.Refuting.{Refuting, try_growth, Tries, growths, refutings}
 use Rattle.search_spaces.proofs.Entries.{tries_once}
+use Rattle.search_spaces.proofs.Growths.{growths_behind, all_behind, next_behind, none_behind}
 use Rattle.evidence_offers.specs.Growth.{MayGive}
 use Rattle.evidence_offers.proofs.Growing.{growth_shows, growth_fails}
 use Rattle.noncon_search.specs.Trying.{Refutes, FirstAnswers}
@@ -61,33 +61,23 @@ module _ (sys : System) (cs : List Condition) where
     rest_gives bare (Ok None) none = (bare, none)
     rest_gives bare (Err e) h = tt
 
-  -- the growths behind the first k of n
-  abbrev pub growths_behind : ℕ → ℕ → List Refuting
-  growths_behind k n = map try_growth (range_with_len (k + 1) (n - k))
-
-  -- what they give, all give
+  -- what the growths behind the first k of n give, all give
   abbrev pub IsBehind : ℕ → ℕ → Type 0
   IsBehind k n = (r : Result (Option InfEvidence) NoMemory) → FirstAnswers sys cs (growths_behind k n) r → FirstAnswers sys cs (growths n) r
 
-  pub all_behind : (n : ℕ) → IsBehind 0 n
-  all_behind n r h =
-      let whole : n - 0 ≡ n = omega arith in subst (λ m. FirstAnswers sys cs (map try_growth (range_with_len 1 m)) r) whole h
+  pub none_before : (n : ℕ) → IsBehind 0 n
+  none_before n r h = subst (λ z. FirstAnswers sys cs z r) (all_behind n) h
 
   module _ (k n : ℕ) (less : k < n) (behind : IsBehind k n) where
-    behind-next : growths_behind k n ≡ try_growth (k + 1) ∷ growths_behind (k + 1) n
-    behind-next = let one_less : n - k ≡ suc (n - (k + 1)) = omega (arith, less) in ap (λ m. map try_growth (range_with_len (k + 1) m)) one_less
-
     pub growth_gives : (e : InfEvidence) → Refutes sys cs (try_growth (k + 1)) (inf_evidence_view e) → FirstAnswers sys cs (growths n) (Ok (Some e))
     growth_gives e h =
-        behind (Ok (Some e)) (subst (λ z. FirstAnswers sys cs z (Ok (Some e))) (sym behind-next) (first_gives (try_growth (k + 1)) (growths_behind (k + 1) n) e h))
+        behind (Ok (Some e)) (subst (λ z. FirstAnswers sys cs z (Ok (Some e))) (sym (next_behind k n less)) (first_gives (try_growth (k + 1)) (growths_behind (k + 1) n) e h))
 
     pub behind_more : GivesNothing (Refutes sys cs) (try_growth (k + 1)) → IsBehind (k + 1) n
-    behind_more bare r h = behind r (subst (λ z. FirstAnswers sys cs z r) (sym behind-next) (rest_gives (try_growth (k + 1)) (growths_behind (k + 1) n) bare r h))
+    behind_more bare r h = behind r (subst (λ z. FirstAnswers sys cs z r) (sym (next_behind k n less)) (rest_gives (try_growth (k + 1)) (growths_behind (k + 1) n) bare r h))
 
-  pub none_behind : (k n : ℕ) → n ≤ k → IsBehind k n → FirstAnswers sys cs (growths n) (Ok None)
-  none_behind k n most behind =
-      let past : n - k ≡ 0 = omega (arith, most) in
-      behind (Ok None) (subst (λ m. FirstAnswers sys cs (map try_growth (range_with_len (k + 1) m)) (Ok None)) (sym past) tt)
+  pub all_tried : (k n : ℕ) → n ≤ k → IsBehind k n → FirstAnswers sys cs (growths n) (Ok None)
+  all_tried k n most behind = behind (Ok None) (subst (λ z. FirstAnswers sys cs z (Ok None)) (sym (none_behind k n most)) tt)
 
 -- what is answered for conditions of the program
 pub first_same : (sys : System) (ds : List Cond) (s : Substitution) (cs : List Condition) (r : Result (Option InfEvidence) NoMemory) → map condition_view ds ≡ conditions_under s cs

@@ -1,9 +1,11 @@
 -- The lists of items that are tried.
-use Rattle.std.proofs.Common.{ℕ, zero, suc, ◌≡◌, ◌+◌, ◌≤◌, List, [], ◌∷◌, ◌++◌, map, flat_map, sym, ap, ◌∙◌, subst, arith, append_assoc, append-nil}
+use Rattle.std.proofs.Common.{ℕ, ◌≡◌, ◌+◌, ◌≤◌, List, [], ◌∷◌, ◌++◌, map, flat_map, sym, ap, ◌∙◌, subst, arith, append_assoc, append-nil}
 use Rattle.std.proofs.lemmas.List.{map-append}
 use Rattle.std.proofs.lemmas.List.FromFn.{map-range_with_len_more}
+use Rattle.std.proofs.lemmas.List.Concat.{flat_map-append}
 use Rattle.std.specs.List.{range_with_len}
 use Rattle.search_spaces.specs.Refuting.{Refuting, try_growth, growths}
+use Rattle.search_spaces.proofs.Growths.{range_more}
 use Rattle.search_spaces.specs.PairItems.{PairItem, try_evidence, try_refuting, conflicts_with, conflicts}
 use Rattle.certificates.specs.Evidence.{conflicting_pair}
 use Rattle.ortho_search.specs.ItemView.{item_view}
@@ -44,20 +46,11 @@ pub all_conflicts_with : (old : List PairItem) (a : ℕ) (xs : List Item) (k n :
 all_conflicts_with old a xs k n so_far least most =
     let same : k ≡ n = omega (arith, least, most) in subst (λ z. map item_view xs ≡ old ++ conflicts_with z a) same so_far
 
-range_more : (a n j : ℕ) → a + n ≡ j → range_with_len a (suc n) ≡ range_with_len a n ++ j ∷ []
-range_more a zero j e = let same : a ≡ j = omega (arith, e) in ap (λ z. z ∷ []) same
-range_more a (suc n) j e = ap (λ (zs : List ℕ). a ∷ zs) (range_more (a + 1) n j (omega (arith, e)))
-
-flat_append : (f : ℕ → List PairItem) (xs : List ℕ) (y : ℕ) → flat_map f (xs ++ y ∷ []) ≡ flat_map f xs ++ f y
-flat_append f [] y = append-nil (f y)
-flat_append f (x ∷ xs) y = ap (λ (z : List PairItem). f x ++ z) (flat_append f xs y) ∙ sym (append_assoc (f x) (flat_map f xs) (f y))
-
 conflicts_more : (k n : ℕ) → conflicts (k + 1) n ≡ conflicts k n ++ conflicts_with n (k + 1)
 conflicts_more k n =
-    let next : k + 1 ≡ suc k = omega arith in
-    ap (λ z. flat_map (conflicts_with n) (range_with_len 1 z)) next
-    ∙ ap (λ (z : List ℕ). flat_map (conflicts_with n) z) (range_more 1 k (k + 1) (omega arith))
-    ∙ flat_append (conflicts_with n) (range_with_len 1 k) (k + 1)
+    ap (flat_map (conflicts_with n)) (range_more 1 k (k + 1) (omega arith))
+    ∙ flat_map-append (conflicts_with n) (range_with_len 1 k) ((k + 1) ∷ [])
+    ∙ ap (λ (z : List PairItem). conflicts k n ++ z) (append-nil (conflicts_with n (k + 1)))
 
 -- all conflicts with one condition more
 pub row_added : (old : List PairItem) (n : ℕ) (xs : List Item) (k : ℕ) (now : List Item) → map item_view xs ≡ old ++ conflicts k n → map item_view now ≡ map item_view xs ++ conflicts_with n (k + 1)

@@ -1,5 +1,5 @@
+pub mod Conditions
 pub mod Ending
-pub mod Growths
 pub mod Index
 pub mod Listings
 pub mod Pairs

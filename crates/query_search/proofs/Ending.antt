@@ -1,6 +1,8 @@
 -- How the search ends.
-use Rattle.std.proofs.Common.{ℕ, zero, suc, ◌≡◌, ◌+◌, ◌*◌, ◌^◌, ◌<◌, ◌≤◌, length, ◌++◌, List, [], ◌∷◌, filter, cond, Bool, true, false, Result, Ok, Err, refl, ap, ◌∙◌, subst, arith}
+use Rattle.std.proofs.Common.{ℕ, ◌≡◌, ◌+◌, ◌*◌, ◌^◌, ◌<◌, ◌≤◌, length, ◌++◌, List, [], ◌∷◌, filter, cond, Bool, Result, Ok, Err, refl, ap, ◌∙◌, subst, arith}
 use Rattle.std.specs.List.{range_with_len}
+use Rattle.std.proofs.lemmas.List.Elements.{filter-append}
+use Rattle.search_spaces.proofs.Growths.{range_more}
 use Rattle.rewriting.specs.Prelude.{with_variables, with_variables_of, variables_of, Condition, System, sides, IsWellFormed}
 use Rattle.rewriting.proofs.Lengths.{variables_length}
 use Rattle.certificates.specs.Prelude.{DoConditionsFit, AreConditionsOver}
@@ -25,17 +27,8 @@ not_nothing Exhausted other = λ e. other refl
 not_nothing Spent other = λ e. cc
 
 -- the numbers that pass a test, up to one more
-head_apart : (b : Bool) (a : ℕ) (ys xs : List ℕ) → cond b (a ∷ (ys ++ xs)) (ys ++ xs) ≡ cond b (a ∷ ys) ys ++ xs
-head_apart true a ys xs = refl
-head_apart false a ys xs = refl
-
-filter_next : (p : ℕ → Bool) (n a j : ℕ) → a + n ≡ j → filter p (range_with_len a (suc n)) ≡ filter p (range_with_len a n) ++ cond (p j) (j ∷ []) []
-filter_next p zero a j e = let same : a ≡ j = omega (arith, e) in ap (λ z. cond (p z) (z ∷ []) []) same
-filter_next p (suc n) a j e =
-    ap (λ ys. cond (p a) (a ∷ ys) ys) (filter_next p n (a + 1) j (omega (arith, e))) ∙ head_apart (p a) a (filter p (range_with_len (a + 1) n)) (cond (p j) (j ∷ []) [])
-
 pub filter_more : (p : ℕ → Bool) (a n j : ℕ) → a + n ≡ j → filter p (range_with_len a (n + 1)) ≡ filter p (range_with_len a n) ++ cond (p j) (j ∷ []) []
-filter_more p a n j e = let one : n + 1 ≡ suc n = omega arith in ap (λ m. filter p (range_with_len a m)) one ∙ filter_next p n a j e
+filter_more p a n j e = ap (filter p) (range_more a n j e) ∙ filter-append p (range_with_len a n) (j ∷ [])
 
 module _ (sys : System) (cs : List Condition) (before after : Counts) where
   ended : (e : Ending QueryAnswer) → EndsSo (query_item_cost sys cs) (GivesAnswer sys cs) (query_items sys cs) before after e → (n : ℕ) × Spends before n after × MayEndQuery sys cs before.left n e

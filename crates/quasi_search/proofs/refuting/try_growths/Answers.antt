@@ -1,4 +1,4 @@
-use Rattle.std.proofs.Common.{◌≡◌, ◌+◌, ◌∷◌, [], length, map, Ok, subst, arith}
+use Rattle.std.proofs.Common.{◌≡◌, ◌+◌, ◌∷◌, [], length, map, Ok, ap, subst, arith}
 use Rattle.critical_pairs.specs.View.{overlap_view}
 use Rattle.search_spaces.specs.Refuting.{try_growth, growths}
 use Rattle.cc_count.proofs.Spending.{spends_none, kept_on}
@@ -7,7 +7,8 @@ use Rattle.cc_count.specs.declared.Sought.TheVariants.{Nothing}
 use Rattle.search_answers.proofs.Walking.{begins, finishes}
 use Rattle.pair_search.proofs.Composed.{goes_on, ends}
 use Rattle.quasi_space.specs.QuasiItems.{try_refuting, quasi_item_cost, GivesQuasi}
-use Rattle.quasi_search.proofs.Growths.{growths_behind, all_left, next_growth, none_behind, few_conditions, counted}
+use Rattle.search_spaces.proofs.Growths.{growths_behind, all_behind, next_behind, none_behind}
+use Rattle.quasi_search.proofs.Conditions.{few_conditions, counted}
 use Rattle.quasi_search.proofs.refuting.try_growths.Goals as goal
 
 pub overflow_cast-count : goal.overflow_cast-count
@@ -19,7 +20,7 @@ pub growths-init : goal.growths-init
 growths-init c =
     record {
       within = omega arith;
-      walking = begins (all_left c.len-count.result);
+      walking = begins (ap (map try_refuting) (all_behind c.len-count.result));
       kept = (0, spends_none c.args.budget.now);
       knows = c.requires.knows;
     }
@@ -36,7 +37,7 @@ returns-in_default c =
     record {
       answer = subst (λ m. WalkAnswers quasi_item_cost (GivesQuasi c.args.sys.now (overlap_view c.args.overlap.now)) (map try_refuting (growths m)) c.args.budget.now
           c.try_way.new.budget (Ok c.in_ok-end.end)) all
-          (ends c.growths.invariant.walking c.try_way.new.budget (try_refuting (try_growth (i + 1)) ∷ []) (growths_behind (i + 1) n) (next_growth i n c.growths-test.true)
+          (ends c.growths.invariant.walking c.try_way.new.budget (try_refuting (try_growth (i + 1)) ∷ []) (map try_refuting (growths_behind (i + 1) n)) (ap (map try_refuting) (next_behind i n c.growths-test.true))
           c.in_ok-end.end c.in_default.not-Nothing c.in_ok-end.ensures.answer);
       kept = kept_on c.args.budget.now c.growths.budget c.try_way.new.budget c.growths.invariant.kept c.in_ok-end.ensures.kept;
       knows = c.in_ok-end.ensures.knows;
@@ -49,7 +50,7 @@ growths-preserved c =
     let below = c.growths-test.true in
     record {
       within = omega (arith, below);
-      walking = goes_on c.growths.invariant.walking c.try_way.new.budget (try_refuting (try_growth (i + 1)) ∷ []) (growths_behind (i + 1) n) (next_growth i n c.growths-test.true)
+      walking = goes_on c.growths.invariant.walking c.try_way.new.budget (try_refuting (try_growth (i + 1)) ∷ []) (map try_refuting (growths_behind (i + 1) n)) (ap (map try_refuting) (next_behind i n c.growths-test.true))
           c.in_ok-end.end c.in-Nothing.is c.in_ok-end.ensures.answer;
       kept = kept_on c.args.budget.now c.growths.budget c.try_way.new.budget c.growths.invariant.kept c.in_ok-end.ensures.kept;
       knows = c.in_ok-end.ensures.knows;
@@ -63,7 +64,7 @@ returns-clause-answer c =
     let all : n ≡ length (overlap_view c.args.overlap.now).pair.conditions =
     counted c.args.sys.now c.args.overlap.now c.rules-rules.ensures.sound c.requires.overlap n (omega (arith, c.len-count.ensures, c.args.overlap.now.conds.ok.0)) in
     subst (λ m. WalkAnswers quasi_item_cost (GivesQuasi c.args.sys.now (overlap_view c.args.overlap.now)) (map try_refuting (growths m)) c.args.budget.now c.growths.budget (Ok Nothing)) all
-    (finishes c.growths.invariant.walking (none_behind i n (omega (arith, over))))
+    (finishes c.growths.invariant.walking (ap (map try_refuting) (none_behind i n (omega (arith, over)))))
 
 pub returns-clause-kept : goal.returns-clause-kept
 returns-clause-kept c = c.growths.invariant.kept
