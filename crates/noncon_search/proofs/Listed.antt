@@ -14,13 +14,11 @@ use Rattle.critical_pairs.specs.View.{overlap_view}
 use Rattle.critical_pairs.specs.declared.Overlap.{Overlap}
 use Rattle.reach_lists.specs.Solutions.{Reached}
 use Rattle.reach_lists.specs.Laws.{EachOf, IsWithoutRepetition}
-use Rattle.reach_lists.specs.Lists.{is_listed, successors, condition_list}
+use Rattle.reach_lists.specs.Lists.{is_listed, reach_list}
 use Rattle.reach_lists.proofs.Laws.{listed_derived, none_twice}
-use Rattle.reach.specs.Parts.{DoAllFit}
-use Rattle.reach.proofs.Fitting.{listed_fit}
 use Rattle.general_lemmas.proofs.Places.{drop_read, map-drop_read}
 pub use Rattle.general_lemmas.proofs.Places.{slice_rest}
-use Rattle.search_spaces.specs.Listings.{listing, pairs_of}
+use Rattle.search_spaces.specs.Listings.{pairs_of}
 use Rattle.search_spaces.specs.PeakItems.{try_ends, peak_items_of, peak_items}
 use Rattle.noncon_search.specs.declared.ends.End.{End}
 use Rattle.noncon_search.specs.Ends.{end_view, ends_view, IsEnd, AreMet, AreEnds}
@@ -70,19 +68,16 @@ module _ (sys : System) (t : Term) where
   pub later_left : (first : End) (later : List End) (j : ℕ) (y : End) → j < length later → y ≡ get_or later j y → AreEnds sys t (first ∷ drop j later) → AreEnds sys t (first ∷ y ∷ drop (j + 1) later)
   later_left first later j y h e are = subst (λ z. AreEnds sys t (first ∷ z)) (drop_read later j y h e) are
 
-  -- the ends of a listing
-  pub ends_are : Fits t → (list : List Reached) → list ≡ listing sys [] t → (es : List End) → ends_view es ≡ list → EachOf (IsEnd sys) es → AreMet sys es → AreEnds sys t es
-  ends_are fits list is es same each met =
-      let all : listing sys [] t ≡ ends_view es = sym (same ∙ is) in
+  -- the ends of a list
+  pub ends_are : (d k : ℕ) (list : List Reached) → list ≡ reach_list sys [] d k t → (es : List End) → ends_view es ≡ list → EachOf (IsEnd sys) es → AreMet sys es → AreEnds sys t es
+  ends_are d k list is es same each met =
+      let all : reach_list sys [] d k t ≡ ends_view es = sym (same ∙ is) in
       record {
         each = each;
         met = met;
-        derived = subst (EachOf (λ r. Derives sys [] t r.by r.term)) all (listed_derived sys [] 5 2 t);
-        once = subst IsWithoutRepetition all (none_twice sys [] 5 2 t);
+        derived = subst (EachOf (λ r. Derives sys [] t r.by r.term)) all (listed_derived sys [] d k t);
+        once = subst IsWithoutRepetition all (none_twice sys [] d k t);
       }
-
-  pub listing_fits : Fits t → (list : List Reached) → list ≡ listing sys [] t → DoAllFit list
-  listing_fits fits list is = subst DoAllFit (sym is) (listed_fit (successors sys [] (condition_list sys [] 2)) t fits 5)
 
 -- the left sides of rules, and the sources of overlaps
 pub lefts_fit : (arities : Signature) (rs : List Rule) → AreRules arities (map rule_view rs) → EachOf (λ r. Fits (view r.left)) rs

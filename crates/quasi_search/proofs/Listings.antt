@@ -1,16 +1,10 @@
 -- Listings that were made, and those that could not be paid.
-use Rattle.std.proofs.Common.{◌≡◌, ◌<◌, List, [], ◌∷◌, Vec, Global, Option, None, Some, Result, Ok, refl, sym, subst}
-use Rattle.rewriting.specs.Prelude.{Term, Fits, Condition, System}
+use Rattle.std.proofs.Common.{◌≡◌, ◌<◌, List, [], ◌∷◌, Vec, Global, Option, None, Some, Result, Ok, refl}
+use Rattle.rewriting.specs.Prelude.{Term, System}
 use Rattle.unifier_run.specs.Overlaps.{Overlap}
 use Rattle.cc_count.specs.Counts.{Counts, Spends}
-use Rattle.reach_lists.specs.Solutions as math
-use Rattle.reach_lists.specs.Lists.{successors, condition_list}
-use Rattle.reach_lists.specs.Laws.{IsWithoutRepetition}
-use Rattle.reach_lists.proofs.Laws.{none_twice}
-use Rattle.reach.specs.Parts.{DoAllFit}
 use Rattle.reach.specs.declared.listed.Entry.{Entry}
-use Rattle.reach.proofs.Fitting.{listed_fit}
-use Rattle.search_spaces.specs.Listings.{listing, listing_cost}
+use Rattle.search_spaces.specs.Listings.{listing_cost}
 use Rattle.term_core.specs.declared.terms.NoMemory.{NoMemory}
 use Rattle.pair_search.specs.Answers.{WalkAnswers}
 use Rattle.cc_count.specs.declared.Sought.{Sought}
@@ -20,13 +14,6 @@ use Rattle.search_answers.proofs.Walking.{item_is_dear, item_bare}
 use Rattle.pair_search.proofs.Composed.{goes_behind}
 use Rattle.quasi_space.specs.QuasiItems.{QuasiItem, make_listing, quasi_item_cost, GivesQuasi}
 use Rattle.quasi_search.specs.Listed.{ListedAnswers}
-
-module _ (sys : System) (hyps : List Condition) (t : Term) (l : List math.Reached) (is : l ≡ listing sys hyps t) where
-  pub listing_fits : Fits t → DoAllFit l
-  listing_fits fits = subst DoAllFit (sym is) (listed_fit (successors sys hyps (condition_list sys hyps 2)) t fits 5)
-
-  pub listing_once : IsWithoutRepetition l
-  listing_once = subst IsWithoutRepetition (sym is) (none_twice sys hyps 5 2 t)
 
 module _ (sys : System) (o : Overlap) (t : Term) (a b : Counts) where
   abbrev item : QuasiItem

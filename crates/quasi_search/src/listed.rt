@@ -1,11 +1,14 @@
 //! Terms that a term leads to under the conditions of an overlap, which are taken as hypotheses.
-ghost use Rattle.std.specs.Prelude.{ℕ};
+ghost use Rattle.std.specs.Prelude.{ℕ, IfOk, IfSome};
 ghost use Rattle.rewriting.specs.Terms as math;
 ghost use Rattle.unifier_run.specs.Overlaps.{IsOverlapOf};
 ghost use Rattle.term_core.specs.View.{view};
 ghost use Rattle.critical_pairs.specs.View.{overlap_view};
 ghost use Rattle.cc_count.specs.Counts.{Spends};
-ghost use Rattle.quasi_search.specs.Listed.{ListedAnswers};
+ghost use Rattle.reach_lists.specs.Laws.{IsWithoutRepetition};
+ghost use Rattle.reach.specs.EntryView.{table_view};
+ghost use Rattle.reach.specs.Parts.{DoAllFit};
+ghost use Rattle.quasi_search.specs.Listed.{ReachedAnswers, ListedAnswers};
 
 use cc_count::Budget;
 use critical_pairs::Overlap;
@@ -16,17 +19,22 @@ use search_spaces::{COND_DEPTH, STEPS};
 use std::alloc::Global;
 use term_core::{NoMemory, Term};
 
-/// The listing of a term with the conditions of an overlap as hypotheses; none where the budget is spent before.
-pub fn listed_under(
+/// The terms that a term reaches in so many steps with the conditions of an overlap as hypotheses; none where the budget is spent
+/// before.
+pub fn listed_within(
     alloc: Global,
     sys: &PreparedSystem<'_>,
     overlap: &Overlap,
     start: &Term,
+    steps: u32,
+    cond_depth: u32,
     budget: &mut Budget,
 ) -> Result<Option<Vec<Entry>>, NoMemory>
     requires overlap { IsOverlapOf sys.now (overlap_view overlap.now) }
     requires start { math.Fits (view start.now) }
-    ensures answer { ListedAnswers sys.now (overlap_view overlap.now) (view start.now) budget.old budget.new result }
+    ensures answer { ReachedAnswers sys.now (overlap_view overlap.now) steps cond_depth (view start.now) budget.old budget.new result }
+    ensures fit { IfOk result (λ o. IfSome o (λ list. DoAllFit (table_view list.items))) }
+    ensures once { IfOk result (λ o. IfSome o (λ list. IsWithoutRepetition (table_view list.items))) }
     ensures kept { (n : ℕ) × Spends budget.old n budget.new }
 {
     // That conditions are few is known of the rules of a system.
@@ -37,8 +45,8 @@ pub fn listed_under(
         sys.indexed(),
         &overlap.conds,
         start,
-        STEPS,
-        COND_DEPTH,
+        steps,
+        cond_depth,
         budget,
         &mut work,
     ) {
@@ -46,4 +54,22 @@ pub fn listed_under(
         Err(ReachStop::Spent) => Ok(None),
         Err(ReachStop::NoMemory) => Err(NoMemory),
     }
+}
+
+/// The listing of a term with the conditions of an overlap as hypotheses; none where the budget is spent before.
+pub(crate) fn listed_under(
+    alloc: Global,
+    sys: &PreparedSystem<'_>,
+    overlap: &Overlap,
+    start: &Term,
+    budget: &mut Budget,
+) -> Result<Option<Vec<Entry>>, NoMemory>
+    requires overlap { IsOverlapOf sys.now (overlap_view overlap.now) }
+    requires start { math.Fits (view start.now) }
+    ensures answer { ListedAnswers sys.now (overlap_view overlap.now) (view start.now) budget.old budget.new result }
+    ensures fit { IfOk result (λ o. IfSome o (λ list. DoAllFit (table_view list.items))) }
+    ensures once { IfOk result (λ o. IfSome o (λ list. IsWithoutRepetition (table_view list.items))) }
+    ensures kept { (n : ℕ) × Spends budget.old n budget.new }
+{
+    listed_within(alloc, sys, overlap, start, STEPS, COND_DEPTH, budget)
 }

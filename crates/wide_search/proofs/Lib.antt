@@ -1,4 +1,3 @@
 pub mod GoodNumbers
 pub mod Prefixes
-pub mod Reached
 pub mod Some

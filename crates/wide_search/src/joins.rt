@@ -12,10 +12,9 @@ use crate::listed::{COND_DEPTH, STEPS};
 use cc_count::{Budget, Sought};
 use cert_model::PairEvidence;
 use critical_pairs::Overlap;
-use flatterm::Work;
 use prepared_system::PreparedSystem;
-use quasi_search::try_shared;
-use reach::{Entry, ReachStop, reach_in};
+use quasi_search::{listed_within, try_shared};
+use reach::Entry;
 use std::alloc::Global;
 use term_core::{NoMemory, Term};
 
@@ -32,23 +31,7 @@ fn listed_under(
     ensures fit { IfOk result (λ o. IfSome o (λ list. DoAllFit (table_view list.items))) }
     ensures once { IfOk result (λ o. IfSome o (λ list. IsWithoutRepetition (table_view list.items))) }
 {
-    // That conditions are few is known of the rules of a system.
-    let _rules = sys.rules();
-    let mut work = Work::new();
-    match reach_in(
-        alloc,
-        sys.indexed(),
-        &overlap.conds,
-        start,
-        STEPS,
-        COND_DEPTH,
-        budget,
-        &mut work,
-    ) {
-        Ok(list) => Ok(Some(list)),
-        Err(ReachStop::Spent) => Ok(None),
-        Err(ReachStop::NoMemory) => Err(NoMemory),
-    }
+    listed_within(alloc, sys, overlap, start, STEPS, COND_DEPTH, budget)
 }
 
 /// Lists the terms that either side leads to, and takes the first shared one.

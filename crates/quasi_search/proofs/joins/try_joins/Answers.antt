@@ -6,7 +6,7 @@ use Rattle.search_spaces.specs.Listings.{listing, listing_cost}
 use Rattle.cc_count.specs.declared.Sought.TheVariants.{Spent}
 use Rattle.quasi_space.specs.QuasiItems.{make_listing, joins}
 use Rattle.quasi_search.specs.Listed.{ListedAnswers}
-use Rattle.quasi_search.proofs.Listings.{listing_fits, listing_once, listing_made, listing_stops}
+use Rattle.quasi_search.proofs.Listings.{listing_made, listing_stops}
 use Rattle.quasi_search.proofs.joins.try_joins.Goals as goal
 
 pub returns-in_default-clause-answer : goal.returns-in_default-clause-answer
@@ -31,27 +31,6 @@ returns-in_default-2-clause-answer c =
 
 pub returns-in_default-2-clause-kept : goal.returns-in_default-2-clause-kept
 returns-in_default-2-clause-kept c = kept_on _ _ _ c.in_ok-left.ensures.kept c.in_ok-right.ensures.kept
-
-pub try_shared-requires-clause-left : goal.try_shared-requires-clause-left
-try_shared-requires-clause-left c =
-    let sys = c.args.sys.now in
-    let o = overlap_view c.args.overlap.now in
-    let left = subst (λ z. ListedAnswers sys o o.pair.left c.args.budget.now c.listed_under.new.budget (Ok z)) c.in-Some.is c.in_ok-left.ensures.answer in
-    listing_fits sys o.pair.conditions o.pair.left (table_view c.deref.result.now) (ap table_view c.deref.ensures.value ∙ left.0) c.requires.overlap.fits.left
-
-pub try_shared-requires-clause-right : goal.try_shared-requires-clause-right
-try_shared-requires-clause-right c =
-    let sys = c.args.sys.now in
-    let o = overlap_view c.args.overlap.now in
-    let right = subst (λ z. ListedAnswers sys o o.pair.right c.listed_under.new.budget c.listed_under-2.new.budget (Ok z)) c.in-Some-2.is c.in_ok-right.ensures.answer in
-    listing_fits sys o.pair.conditions o.pair.right (table_view c.deref-2.result.now) (ap table_view c.deref-2.ensures.value ∙ right.0) c.requires.overlap.fits.right
-
-pub try_shared-requires-clause-once : goal.try_shared-requires-clause-once
-try_shared-requires-clause-once c =
-    let sys = c.args.sys.now in
-    let o = overlap_view c.args.overlap.now in
-    let right = subst (λ z. ListedAnswers sys o o.pair.right c.listed_under.new.budget c.listed_under-2.new.budget (Ok z)) c.in-Some-2.is c.in_ok-right.ensures.answer in
-    listing_once sys o.pair.conditions o.pair.right (table_view c.deref-2.result.now) (ap table_view c.deref-2.ensures.value ∙ right.0)
 
 pub returns-clause-answer : goal.returns-clause-answer
 returns-clause-answer c =
