@@ -94,16 +94,15 @@ pub(crate) fn walk_grid(
     let mut prefix = Vec::new(alloc);
     // Each visit goes down by a symbol or takes a unit.
     'visits: loop {
-        match visit(alloc, judge, &prefix, budget) {
-            Ok(Seen::Alive) => go_down(alloc, judge, &mut prefix)?,
-            Ok(Seen::Dead) => {
+        match visit(alloc, judge, &prefix, budget)? {
+            Seen::Alive => go_down(alloc, judge, &mut prefix)?,
+            Seen::Dead => {
                 if !go_on(&mut prefix)? {
                     return Ok(Sought::Nothing);
                 }
             }
-            Ok(Seen::Good) => return Ok(Sought::Found(Linear { entries: prefix })),
-            Ok(Seen::Unpaid) => return Ok(Sought::Spent),
-            Err(e) => return Err(e),
+            Seen::Good => return Ok(Sought::Found(Linear { entries: prefix })),
+            Seen::Unpaid => return Ok(Sought::Spent),
         }
     }
 }
