@@ -1,5 +1,5 @@
 -- The names that the lemmas cite, passed on from one place. Declares nothing.
-pub use Rattle.std.proofs.Common.{◌≡◌, ◌⊎◌, inl, inr, ℕ, ◌==◌, true, false, not, List, [], ◌∷◌, ◌++◌, refl, sym, ap, ◌∙◌, subst, append_assoc, eqb-true, take, Option, Some, None, suc, ◌+◌, ◌≤◌, Bool}
+pub use Rattle.std.proofs.Common.{◌≡◌, ◌⊎◌, inl, inr, ℕ, ◌==◌, true, false, not, List, [], ◌∷◌, ◌++◌, refl, sym, ap, ◌∙◌, subst, eqb-true, take, Option, Some, None, append_assoc, suc, ◌+◌, ◌≤◌, Bool}
 pub use Rattle.std.proofs.Common.{length, codes, arith, zero, ◌<◌, drop, max, length-append, nat_le, nat_lt, decimal, eq-eqb, ◌-◌, cond, ◌&&◌, ◌*◌, ◌||◌, if◌then◌else◌, ◌/◌, ◌%◌, ne_eqb, length-drop}
 pub use Rattle.std.specs.Prelude.{is_some, unwrap_or, option_and_then}
 pub use Rattle.std.proofs.Math.Seq.{take-append_seam, drop-append_seam}

@@ -4,21 +4,20 @@ use Rattle.cert_sharing.proofs.Prelude.{auxiliary, Derivation, Automaton, Infeas
 use Rattle.cert_sharing.proofs.Prelude.{unfeasible_pair, PairEntry, LinearEntry, MeasureCertificate, linear_measure, precedence_measure, Redex, Apartness, by_normal_forms, by_rigid_caps, Peak}
 use Rattle.cert_sharing.proofs.Prelude.{Simplification, dropped, inlined, Certificate, ortho_certificate, quasi_certificate, peak_certificate, simplified_certificate, NameTable, name_of, Version}
 use Rattle.cert_sharing.proofs.Prelude.{first_version, second_version, Uses, in_full, by_number, used_by, used_by_evidence, used_by_pairs, used_by_redexes, used_by_apart, used_by_steps, automata_of}
-use Rattle.cert_sharing.proofs.Prelude.{automaton_text, IsAutomaton, IsMeasured, AreEntries, AreHeads, IsMeasure, IsWithin, IsCertificateText, Naming, shares, automaton_ends, Mark, fixed, closed}
-use Rattle.cert_sharing.proofs.Prelude.{marks_text, term_marks, derivation_marks, closing, use_marks, automaton_marks, automata_marks, infeasibility_marks, evidence_marks, pairs_marks}
-use Rattle.cert_sharing.proofs.Prelude.{coefficients_marks, measured_marks, entries_marks, heads_marks, measure_marks, redexes_marks, apart_marks, simplifications_marks, body_marks, answer_marks}
-use Rattle.cert_sharing.proofs.Prelude.{certificate_marks, is_among, texts_of, shared_by, number_in, AreAutomata, HaveNames, states_line, same_marks, same_skeletons, nothing_left, automaton_path}
-use Rattle.cert_sharing.proofs.Prelude.{spelt_automaton, AllOf, all_of, tail_same, ◌+◌, ◌==◌, cond, subst, eq-eqb, var, app, Terms, nil, cons, count, size, no_steps, first_step, Step, by_rule}
-use Rattle.cert_sharing.proofs.Prelude.{by_hypothesis, Derivations, no_derivations, first_derivation, derivation_count, step_count, Transition, name_at, number_of, IsSpelt, AreSpelt, IsHead}
-use Rattle.cert_sharing.proofs.Prelude.{AreTransitions, Counted, Demand, has_arity, behind, mark_text, number_for, places_text, position, places, arguments_marks, further_marks, steps_marks}
-use Rattle.cert_sharing.proofs.Prelude.{step_marks, derivations_marks, state, accepting_marks, further_states_marks, states_marks, head_marks, transitions_marks, IsShared, uses_with}
+use Rattle.cert_sharing.proofs.Prelude.{automaton_text, IsAutomaton, IsMeasured, AreEntries, AreHeads, IsMeasure, IsWithin, IsCertificateText, Naming, Mark, fixed, marks_text, term_marks}
+use Rattle.cert_sharing.proofs.Prelude.{derivation_marks, closing, use_marks, automaton_marks, automata_marks, infeasibility_marks, evidence_marks, pairs_marks, coefficients_marks, measured_marks}
+use Rattle.cert_sharing.proofs.Prelude.{entries_marks, heads_marks, measure_marks, redexes_marks, apart_marks, simplifications_marks, body_marks, answer_marks, certificate_marks, is_among, texts_of}
+use Rattle.cert_sharing.proofs.Prelude.{shared_by, number_in, AreAutomata, HaveNames, states_line, same_marks, same_skeletons, nothing_left, automaton_path, spelt_automaton, AllOf, all_of, tail_same}
+use Rattle.cert_sharing.proofs.Prelude.{◌+◌, ◌==◌, cond, subst, eq-eqb, var, app, Terms, nil, cons, count, size, no_steps, first_step, Step, by_rule, by_hypothesis, Derivations, no_derivations}
+use Rattle.cert_sharing.proofs.Prelude.{first_derivation, derivation_count, step_count, Transition, name_at, number_of, IsSpelt, AreSpelt, IsHead, AreTransitions, Counted, Demand, has_arity, behind}
+use Rattle.cert_sharing.proofs.Prelude.{mark_text, number_for, places_text, position, places, arguments_marks, further_marks, steps_marks, step_marks, derivations_marks, accepting_marks}
+use Rattle.cert_sharing.proofs.Prelude.{further_states_marks, states_marks, head_marks, transitions_marks, IsShared, uses_with, target_marks}
 use Rattle.std.proofs.lemmas.List.{append-nil}
 use Rattle.cert_sharing.proofs.FirstUses.{AreAmong, place_text}
 use Rattle.cert_sharing.proofs.SpeltShares.{of_certificate, none_left, numbered_with, spelt_whole, spelt_skeleton}
 use Rattle.std.specs.Prelude.{unwrap_or}
 use Rattle.cert_grammar.proofs.ScanWords.{places_of_text}
 use Rattle.cert_sharing.proofs.UseMarks.{seal}
-use Rattle.cert_laws.proofs.PassEvidence.{target_marks}
 
 -- a symbol is told by its name
 pub same_symbol : (names : NameTable) (f g : ℕ) (u v : List ℕ) → name_at names f ≡ Some u → number_of names.symbols u ≡ Some f → name_at names g ≡ Some v

@@ -8,7 +8,7 @@ pub use Rattle.cert_grammar.specs.Prelude.{texts_of, with_new, number_in, unfold
 pub use Rattle.cert_laws.proofs.AlikePaths.{alike_skeletons, same_marks, same_skeletons}
 pub use Rattle.cert_laws.proofs.Moves.{There, tail_same}
 pub use Rattle.cert_laws.proofs.OneRefusal.{Judging, Stops, one_stop, Closes, never, passed_anywhere}
-pub use Rattle.cert_laws.proofs.PassEvidence.{AllOf, AllBy, Solves, meant_automaton, all_of}
+pub use Rattle.cert_laws.proofs.PassEvidence.{AllOf, AllBy, Solves, meant_automaton, all_of, target_marks}
 pub use Rattle.cert_laws.proofs.PassWhole.{pair_front, redex_front, steps_front, IsBare, meant_body, told_answer}
 pub use Rattle.cert_laws.proofs.Prelude.{◌≡◌, inr, ℕ, Bool, true, false, cond, List, [], ◌∷◌, length, Option, Some, None, refl, ap, ◌∙◌, arith, NameTable, CertificateCause, Demand, shares, Mark}
 pub use Rattle.cert_laws.proofs.Prelude.{marks_text, Shared, nothing_shared, ◌⊎◌, inl, ◌≤◌, ◌++◌, length-append, Share, automaton_begins, automaton_ends, is_use, is_light, all_used, mark_text}
@@ -25,7 +25,7 @@ pub use Rattle.cert_laws.proofs.Prelude.{eq-eqb, automaton_text, IsInfeasibility
 pub use Rattle.cert_laws.proofs.Prelude.{and_parts, Head, file, auxiliary, LinearEntry, linear_measure, precedence_measure, Peak, IsMeasured, AreEntries, AreHeads, IsMeasure, use_marks}
 pub use Rattle.cert_laws.proofs.Prelude.{coefficients_marks, measured_marks, entries_marks, heads_marks, states_line, var, app, Terms, nil, cons, count, size, no_steps, first_step, Step, by_rule}
 pub use Rattle.cert_laws.proofs.Prelude.{by_hypothesis, Derivations, no_derivations, first_derivation, derivation_count, step_count, Transition, name_at, number_of, IsSpelt, AreSpelt, IsHead}
-pub use Rattle.cert_laws.proofs.Prelude.{AreTransitions, has_arity, behind, places_text, position, places, arguments_marks, further_marks, steps_marks, step_marks, derivations_marks, state}
+pub use Rattle.cert_laws.proofs.Prelude.{AreTransitions, has_arity, behind, places_text, position, places, arguments_marks, further_marks, steps_marks, step_marks, derivations_marks}
 pub use Rattle.cert_laws.proofs.Prelude.{further_states_marks, states_marks, head_marks}
 pub use Rattle.cert_laws.proofs.SkeletonPaths.{skeleton_path, nothing_left, automaton_path}
 pub use Rattle.cert_laws.proofs.Spelt.{pass_both, have_append, text_both, Spells, put_bytes, put_two}
