@@ -36,7 +36,7 @@ pub use Rattle.cert_grammar.specs.Items.{further_states, head_closed, derivation
 pub use Rattle.cert_grammar.specs.Items.{term_closed, next_argument, symbol_end, apart, Lead, check, at_once, keyword, numeral_lead, position_lead, variable_lead, name_lead}
 pub use Rattle.cert_grammar.specs.Items.{between_text, is_short, derivations, steps_of, transitions_of, simplifications_of, behind_automata, end_lead, pair_or_end}
 pub use Rattle.cert_grammar.specs.Items.{infeasibility_leads, body_leads, with_next, term_checks, leads}
-pub use Rattle.cert_grammar.specs.FirstRefusal.{step, read, mode_of, ends_here, ends_lead, is_there, first_there, longest, taken, mark_of, items_of, Left, Step, accepts, refuses}
-pub use Rattle.cert_grammar.specs.FirstRefusal.{goes_on, behind_lead, judged, step_lead, step_items, Reading, accepted, refused, reading, whole_text, read_certificate}
+pub use Rattle.cert_grammar.specs.FirstRefusal.{step, mode_of, ends_here, ends_lead, is_there, first_there, longest, taken, mark_of, items_of, Left, Step, accepts, refuses}
+pub use Rattle.cert_grammar.specs.FirstRefusal.{goes_on, behind_lead, judged, step_lead, step_items, Reading, accepted, refused, whole_text}
 pub use Rattle.cert_grammar.specs.SharedReader.{next_lead, SharedStep, ends, further, shared_judged, behind_lead_shared, after_step, shared_step, shared_reading, read_shared}
 pub use Rattle.cert_grammar.specs.SharedReader.{read_text}
