@@ -1,35 +1,18 @@
 -- Texts that are read up to a body, or behind the word of its kind.
-use Rattle.std.proofs.Common.{◌≡◌, ℕ, Bool, List, [], ◌∷◌, ◌++◌, length, Option, Some, None, codes, refl, sym, ap, ◌∙◌, subst, arith, append_assoc}
-use Rattle.std.proofs.lemmas.List.{append-nil}
-use Rattle.certificates.specs.Prelude.{Automaton, PairEntry, Simplification, Certificate, simplified_certificate}
-use Rattle.cops_names.specs.NameTable.{NameTable}
-use Rattle.cert_grammar.specs.Prelude.{name_of, Version, first_version, second_version, Uses, number_in, CertificateCause, Naming, Mark, fixed, marks_text, answer_marks, heading_marks}
-use Rattle.cert_grammar.specs.Prelude.{body_marks, closing, certificate_marks, HaveNames, Item, opening, between, line, nothing_shared}
+use Rattle.cert_text.proofs.Prelude.{◌≡◌, ℕ, Bool, List, [], ◌∷◌, ◌++◌, length, Option, Some, None, codes, refl, sym, ap, ◌∙◌, subst, arith, append_assoc, append-nil, Automaton, PairEntry}
+use Rattle.cert_text.proofs.Prelude.{Simplification, Certificate, simplified_certificate, NameTable, name_of, Version, first_version, second_version, Uses, number_in, CertificateCause, Naming, Mark}
+use Rattle.cert_text.proofs.Prelude.{fixed, marks_text, answer_marks, heading_marks, body_marks, closing, certificate_marks, HaveNames, Item, opening, between, line, nothing_shared, AreStill}
+use Rattle.cert_text.proofs.Prelude.{counts_still, lines_text, Opening, certificate_for, uses_with, IsOpeningEnd, IsOpened, no_peak, CertError, told, IsRefusedAs, Run, Reads, walks_text, kind_mark}
+use Rattle.cert_text.proofs.Prelude.{item_by, Peak, Place, IsStoppedWhere, ReadsWhere, WithinOpening, BeforeEntries, Anywhere, walks_named, kind_item, then_where, as_marks_where, low_where}
+use Rattle.cert_text.proofs.Prelude.{elsewhere, anywhere, reads_anywhere, open_before_where, ran, stopped_where, low_unopened, known_where, read_marks, IsToldBefore, steps_marks, opening_behind}
+use Rattle.cert_text.proofs.Prelude.{CanStep, front_marks, IsBegun, BeginsBody}
 use Rattle.cert_laws.proofs.Spelt.{have_append, text_both}
-use Rattle.cert_sharing.proofs.UseMarks.{AreStill, counts_still}
-use Rattle.cert_openings.specs.Openings.{lines_text, Opening, certificate_for, uses_with, IsOpeningEnd, IsOpened}
-use Rattle.cert_openings.proofs.Lines.{no_peak}
 use Rattle.cert_openings.proofs.OwnLines.{Own, no_lines, own_marks, own_front, own_simplify}
 use Rattle.cert_sharing.proofs.SpeltShares.{same_version}
 use Rattle.cert_openings.proofs.Bare.{openings_end}
 use Rattle.cert_openings.proofs.BadOpenings.{bad_openings_are_refused}
-use Rattle.cert_words.specs.declared.error.CertError.{CertError}
 use Rattle.cert_words.specs.declared.reading.Reading.{Reading}
-use Rattle.cert_words.specs.Words.{told}
-use Rattle.cert_words.specs.CertRefusals.{IsRefusedAs}
-use Rattle.cert_words.specs.Walks.{Run, Reads}
-use Rattle.cert_words.proofs.Whole.{walks_text}
-use Rattle.cert_reading.specs.Headings.{kind_mark, item_by}
 use Rattle.cert_reading.specs.declared.headings.Kind.{Kind}
-use Rattle.cert_reading.specs.declared.headings.Kind.TheVariants.{Peak}
-use Rattle.cert_reading.specs.Stops.{Place, IsStoppedWhere, ReadsWhere, WithinOpening, BeforeEntries, Anywhere}
-use Rattle.cert_reading.proofs.Found.{walks_named}
-use Rattle.cert_reading.proofs.Opening.{kind_item}
-use Rattle.cert_reading.proofs.Stopping.{then_where, as_marks_where, low_where, elsewhere, anywhere, reads_anywhere, open_before_where, ran, stopped_where, low_unopened}
-use Rattle.cert_reading.proofs.UseReads.{known_where}
-use Rattle.cert_text.specs.ReadingView.{read_marks}
-use Rattle.cert_text.specs.OpenedText.{IsToldBefore}
-use Rattle.cert_text.specs.Front.{steps_marks, opening_behind, CanStep, front_marks, IsBegun, BeginsBody}
 use Rattle.cert_text.proofs.Runs.{refused_as, refused_as_told}
 use Rattle.cert_text.proofs.Begun.{version_in, unopened, version_is}
 
@@ -157,15 +140,12 @@ module _ {names : NameTable} {bytes : List ℕ} {v : Version} {shared : List Aut
 
   -- ---- where it is refused no opening is there
 
-  begun_text : s.refused ≡ None → bytes ≡ marks_text (front_marks (name_of names) (uses_with v names shared) shared given steps ++ further) ++ s.left.now
-  begun_text none = walks_text names _ _ _ ((run_of none b.read).walks (omega arith) [])
-
   version_there : s.refused ≡ None → (o : Opening) (end : ℕ) → (h : IsOpened names bytes o end) → version_in names bytes o end h.read ≡ v
   version_there none o end h =
       let x = name_of names in
       let w = uses_with v names shared in
       let text : bytes ≡ marks_text (answer_marks given ++ (heading_marks x w shared ++ (steps_marks x w steps ++ further))) ++ s.left.now =
-      begun_text none
+      walks_text names _ _ _ ((run_of none b.read).walks (omega arith) [])
       ∙ ap (λ (ms : List Mark). marks_text ms ++ s.left.now) (append_assoc (answer_marks given) (heading_marks x w shared ++ steps_marks x w steps) further
       ∙ ap (λ (z : List Mark). answer_marks given ++ z) (append_assoc (heading_marks x w shared) (steps_marks x w steps) further)) in
       version_is names bytes s.left.now o end w shared given (steps_marks x w steps ++ further) h.read text ∙ same_version v names shared

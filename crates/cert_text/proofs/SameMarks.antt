@@ -1,18 +1,12 @@
 -- The marks of an opening and of entries are no front of such marks with the same opening and entries, whatever automata are
 -- shared: behind the shared automata there are as many.
-use Rattle.std.proofs.Common.{◌≡◌, ◌+◌, ◌==◌, ℕ, suc, Bool, true, false, cond, List, [], ◌∷◌, ◌++◌, length, get_or, Option, Some, None, codes, refl, sym, ap, ◌∙◌, subst, arith, append_assoc}
-use Rattle.std.proofs.Common.{length-append}
-use Rattle.std.proofs.lemmas.List.{append_cancel_left}
-use Rattle.certificates.specs.Prelude.{Automaton, InfeasibilityEvidence, by_caps, by_automaton, PairEvidence, trivial_pair, infeasible_pair, conflicting_pair, joined_pair, unfeasible_pair}
-use Rattle.certificates.specs.Prelude.{PairEntry, Simplification, dropped, inlined}
-use Rattle.cert_grammar.specs.Prelude.{Uses, in_full, by_number, version_of, Naming, automaton_ends, shares, is_few, Mark, fixed, word, closed, mark_text, number, number_for, position}
-use Rattle.cert_grammar.specs.Prelude.{automaton_marks, automata_marks, infeasibility_marks, evidence_marks, pairs_marks, measure_marks, simplifications_marks, body_marks, answer_marks}
-use Rattle.cert_grammar.specs.Prelude.{heading_marks}
+use Rattle.cert_text.proofs.Prelude.{◌≡◌, ◌+◌, ◌==◌, ℕ, suc, Bool, true, false, cond, List, [], ◌∷◌, ◌++◌, length, get_or, Option, Some, None, codes, refl, sym, ap, ◌∙◌, subst, arith, append_assoc}
+use Rattle.cert_text.proofs.Prelude.{length-append, append_cancel_left, Automaton, InfeasibilityEvidence, by_caps, by_automaton, PairEvidence, trivial_pair, infeasible_pair, conflicting_pair}
+use Rattle.cert_text.proofs.Prelude.{joined_pair, unfeasible_pair, PairEntry, Simplification, dropped, inlined, Uses, in_full, by_number, version_of, Naming, automaton_ends, shares, is_few, Mark}
+use Rattle.cert_text.proofs.Prelude.{fixed, word, closed, mark_text, number, number_for, position, automaton_marks, automata_marks, infeasibility_marks, evidence_marks, pairs_marks, measure_marks}
+use Rattle.cert_text.proofs.Prelude.{simplifications_marks, body_marks, answer_marks, heading_marks, AreStill, behind_states, behind_states_still, Opening, ortho_opening, quasi_opening}
+use Rattle.cert_text.proofs.Prelude.{simplified_opening, certificate_for, bytes_apart, read_marks}
 use Rattle.cert_grammar.specs.Marks as marks
-use Rattle.cert_sharing.proofs.UseMarks.{AreStill, behind_states, behind_states_still}
-use Rattle.cert_openings.specs.Openings.{Opening, ortho_opening, quasi_opening, simplified_opening, certificate_for}
-use Rattle.cert_openings.proofs.Lines.{bytes_apart}
-use Rattle.cert_text.specs.ReadingView.{read_marks}
 
 -- ---- as many marks
 
