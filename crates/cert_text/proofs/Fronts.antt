@@ -45,10 +45,7 @@ line_behind {v = v} {kind = kind} b h = begun_on (fixed (codes "\n") ∷ []) (it
 pub line_of : {names : NameTable} {bytes : List ℕ} {v w : Version} {shared all : List Automaton} {kind : Kind} {s t : Reading} (k : Kind) → kind ≡ k → w ≡ v → all ≡ shared
     → (b : BeginsBody names bytes v shared kind s) → Reads names (length bytes) (between line ∷ []) (λ u. fixed (codes "\n") ∷ []) [] s t
     → IsBegun names bytes w all b.given b.steps (kind_mark b.given k ∷ fixed (codes "\n") ∷ []) (item_by w k ∷ []) t
-line_of {names} {bytes} {v} {w} {shared} {all} {kind} {s} {t} k e p q b h =
-    subst (λ (x : Kind). IsBegun names bytes w all b.given b.steps (kind_mark b.given x ∷ fixed (codes "\n") ∷ []) (item_by w x ∷ []) t) e
-    (subst (λ (x : Version). IsBegun names bytes x all b.given b.steps (kind_mark b.given kind ∷ fixed (codes "\n") ∷ []) (item_by x kind ∷ []) t) (sym p)
-    (subst (λ (x : List Automaton). IsBegun names bytes v x b.given b.steps (kind_mark b.given kind ∷ fixed (codes "\n") ∷ []) (item_by v kind ∷ []) t) (sym q) (line_behind b h)))
+line_of k e p q b h = rw (← e, p, q) (line_behind b h)
 
 -- ---- the marks from the first one on
 
@@ -58,11 +55,12 @@ certificate_behind (Some steps) c = simplified_certificate steps c
 
 front_body : (steps : Option (List Simplification)) (u : Naming) (w : Uses) (shared : List Automaton) (given : Option Bool) (c : Certificate)
     → front_marks u w shared given steps ++ body_marks u w given c ≡ answer_marks given ++ (heading_marks u w shared ++ body_marks u w given (certificate_behind steps c))
-front_body None u w shared given c = ap (λ (z : List Mark). (answer_marks given ++ z) ++ body_marks u w given c) (append-nil (heading_marks u w shared))
-    ∙ append_assoc (answer_marks given) (heading_marks u w shared) (body_marks u w given c)
+front_body None u w shared given c = cc (append-nil (heading_marks u w shared), append_assoc (answer_marks given) (heading_marks u w shared) (body_marks u w given c))
 front_body (Some ss) u w shared given c =
-    append_assoc (answer_marks given) (heading_marks u w shared ++ steps_marks u w (Some ss)) (body_marks u w given c)
-    ∙ ap (λ (z : List Mark). answer_marks given ++ z) (append_assoc (heading_marks u w shared) (steps_marks u w (Some ss)) (body_marks u w given c))
+    cc (
+      append_assoc (answer_marks given) (heading_marks u w shared ++ steps_marks u w (Some ss)) (body_marks u w given c),
+      append_assoc (heading_marks u w shared) (steps_marks u w (Some ss)) (body_marks u w given c),
+    )
 
 pub behind_is : (steps : Option (List Simplification)) (o : Opening) (es : List PairEntry) → certificate_behind steps (certificate_for o es) ≡ certificate_for (opening_behind steps o) es
 behind_is None o es = refl
@@ -77,8 +75,12 @@ front_whole : (steps : Option (List Simplification)) (u : Naming) (w : Uses) (sh
     → front_marks u w shared given steps ++ (body_marks u w given c ++ closing) ≡ certificate_marks u w shared given (certificate_behind steps c)
 front_whole steps u w shared given c =
     let body = body_marks u w given (certificate_behind steps c) in
-    sym (append_assoc (front_marks u w shared given steps) (body_marks u w given c) closing) ∙ ap (λ (z : List Mark). z ++ closing) (front_body steps u w shared given c)
-    ∙ append_assoc (answer_marks given) (heading_marks u w shared ++ body) closing ∙ ap (λ (z : List Mark). answer_marks given ++ z) (append_assoc (heading_marks u w shared) body closing)
+    cc (
+      front_body steps u w shared given c,
+      append_assoc (front_marks u w shared given steps) (body_marks u w given c) closing,
+      append_assoc (answer_marks given) (heading_marks u w shared ++ body) closing,
+      append_assoc (heading_marks u w shared) body closing,
+    )
 
 -- ---- what was refused stays so
 

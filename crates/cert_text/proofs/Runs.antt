@@ -37,7 +37,7 @@ refused_from names bytes _ s = stop_refused names bytes _ (s (omega arith))
 
 pub refused_as : (names : NameTable) (bytes : List ℕ) (e : CertError) → {sa : Shared} → sa ≡ nothing_shared
     → IsStoppedWhere Anywhere names (length bytes) (opening ∷ []) bytes sa (told e) → IsRefusedAs names bytes e
-refused_as names bytes e fresh s = refused_from names bytes e (subst (λ (z : Shared). IsStoppedWhere Anywhere names (length bytes) (opening ∷ []) bytes z (told e)) fresh s)
+refused_as names bytes e fresh s = refused_from names bytes e (rw fresh at s)
 
 -- bytes behind the last line are refused
 behind_from : (names : NameTable) (bytes left : List ℕ) (marks : Naming → List Mark) (sb : Shared) → (left ≡ [] → ⊥)
@@ -49,9 +49,7 @@ behind_from names bytes (b ∷ left) marks sb some r =
 
 pub refused_behind : (names : NameTable) (bytes left : List ℕ) (marks : Naming → List Mark) (at : ℕ) → {sa sb : Shared} → sa ≡ nothing_shared → (left ≡ [] → ⊥)
     → at ≡ length bytes - length left → Run names (length bytes) (opening ∷ []) marks [] bytes left sa sb → IsCertificateRefused names bytes syntax at
-refused_behind names bytes left marks at {sa} {sb} fresh some e r =
-    subst (λ (n : ℕ). IsCertificateRefused names bytes syntax n) (sym e)
-    (behind_from names bytes left marks sb some (subst (λ (z : Shared). Run names (length bytes) (opening ∷ []) marks [] bytes left z sb) fresh r))
+refused_behind names bytes left marks at {sb = sb} fresh some e r = rw e (behind_from names bytes left marks sb some (rw fresh at r))
 
 -- the refusal that an error tells
 as_told : (names : NameTable) (bytes : List ℕ) (x y : CertificateCause × ℕ) → IsCertificateRefused names bytes x.0 x.1 → ◌≡◌ {A = Option (CertificateCause × ℕ)} (Some x) (Some y)
