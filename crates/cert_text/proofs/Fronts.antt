@@ -152,14 +152,11 @@ module _ {names : NameTable} {bytes : List ℕ} {v : Version} {shared : List Aut
       ∙ ap (λ (z : List Mark). answer_marks given ++ z) (append_assoc (heading_marks x w shared) (steps_marks x w steps) further)) in
       version_is names bytes s.left.now o end w shared given (steps_marks x w steps ++ further) h.read text ∙ same_version v names shared
 
-  stopped_at : (P : Place) (e : CertError) (x : CertificateCause × ℕ) → told e ≡ Some x → IsStoppedWhere P names (length bytes) (opening ∷ []) bytes nothing_shared (told e)
-      → IsStoppedWhere P names (length bytes) (opening ∷ []) bytes nothing_shared (Some x)
-  stopped_at P e x q h = subst (IsStoppedWhere P names (length bytes) (opening ∷ []) bytes nothing_shared) q h
-
   -- before it
   pub none_before : (d : CertError) → s.refused ≡ Some d → (x : CertificateCause × ℕ) → told d ≡ Some x → (o : Opening) (end : ℕ) → IsOpened names bytes o end → ⊥
   none_before d q x t o end h =
-      unopened names bytes x o end h (stopped_at (WithinOpening (version_in names bytes o end h.read)) d x t
+      let P = WithinOpening (version_in names bytes o end h.read) in
+      unopened names bytes x o end h (subst (IsStoppedWhere P names (length bytes) (opening ∷ []) bytes nothing_shared) t
       (stop_of d q (elsewhere (λ is r p. p (version_in names bytes o end h.read)) b.read)) (omega arith))
 
   -- or behind it
@@ -171,7 +168,8 @@ module _ {names : NameTable} {bytes : List ℕ} {v : Version} {shared : List Aut
       by (Some d) r = none_before d r x (sym (same_told h d e r q) ∙ told_is) o end i
       by None r =
           let stop = stop_of e q (then_where (elsewhere (λ is k p. p v) b.read) h) in
-          unopened names bytes x o end i (stopped_at (WithinOpening (version_in names bytes o end i.read)) e x told_is
+          let P = WithinOpening (version_in names bytes o end i.read) in
+          unopened names bytes x o end i (subst (IsStoppedWhere P names (length bytes) (opening ∷ []) bytes nothing_shared) told_is
           (subst (λ (w : Version). IsStoppedWhere (WithinOpening w) names (length bytes) (opening ∷ []) bytes nothing_shared (told e)) (sym (version_there r o end i)) stop)
           (omega arith))
 
