@@ -11,6 +11,5 @@ pub mod Refused
 pub mod EntryLines
 pub mod OwnLines
 pub mod Bare
-pub mod Cuts
 pub mod BadOpenings
 pub mod OneReading

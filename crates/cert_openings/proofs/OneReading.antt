@@ -1,8 +1,7 @@
 -- Two readings of a text up to one place are one.
-use Rattle.cert_openings.proofs.Prelude.{◌≡◌, ℕ, List, ◌++◌, refl, sym, ap, ◌∙◌, marks_of, append_cancel_left, take-append_seam, Automaton, PairEntry}
-use Rattle.cert_openings.proofs.Prelude.{Simplification, Certificate, NameTable, name_of, closing, Version, first_version, second_version, Uses, shared_by}
-use Rattle.cert_openings.proofs.Prelude.{marks_text, certificate_marks, text_both, front_marks, numbered_with}
-use Rattle.cert_openings.proofs.Prelude.{whole_marks, Opening, ortho_opening, quasi_opening, simplified_opening, certificate_for, uses_with, AreLeft, IsRead, AreOne}
+use Rattle.cert_openings.proofs.Prelude.{◌≡◌, ℕ, List, ◌++◌, refl, sym, ap, ◌∙◌, marks_of, append_cancel_left, take-append_seam, Automaton, PairEntry, Simplification, Certificate, NameTable, name_of}
+use Rattle.cert_openings.proofs.Prelude.{closing, Version, first_version, second_version, Uses, shared_by, marks_text, certificate_marks, text_both, front_marks, numbered_with, whole_marks, Opening}
+use Rattle.cert_openings.proofs.Prelude.{ortho_opening, quasi_opening, simplified_opening, certificate_for, uses_with, AreLeft, IsRead, AreOne}
 use Rattle.cert_laws.proofs.AlikePaths.{same_skeletons}
 use Rattle.cert_sharing.proofs.OneCertificate.{numbered_in, StandBefore, AreSame, marks_tell}
 use Rattle.cert_openings.proofs.Opened.{gone}

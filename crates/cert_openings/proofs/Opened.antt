@@ -1,11 +1,11 @@
 -- A read opening, with entries behind it, by its marks: they pass, and so do its shared automata.
 use Rattle.cert_openings.proofs.Prelude.{◌≡◌, ◌⊎◌, inl, inr, ℕ, ◌+◌, Bool, true, false, List, [], ◌++◌, length, Option, Some, None, refl, sym, ap, ◌∙◌, subst, codes, length-append, append-nil, arith}
 use Rattle.cert_openings.proofs.Prelude.{three_parts, Automaton, PairEntry, Certificate, NameTable, name_of, IsWithin, Version, Uses, version_of, IsOfVersion, shared_by, is_answer, marks_text}
-use Rattle.cert_openings.proofs.Prelude.{answer_marks, closing, heading_text, body_text, nothing_shared, PassShares, Skeleton, marks_of, Spells, front_marks, same_version, spelt_front, pass_front}
-use Rattle.cert_openings.proofs.Prelude.{Opening, ortho_opening, quasi_opening, simplified_opening, certificate_for, uses_with, AreLeft, IsRead, told_marks, IsReadTo}
+use Rattle.cert_openings.proofs.Prelude.{answer_marks, heading_text, body_text, nothing_shared, PassShares, Spells, front_marks, same_version, spelt_front, pass_front, Opening, ortho_opening}
+use Rattle.cert_openings.proofs.Prelude.{quasi_opening, simplified_opening, certificate_for, uses_with, AreLeft, IsRead, told_marks, IsReadTo}
 use Rattle.cert_laws.proofs.SpeltWhole.{answer_of}
 use Rattle.cert_openings.proofs.Along.{Along, along}
-use Rattle.cert_openings.proofs.OpeningMarks.{opening_marks, with_closing}
+use Rattle.cert_openings.proofs.OpeningMarks.{with_closing}
 
 -- ---- an opening and entries
 
@@ -99,13 +99,3 @@ read_front v names given o es left bytes rest end (a, w, l, s, e) p =
     yes None e = inl refl
     yes (Some true) e = inr refl
     yes (Some false) e = absurd cc
-
--- ---- an opening alone
-
-abbrev pub Opened : (names : NameTable) (bytes : List ℕ) (o : Opening) (end : ℕ) → Type 0
-Opened names bytes o end = Gone names bytes o [] end
-
--- with the last line it is a text of the grammar
-pub with_end : (names : NameTable) (bytes : List ℕ) (o : Opening) (end : ℕ) → (h : Opened names bytes o end)
-    → (s : Skeleton) × (marks_of s ≡ opening_marks (name_of names) h.uses h.shared h.answer o ++ closing)
-with_end names bytes o end h = with_closing (name_of names) h.uses h.shared h.answer (certificate_for o []) h.allowed h.spells.named

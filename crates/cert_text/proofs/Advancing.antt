@@ -1,44 +1,23 @@
 -- What one call of `Pairs::next` reads, or refuses.
-use Rattle.std.proofs.Common.{◌≡◌, inl, inr, ◌≤◌, ◌==◌, ℕ, suc, List, [], ◌∷◌, ◌++◌, length, drop, take, Option, Some, None, IfSome, IfNone, refl, sym, ap, ◌∙◌, subst, arith, eqb-true}
-use Rattle.std.proofs.lemmas.List.{length_push, append_cancel_left}
+use Rattle.cert_text.proofs.Prelude.{IsCertificateText, ◌≡◌, inl, inr, ◌≤◌, ◌==◌, ℕ, suc, List, [], ◌∷◌, ◌++◌, length, drop, take, Option, Some, None, IfSome, IfNone, refl, sym, ap, ◌∙◌, subst}
+use Rattle.cert_text.proofs.Prelude.{arith, eqb-true, length_push, append_cancel_left, drop_whole, Automaton, NameTable, pair_entry_view, name_of, Version, first_version, second_version, CanSimplify}
+use Rattle.cert_text.proofs.Prelude.{pairs_marks, closing, CertificateCause, syntax, bad_share, Naming, Mark, IsCertificateRefused, Item, pairs_from, entries_from, heads_from, Shared, nothing_shared}
+use Rattle.cert_text.proofs.Prelude.{never_both, BeginsEntry, Opening, ortho_opening, quasi_opening, simplified_opening, certificate_for, uses_with, IsRead, IsReadTo, with_begun, one_reading}
+use Rattle.cert_text.proofs.Prelude.{bytes_apart, CertError, told, IsRefusedAs, Run, IsFront, run_then, as_run, walks_text, EvidenceUses, IsPlainBy, Anywhere, AreBehind, WithinEntry, IsStoppedWhere}
+use Rattle.cert_text.proofs.Prelude.{ReadsWhere, entry_at, head_at, same_item, counts_pairs, alone, stop_behind, other_stop, stopped_where, Reading, HasRead, IsAll, ReadsOn, IsAtEnd, place_of}
+use Rattle.cert_text.proofs.Prelude.{EndsMeasure, IsNext, read_marks, IsUpTo, read_more}
 use Rattle.std.proofs.Math.Seq.{take-append_seam}
-use Rattle.general_lemmas.proofs.Lists.{drop_whole}
-use Rattle.certificates.specs.Prelude.{Automaton}
-use Rattle.certificates.specs.Certificates as math
-use Rattle.cops_names.specs.NameTable.{NameTable}
 use Rattle.cert_model.specs.declared.model.PairEntry.{PairEntry}
-use Rattle.cert_model.specs.CertificateView.{pair_entry_view}
-use Rattle.cert_grammar.specs.Prelude.{name_of, Version, first_version, second_version, CanSimplify, pairs_marks, closing, CertificateCause, syntax, bad_share, Naming}
-use Rattle.cert_grammar.specs.Prelude.{Mark, IsCertificateRefused, Item, pairs_from, entries_from, heads_from, Shared, nothing_shared}
-use Rattle.cert_grammar.specs.Items as Items
 use Rattle.cert_sharing.proofs.FirstUses.{texts_length}
-use Rattle.cert_sharing.proofs.Whole.{never_both}
-use Rattle.cert_openings.specs.Openings.{BeginsEntry, Opening, ortho_opening, quasi_opening, simplified_opening, certificate_for, uses_with, IsRead}
-use Rattle.cert_openings.specs.Laws.{IsReadTo}
-use Rattle.cert_shares.specs.SharesView.{with_begun}
 use Rattle.cert_shares.specs.declared.shares.SoFar.{SoFar}
 use Rattle.cert_openings.proofs.Entries.{whole_is_text, text_is_whole}
-use Rattle.cert_openings.proofs.OneReading.{one_reading}
-use Rattle.cert_openings.proofs.Lines.{bytes_apart}
-use Rattle.cert_words.specs.declared.error.CertError.{CertError}
-use Rattle.cert_words.specs.declared.reading.Reading as code
-use Rattle.cert_words.specs.Words.{told}
-use Rattle.cert_words.specs.CertRefusals.{IsRefusedAs}
-use Rattle.cert_words.specs.Walks.{Run, IsFront}
-use Rattle.cert_words.proofs.Walking.{run_then, as_run}
-use Rattle.cert_words.proofs.Whole.{walks_text}
-use Rattle.cert_reading.specs.Plain.{EvidenceUses, IsPlainBy}
-use Rattle.cert_reading.specs.Stops.{Anywhere, AreBehind, WithinEntry, IsStoppedWhere, ReadsWhere}
 use Rattle.cert_reading.proofs.ListMarks.{pairs_use}
-use Rattle.cert_reading.proofs.Opening.{entry_at, head_at, same_item}
-use Rattle.cert_sharing.proofs.UseMarks.{counts_pairs, alone}
-use Rattle.cert_reading.proofs.Stopping.{stop_behind, other_stop, stopped_where}
 use Rattle.cert_reading.proofs.EntryItems.{IsSame, symbol_same, symbol_stopped, symbol_run}
-use Rattle.cert_text.specs.Reading.{Reading, HasRead, IsAll, ReadsOn, IsAtEnd}
-use Rattle.cert_text.specs.ReadingView.{place_of, EndsMeasure, IsNext, read_marks, IsUpTo}
-use Rattle.cert_openings.proofs.OpeningMarks.{read_more}
 use Rattle.cert_text.proofs.Runs.{run_read, refused_as, refused_as_told, refused_behind}
 use Rattle.cert_text.proofs.EntryStops.{one_rest, entry_stands, in_entry}
+use Rattle.certificates.specs.Certificates as math
+use Rattle.cert_grammar.specs.Items as Items
+use Rattle.cert_words.specs.declared.reading.Reading as code
 
 -- the reading of a text with these bytes left
 abbrev pub up_to : NameTable → List ℕ → List ℕ → Reading
@@ -108,8 +87,7 @@ front_kept names v shared end n s t (Some p) h k = h.front
 -- as the code holds the version and the shared automata
 pub up_to_by : {v w : Version} {shared all : List Automaton} {names : NameTable} {bytes left : List ℕ} {count : ℕ} {now : Shared} → w ≡ v → all ≡ shared
     → IsUpTo w all names bytes left count now → IsUpTo v shared names bytes left count now
-up_to_by {v} {w} {shared} {all} {names} {bytes} {left} {count} {now} e f u = subst (λ (x : Version). IsUpTo x shared names bytes left count now) e
-    (subst (λ (l : List Automaton). IsUpTo w l names bytes left count now) f u)
+up_to_by e f u = rw (← e, ← f) u
 
 -- ---- shares
 

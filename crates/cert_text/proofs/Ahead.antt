@@ -1,28 +1,16 @@
 -- A reader goes along what stands there, and never stops before its end.
-use Rattle.std.proofs.Common.{◌≡◌, ◌⊎◌, inl, inr, ◌<◌, ◌&&◌, ℕ, suc, Bool, true, List, [], ◌∷◌, ◌++◌, take, Option, Some, None, codes, refl, sym, ap, ◌∙◌, subst, arith}
-use Rattle.std.proofs.lemmas.Bool.{and_parts}
-use Rattle.cops_names.specs.NameTable.{NameTable}
-use Rattle.cert_grammar.specs.Prelude.{CertificateCause, Demand, Mark, word, mark_text, demands_of, verdict, Pass, Item, between, line}
-use Rattle.cert_grammar.specs.Prelude.{pairs_from}
-use Rattle.cert_grammar.specs.Prelude.{Lead, text, check, at_once, keyword, numeral_lead, position_lead, variable_lead, name_lead, leads, Version, first_version, second_version}
-use Rattle.cert_grammar.specs.Prelude.{mode_of, first_there, taken, mark_of, items_of, Left, behind_lead, judged, step_lead, Reading as Answer, Shared, share_verdict, behind_mark}
-use Rattle.cert_grammar.specs.Prelude.{behind_marks, PassShares, ends, further}
-use Rattle.cert_grammar.specs.FirstRefusal as machine
+use Rattle.cert_text.proofs.Prelude.{◌≡◌, ◌⊎◌, inl, inr, ◌<◌, ◌&&◌, ℕ, suc, Bool, true, List, [], ◌∷◌, ◌++◌, take, Option, Some, None, codes, refl, sym, ap, ◌∙◌, subst, arith, and_parts, NameTable}
+use Rattle.cert_text.proofs.Prelude.{CertificateCause, Demand, Mark, word, mark_text, demands_of, verdict, Pass, Item, between, line, pairs_from, Lead, text, check, at_once, keyword, leads, Version}
+use Rattle.cert_text.proofs.Prelude.{first_version, second_version, mode_of, first_there, taken, mark_of, items_of, Left, behind_lead, judged, step_lead, Shared, share_verdict, behind_mark}
+use Rattle.cert_text.proofs.Prelude.{behind_marks, PassShares, ends, further, Takes, Path, first_complete, Move, Moves, moves_path, there_size, BeginsEntry, apart, Meet, ahead, behind_it, meet}
+use Rattle.cert_text.proofs.Prelude.{never_ends, pass_split, left_at, RefusesAt, step_on, lowest, AreAbove, IsBehind, AreBehind, BeginsList, same_item}
+use Rattle.cert_grammar.specs.Prelude.{Reading as Answer}
 use Rattle.cert_grammar.proofs.ScanLaws.{IsWordOf}
 use Rattle.cert_laws.proofs.LeadTables.{In}
 use Rattle.cert_laws.proofs.OneRefusal.{passed_anywhere}
 use Rattle.cert_laws.proofs.PassTerms.{pass_append}
-use Rattle.cert_laws.proofs.Paths.{Takes, Path, first_complete}
 use Rattle.cert_laws.proofs.Moves.{There}
-use Rattle.cert_laws.proofs.Reached.{Move, Moves, moves_path, there_size}
-use Rattle.cert_openings.specs.Openings.{BeginsEntry}
-use Rattle.cert_openings.proofs.Lines.{apart}
-use Rattle.cert_openings.proofs.Along.{Meet, ahead, behind_it, meet, never_ends}
-use Rattle.cert_sharing.proofs.UseMarks.{pass_split}
-use Rattle.cert_words.specs.Walks.{left_at, RefusesAt}
-use Rattle.cert_words.proofs.Walking.{step_on}
-use Rattle.cert_reading.specs.Stops.{lowest, AreAbove, IsBehind, AreBehind, BeginsList}
-use Rattle.cert_reading.proofs.Opening.{same_item}
+use Rattle.cert_grammar.specs.FirstRefusal as machine
 
 -- ---- two readers of the same bytes
 
@@ -31,10 +19,7 @@ mark_read (text bytes items) w b h t = refl
 mark_read (check demand byte items) w b h t = refl
 mark_read (at_once demand items) w b h t = refl
 mark_read (keyword bytes demands items) w b h t = refl
-mark_read (numeral_lead demands items) w b h t = ap (mark_of (numeral_lead demands items)) (there_size (numeral_lead demands items) w b h t)
-mark_read (position_lead items) w b h t = ap (mark_of (position_lead items)) (there_size (position_lead items) w b h t)
-mark_read (variable_lead demands items) w b h t = ap (mark_of (variable_lead demands items)) (there_size (variable_lead demands items) w b h t)
-mark_read (name_lead demands items) w b h t = ap (mark_of (name_lead demands items)) (there_size (name_lead demands items) w b h t)
+mark_read a w b h t = ap (mark_of a) (there_size a w b h t)
 
 ends_or_further : (r : Answer) (k : Left) (z : Shared) → further k z ≡ ends r → ⊥
 ends_or_further r k z e = cc

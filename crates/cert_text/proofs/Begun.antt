@@ -1,18 +1,10 @@
 -- Where an opening stands, no reader stops within it.
-use Rattle.std.proofs.Common.{◌≡◌, ℕ, ◌==◌, Bool, true, false, cond, List, [], ◌∷◌, ◌++◌, length, get_or, Option, Some, None, refl, sym, ap, ◌∙◌, subst}
+use Rattle.cert_text.proofs.Prelude.{◌≡◌, ℕ, ◌==◌, Bool, true, false, cond, List, [], ◌∷◌, ◌++◌, length, get_or, Option, Some, None, refl, sym, ap, ◌∙◌, subst, NameTable, name_of, Version}
+use Rattle.cert_text.proofs.Prelude.{first_version, second_version, Uses, in_full, by_number, version_of, CertificateCause, Naming, Mark, marks_text, body_marks, answer_marks, heading_marks, Pass}
+use Rattle.cert_text.proofs.Prelude.{Item, opening, nothing_shared, behind_marks, PassShares, Moves, moves_path, BeginsEntry, Opening, certificate_for, IsRead, IsOpened, apart, gone, gone_rest}
+use Rattle.cert_text.proofs.Prelude.{gone_along, left_at, walks_at, start_at, BeginsList, WithinOpening, StopsWhere, read_marks}
 use Rattle.certificates.specs.Evidence.{Automaton}
-use Rattle.cops_names.specs.NameTable.{NameTable}
-use Rattle.cert_grammar.specs.Prelude.{name_of, Version, first_version, second_version, Uses, in_full, by_number, version_of, CertificateCause, Naming, Mark, marks_text, body_marks}
-use Rattle.cert_grammar.specs.Prelude.{answer_marks, heading_marks, Pass, Item, opening, nothing_shared, behind_marks, PassShares}
-use Rattle.cert_laws.proofs.Reached.{Moves, moves_path}
 use Rattle.cert_sharing.proofs.ExactShared.{At}
-use Rattle.cert_openings.specs.Openings.{BeginsEntry, Opening, certificate_for, IsRead, IsOpened}
-use Rattle.cert_openings.proofs.Lines.{apart}
-use Rattle.cert_openings.proofs.Opened.{gone, gone_rest, gone_along}
-use Rattle.cert_words.specs.Walks.{left_at}
-use Rattle.cert_words.proofs.Whole.{walks_at, start_at}
-use Rattle.cert_reading.specs.Stops.{BeginsList, WithinOpening, StopsWhere}
-use Rattle.cert_text.specs.ReadingView.{read_marks}
 use Rattle.cert_text.proofs.Low.{last_list}
 use Rattle.cert_text.proofs.Ahead.{stops_ahead, later_moves, list_step}
 

@@ -1,25 +1,10 @@
 -- Where an entry stands, no reader stops within it.
-use Rattle.std.proofs.Common.{◌≡◌, ◌⊎◌, inl, inr, ◌<◌, ◌≤◌, ℕ, suc, List, [], ◌∷◌, ◌++◌, length, drop, codes, refl, sym, ap, ◌∙◌, subst, arith}
-use Rattle.std.proofs.lemmas.Bool.{cases_lt}
-use Rattle.certificates.specs.Prelude.{Automaton, PairEntry}
-use Rattle.cops_names.specs.NameTable.{NameTable}
-use Rattle.cert_grammar.specs.Prelude.{name_of, Version, first_version, second_version, CertificateCause, Mark, mark_text, pairs_marks, Item, leads, opening}
-use Rattle.cert_grammar.specs.Prelude.{pairs_from, taken, items_of, Left, Shared, nothing_shared, behind_marks}
-use Rattle.cert_laws.proofs.Paths.{first_sound}
-use Rattle.cert_laws.proofs.Reached.{Move, Moves}
+use Rattle.cert_text.proofs.Prelude.{◌≡◌, ◌⊎◌, inl, inr, ◌<◌, ◌≤◌, ℕ, suc, List, [], ◌∷◌, ◌++◌, length, drop, codes, refl, sym, ap, ◌∙◌, subst, arith, cases_lt, Automaton, PairEntry, NameTable}
+use Rattle.cert_text.proofs.Prelude.{name_of, Version, first_version, second_version, CertificateCause, Mark, mark_text, pairs_marks, Item, leads, opening, pairs_from, taken, items_of, Left, Shared}
+use Rattle.cert_text.proofs.Prelude.{nothing_shared, behind_marks, first_sound, Move, Moves, behind_both, Opening, uses_with, IsRead, bytes_apart, Meet, ahead, behind_it, meet, read_more, Gone, gone}
+use Rattle.cert_text.proofs.Prelude.{gone_rest, gone_along, one_reading, with_begun, left_at, Walks, RefusesAt, same_begun, goes_where, AreBehind, BeginsList, WithinEntry, StopsWhere, place_of}
+use Rattle.cert_text.proofs.Prelude.{EndsMeasure, IsNext, read_marks, IsUpTo}
 use Rattle.cert_laws.proofs.FirstRefusals.{read_of, lead_move}
-use Rattle.cert_sharing.proofs.UseMarks.{behind_both}
-use Rattle.cert_openings.specs.Openings.{Opening, uses_with, IsRead}
-use Rattle.cert_openings.proofs.Lines.{bytes_apart}
-use Rattle.cert_openings.proofs.Along.{Meet, ahead, behind_it, meet}
-use Rattle.cert_openings.proofs.OpeningMarks.{read_more}
-use Rattle.cert_openings.proofs.Opened.{Gone, gone, gone_rest, gone_along}
-use Rattle.cert_openings.proofs.OneReading.{one_reading}
-use Rattle.cert_shares.specs.SharesView.{with_begun}
-use Rattle.cert_words.specs.Walks.{left_at, Walks, RefusesAt}
-use Rattle.cert_words.proofs.Walking.{same_begun, goes_where}
-use Rattle.cert_reading.specs.Stops.{AreBehind, BeginsList, WithinEntry, StopsWhere}
-use Rattle.cert_text.specs.ReadingView.{place_of, EndsMeasure, IsNext, read_marks, IsUpTo}
 use Rattle.cert_text.proofs.Ahead.{stops_ahead, pair_step, later_moves, last_pair, list_step}
 use Rattle.cert_text.proofs.SameMarks.{no_front}
 

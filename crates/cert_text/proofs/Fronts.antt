@@ -1,35 +1,18 @@
 -- Texts that are read up to a body, or behind the word of its kind.
-use Rattle.std.proofs.Common.{◌≡◌, ℕ, Bool, List, [], ◌∷◌, ◌++◌, length, Option, Some, None, codes, refl, sym, ap, ◌∙◌, subst, arith, append_assoc}
-use Rattle.std.proofs.lemmas.List.{append-nil}
-use Rattle.certificates.specs.Prelude.{Automaton, PairEntry, Simplification, Certificate, simplified_certificate}
-use Rattle.cops_names.specs.NameTable.{NameTable}
-use Rattle.cert_grammar.specs.Prelude.{name_of, Version, first_version, second_version, Uses, number_in, CertificateCause, Naming, Mark, fixed, marks_text, answer_marks, heading_marks}
-use Rattle.cert_grammar.specs.Prelude.{body_marks, closing, certificate_marks, HaveNames, Item, opening, between, line, nothing_shared}
+use Rattle.cert_text.proofs.Prelude.{◌≡◌, ℕ, Bool, List, [], ◌∷◌, ◌++◌, length, Option, Some, None, codes, refl, sym, ap, ◌∙◌, subst, arith, append_assoc, append-nil, Automaton, PairEntry}
+use Rattle.cert_text.proofs.Prelude.{Simplification, Certificate, simplified_certificate, NameTable, name_of, Version, first_version, second_version, Uses, number_in, CertificateCause, Naming, Mark}
+use Rattle.cert_text.proofs.Prelude.{fixed, marks_text, answer_marks, heading_marks, body_marks, closing, certificate_marks, HaveNames, Item, opening, between, line, nothing_shared, AreStill}
+use Rattle.cert_text.proofs.Prelude.{counts_still, lines_text, Opening, certificate_for, uses_with, IsOpeningEnd, IsOpened, no_peak, CertError, told, IsRefusedAs, Run, Reads, walks_text, kind_mark}
+use Rattle.cert_text.proofs.Prelude.{item_by, Peak, Place, IsStoppedWhere, ReadsWhere, WithinOpening, BeforeEntries, Anywhere, walks_named, kind_item, then_where, as_marks_where, low_where}
+use Rattle.cert_text.proofs.Prelude.{elsewhere, anywhere, reads_anywhere, open_before_where, ran, stopped_where, low_unopened, known_where, read_marks, IsToldBefore, steps_marks, opening_behind}
+use Rattle.cert_text.proofs.Prelude.{CanStep, front_marks, IsBegun, BeginsBody}
 use Rattle.cert_laws.proofs.Spelt.{have_append, text_both}
-use Rattle.cert_sharing.proofs.UseMarks.{AreStill, counts_still}
-use Rattle.cert_openings.specs.Openings.{lines_text, Opening, certificate_for, uses_with, IsOpeningEnd, IsOpened}
-use Rattle.cert_openings.proofs.Lines.{no_peak}
 use Rattle.cert_openings.proofs.OwnLines.{Own, no_lines, own_marks, own_front, own_simplify}
 use Rattle.cert_sharing.proofs.SpeltShares.{same_version}
 use Rattle.cert_openings.proofs.Bare.{openings_end}
 use Rattle.cert_openings.proofs.BadOpenings.{bad_openings_are_refused}
-use Rattle.cert_words.specs.declared.error.CertError.{CertError}
 use Rattle.cert_words.specs.declared.reading.Reading.{Reading}
-use Rattle.cert_words.specs.Words.{told}
-use Rattle.cert_words.specs.CertRefusals.{IsRefusedAs}
-use Rattle.cert_words.specs.Walks.{Run, Reads}
-use Rattle.cert_words.proofs.Whole.{walks_text}
-use Rattle.cert_reading.specs.Headings.{kind_mark, item_by}
 use Rattle.cert_reading.specs.declared.headings.Kind.{Kind}
-use Rattle.cert_reading.specs.declared.headings.Kind.TheVariants.{Peak}
-use Rattle.cert_reading.specs.Stops.{Place, IsStoppedWhere, ReadsWhere, WithinOpening, BeforeEntries, Anywhere}
-use Rattle.cert_reading.proofs.Found.{walks_named}
-use Rattle.cert_reading.proofs.Opening.{kind_item}
-use Rattle.cert_reading.proofs.Stopping.{then_where, as_marks_where, low_where, elsewhere, anywhere, reads_anywhere, open_before_where, ran, stopped_where, low_unopened}
-use Rattle.cert_reading.proofs.UseReads.{known_where}
-use Rattle.cert_text.specs.ReadingView.{read_marks}
-use Rattle.cert_text.specs.OpenedText.{IsToldBefore}
-use Rattle.cert_text.specs.Front.{steps_marks, opening_behind, CanStep, front_marks, IsBegun, BeginsBody}
 use Rattle.cert_text.proofs.Runs.{refused_as, refused_as_told}
 use Rattle.cert_text.proofs.Begun.{version_in, unopened, version_is}
 
@@ -62,10 +45,7 @@ line_behind {v = v} {kind = kind} b h = begun_on (fixed (codes "\n") ∷ []) (it
 pub line_of : {names : NameTable} {bytes : List ℕ} {v w : Version} {shared all : List Automaton} {kind : Kind} {s t : Reading} (k : Kind) → kind ≡ k → w ≡ v → all ≡ shared
     → (b : BeginsBody names bytes v shared kind s) → Reads names (length bytes) (between line ∷ []) (λ u. fixed (codes "\n") ∷ []) [] s t
     → IsBegun names bytes w all b.given b.steps (kind_mark b.given k ∷ fixed (codes "\n") ∷ []) (item_by w k ∷ []) t
-line_of {names} {bytes} {v} {w} {shared} {all} {kind} {s} {t} k e p q b h =
-    subst (λ (x : Kind). IsBegun names bytes w all b.given b.steps (kind_mark b.given x ∷ fixed (codes "\n") ∷ []) (item_by w x ∷ []) t) e
-    (subst (λ (x : Version). IsBegun names bytes x all b.given b.steps (kind_mark b.given kind ∷ fixed (codes "\n") ∷ []) (item_by x kind ∷ []) t) (sym p)
-    (subst (λ (x : List Automaton). IsBegun names bytes v x b.given b.steps (kind_mark b.given kind ∷ fixed (codes "\n") ∷ []) (item_by v kind ∷ []) t) (sym q) (line_behind b h)))
+line_of k e p q b h = rw (← e, p, q) (line_behind b h)
 
 -- ---- the marks from the first one on
 
@@ -75,11 +55,12 @@ certificate_behind (Some steps) c = simplified_certificate steps c
 
 front_body : (steps : Option (List Simplification)) (u : Naming) (w : Uses) (shared : List Automaton) (given : Option Bool) (c : Certificate)
     → front_marks u w shared given steps ++ body_marks u w given c ≡ answer_marks given ++ (heading_marks u w shared ++ body_marks u w given (certificate_behind steps c))
-front_body None u w shared given c = ap (λ (z : List Mark). (answer_marks given ++ z) ++ body_marks u w given c) (append-nil (heading_marks u w shared))
-    ∙ append_assoc (answer_marks given) (heading_marks u w shared) (body_marks u w given c)
+front_body None u w shared given c = cc (append-nil (heading_marks u w shared), append_assoc (answer_marks given) (heading_marks u w shared) (body_marks u w given c))
 front_body (Some ss) u w shared given c =
-    append_assoc (answer_marks given) (heading_marks u w shared ++ steps_marks u w (Some ss)) (body_marks u w given c)
-    ∙ ap (λ (z : List Mark). answer_marks given ++ z) (append_assoc (heading_marks u w shared) (steps_marks u w (Some ss)) (body_marks u w given c))
+    cc (
+      append_assoc (answer_marks given) (heading_marks u w shared ++ steps_marks u w (Some ss)) (body_marks u w given c),
+      append_assoc (heading_marks u w shared) (steps_marks u w (Some ss)) (body_marks u w given c),
+    )
 
 pub behind_is : (steps : Option (List Simplification)) (o : Opening) (es : List PairEntry) → certificate_behind steps (certificate_for o es) ≡ certificate_for (opening_behind steps o) es
 behind_is None o es = refl
@@ -94,8 +75,12 @@ front_whole : (steps : Option (List Simplification)) (u : Naming) (w : Uses) (sh
     → front_marks u w shared given steps ++ (body_marks u w given c ++ closing) ≡ certificate_marks u w shared given (certificate_behind steps c)
 front_whole steps u w shared given c =
     let body = body_marks u w given (certificate_behind steps c) in
-    sym (append_assoc (front_marks u w shared given steps) (body_marks u w given c) closing) ∙ ap (λ (z : List Mark). z ++ closing) (front_body steps u w shared given c)
-    ∙ append_assoc (answer_marks given) (heading_marks u w shared ++ body) closing ∙ ap (λ (z : List Mark). answer_marks given ++ z) (append_assoc (heading_marks u w shared) body closing)
+    cc (
+      front_body steps u w shared given c,
+      append_assoc (front_marks u w shared given steps) (body_marks u w given c) closing,
+      append_assoc (answer_marks given) (heading_marks u w shared ++ body) closing,
+      append_assoc (heading_marks u w shared) body closing,
+    )
 
 -- ---- what was refused stays so
 
@@ -157,27 +142,21 @@ module _ {names : NameTable} {bytes : List ℕ} {v : Version} {shared : List Aut
 
   -- ---- where it is refused no opening is there
 
-  begun_text : s.refused ≡ None → bytes ≡ marks_text (front_marks (name_of names) (uses_with v names shared) shared given steps ++ further) ++ s.left.now
-  begun_text none = walks_text names _ _ _ ((run_of none b.read).walks (omega arith) [])
-
   version_there : s.refused ≡ None → (o : Opening) (end : ℕ) → (h : IsOpened names bytes o end) → version_in names bytes o end h.read ≡ v
   version_there none o end h =
       let x = name_of names in
       let w = uses_with v names shared in
       let text : bytes ≡ marks_text (answer_marks given ++ (heading_marks x w shared ++ (steps_marks x w steps ++ further))) ++ s.left.now =
-      begun_text none
+      walks_text names _ _ _ ((run_of none b.read).walks (omega arith) [])
       ∙ ap (λ (ms : List Mark). marks_text ms ++ s.left.now) (append_assoc (answer_marks given) (heading_marks x w shared ++ steps_marks x w steps) further
       ∙ ap (λ (z : List Mark). answer_marks given ++ z) (append_assoc (heading_marks x w shared) (steps_marks x w steps) further)) in
       version_is names bytes s.left.now o end w shared given (steps_marks x w steps ++ further) h.read text ∙ same_version v names shared
 
-  stopped_at : (P : Place) (e : CertError) (x : CertificateCause × ℕ) → told e ≡ Some x → IsStoppedWhere P names (length bytes) (opening ∷ []) bytes nothing_shared (told e)
-      → IsStoppedWhere P names (length bytes) (opening ∷ []) bytes nothing_shared (Some x)
-  stopped_at P e x q h = subst (IsStoppedWhere P names (length bytes) (opening ∷ []) bytes nothing_shared) q h
-
   -- before it
   pub none_before : (d : CertError) → s.refused ≡ Some d → (x : CertificateCause × ℕ) → told d ≡ Some x → (o : Opening) (end : ℕ) → IsOpened names bytes o end → ⊥
   none_before d q x t o end h =
-      unopened names bytes x o end h (stopped_at (WithinOpening (version_in names bytes o end h.read)) d x t
+      let P = WithinOpening (version_in names bytes o end h.read) in
+      unopened names bytes x o end h (subst (IsStoppedWhere P names (length bytes) (opening ∷ []) bytes nothing_shared) t
       (stop_of d q (elsewhere (λ is r p. p (version_in names bytes o end h.read)) b.read)) (omega arith))
 
   -- or behind it
@@ -189,7 +168,8 @@ module _ {names : NameTable} {bytes : List ℕ} {v : Version} {shared : List Aut
       by (Some d) r = none_before d r x (sym (same_told h d e r q) ∙ told_is) o end i
       by None r =
           let stop = stop_of e q (then_where (elsewhere (λ is k p. p v) b.read) h) in
-          unopened names bytes x o end i (stopped_at (WithinOpening (version_in names bytes o end i.read)) e x told_is
+          let P = WithinOpening (version_in names bytes o end i.read) in
+          unopened names bytes x o end i (subst (IsStoppedWhere P names (length bytes) (opening ∷ []) bytes nothing_shared) told_is
           (subst (λ (w : Version). IsStoppedWhere (WithinOpening w) names (length bytes) (opening ∷ []) bytes nothing_shared (told e)) (sym (version_there r o end i)) stop)
           (omega arith))
 

@@ -1,3 +1,4 @@
+pub mod Prelude
 pub mod Runs
 pub mod Ahead
 pub mod Low

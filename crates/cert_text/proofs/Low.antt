@@ -1,18 +1,11 @@
 -- The item below the others, up to the end of an opening.
-use Rattle.std.proofs.Common.{◌≡◌, inl, inr, ℕ, zero, suc, Bool, true, false, not, List, [], ◌∷◌, ◌++◌, length, Option, Some, None, codes, refl, sym, ap, ◌∙◌, subst}
-use Rattle.std.proofs.lemmas.Bool.{and_parts}
-use Rattle.certificates.specs.Prelude.{Automaton}
-use Rattle.cert_grammar.specs.Prelude.{Version, first_version, second_version, Uses, in_full, by_number, version_of, Naming, Demand, fits_answer, Mark, fixed, demands_of, value, same_bytes}
-use Rattle.cert_grammar.specs.Prelude.{measure_marks, simplifications_marks, body_marks, answer_marks, automata_marks, number_for, shared_automata, Item, opening, heading, between, line}
-use Rattle.cert_grammar.specs.Prelude.{shared_line, shared_count, automata_left, automaton_end, simplified, body, pairs_from, entries_from, heads_from, measure, behind_automata, body_leads}
+use Rattle.cert_text.proofs.Prelude.{◌≡◌, inl, inr, ℕ, zero, suc, Bool, true, false, not, List, [], ◌∷◌, ◌++◌, length, Option, Some, None, codes, refl, sym, ap, ◌∙◌, subst, and_parts, Automaton}
+use Rattle.cert_text.proofs.Prelude.{Version, first_version, second_version, Uses, in_full, by_number, version_of, Naming, Demand, fits_answer, Mark, fixed, demands_of, value, same_bytes}
+use Rattle.cert_text.proofs.Prelude.{measure_marks, simplifications_marks, body_marks, answer_marks, automata_marks, number_for, shared_automata, Item, opening, heading, between, line, shared_line}
+use Rattle.cert_text.proofs.Prelude.{shared_count, automata_left, automaton_end, simplified, body, pairs_from, entries_from, heads_from, measure, behind_automata, body_leads, Takes, Path, Opening}
+use Rattle.cert_text.proofs.Prelude.{ortho_opening, quasi_opening, simplified_opening, certificate_for, never_ends, AreAbove, BeginsList, same_item, read_marks}
 use Rattle.cert_laws.proofs.Asking.{measure_asks, simplifications_ask}
-use Rattle.cert_laws.proofs.Paths.{Takes, Path}
-use Rattle.cert_openings.specs.Openings.{Opening, ortho_opening, quasi_opening, simplified_opening, certificate_for}
-use Rattle.cert_openings.proofs.Along.{never_ends}
 use Rattle.cert_openings.proofs.Late.{IsInBody, judges, NoKind, none_both, late_none, heading_none}
-use Rattle.cert_reading.specs.Stops.{AreAbove, BeginsList}
-use Rattle.cert_reading.proofs.Opening.{same_item}
-use Rattle.cert_text.specs.ReadingView.{read_marks}
 use Rattle.cert_text.proofs.Ahead.{Each, step_by, all_fit, above_path}
 
 -- behind the first line

@@ -1,14 +1,11 @@
 -- What a text that is opened stands for.
-use Rattle.std.proofs.Common.{◌≡◌, map, Vec, Global, Box, rules}
+use Rattle.cert_text.proofs.Prelude.{◌≡◌, map, Vec, Global, Box, rules, measure_view, peak_view, simp_view, ortho_opening, quasi_opening, Reading, at_entries, whole, behind_steps, opened_view}
+use Rattle.cert_text.proofs.Prelude.{Opened, Ortho, Quasi, Simplified, the_lemmas}
 use Rattle.certificates.specs.Certificates.{peak_certificate}
-use Rattle.cert_model.specs.CertificateView.{measure_view, peak_view, simp_view}
 use Rattle.cert_model.specs.declared.model.MeasureCert.{MeasureCert}
-use Rattle.cert_model.specs.declared.model.Peak as peaks
 use Rattle.cert_model.specs.declared.model.Simp.{Simp}
-use Rattle.cert_openings.specs.Openings.{ortho_opening, quasi_opening}
-use Rattle.cert_text.specs.Reading.{Reading}
-use Rattle.cert_text.specs.OpenedText.{at_entries, whole, behind_steps, opened_view}
-use Rattle.cert_text.specs.declared.opening.Opened.{Opened, Ortho, Quasi, Peak, Simplified, the_lemmas}
+use Rattle.cert_text.specs.declared.opening.Opened.{Peak}
+use Rattle.cert_model.specs.declared.model.Peak as peaks
 
 pub ortho_opened : (pairs : Reading) → opened_view (Ortho pairs) ≡ at_entries ortho_opening pairs
 ortho_opened pairs = search (rules, the_lemmas)

@@ -1,42 +1,23 @@
 -- A text that is read up to its entries, or a whole peak.
-use Rattle.std.proofs.Common.{◌≡◌, inl, inr, ℕ, suc, Bool, true, false, List, [], ◌∷◌, ◌++◌, length, Option, Some, None, Result, Ok, Err, IfOk, codes, refl, sym, ap, ◌∙◌}
-use Rattle.std.proofs.Common.{subst, arith, append_assoc}
-use Rattle.std.proofs.lemmas.List.{append-nil}
-use Rattle.certificates.specs.Prelude.{Automaton, MeasureCertificate, linear_measure, precedence_measure, Simplification, Peak, Certificate, peak_certificate}
-use Rattle.cops_names.specs.NameTable.{NameTable}
-use Rattle.cert_grammar.specs.Prelude.{name_of, largest, Version, first_version, second_version, in_full, by_number, HasMeasure, IsUnsimplified, number_in, IsCertificateText, in_range}
-use Rattle.cert_grammar.specs.Prelude.{is_few, simplifications, Naming, Mark, fixed, word, answer_marks, body_marks, heading_marks, measure_marks, peak_marks, simplifications_marks, closing}
-use Rattle.cert_grammar.specs.Prelude.{certificate_marks, Item, pairs_from, Shared, nothing_shared}
+use Rattle.cert_text.proofs.Prelude.{◌≡◌, inl, inr, ℕ, suc, Bool, true, false, List, [], ◌∷◌, ◌++◌, length, Option, Some, None, Result, Ok, Err, IfOk, codes, refl, sym, ap, ◌∙◌, subst, arith}
+use Rattle.cert_text.proofs.Prelude.{append_assoc, append-nil, Automaton, MeasureCertificate, linear_measure, precedence_measure, Simplification, Certificate, peak_certificate, NameTable, name_of}
+use Rattle.cert_text.proofs.Prelude.{largest, Version, first_version, second_version, in_full, by_number, HasMeasure, IsUnsimplified, number_in, IsCertificateText, in_range, is_few, simplifications}
+use Rattle.cert_text.proofs.Prelude.{Naming, Mark, fixed, word, answer_marks, body_marks, heading_marks, measure_marks, peak_marks, simplifications_marks, closing, certificate_marks, Item}
+use Rattle.cert_text.proofs.Prelude.{pairs_from, Shared, nothing_shared, AreStill, Counts, counts_still, counts_both, counts_body, measure_still, never_both, Opening, ortho_opening, quasi_opening}
+use Rattle.cert_text.proofs.Prelude.{certificate_for, uses_with, BeginsEntry, IsOpened, CertError, IsRefusedAs, Run, Reads, open_before, behind_measure, behind_version, first_marks, kind_mark}
+use Rattle.cert_text.proofs.Prelude.{item_by, StepsUse, ApartUses, IsPlainBy, shared_marks, IsKnown, ArePlainAutomata, ReadsWhere, WithinOpening, BeforeEntries, AreShared, CanShare, other_below}
+use Rattle.cert_text.proofs.Prelude.{then_where, as_marks_where, low_where, open_before_where, known_behind, known_where, found_by, Reading, place_of, EndsMeasure, IsNext, read_marks, IsUpTo}
+use Rattle.cert_text.proofs.Prelude.{OpenedText, at_entries, whole, IsOpenedAs, IsRefusedBehind, IsToldBefore, steps_marks, opening_behind, opened_behind, CanStep, IsBegun}
+use Rattle.certificates.specs.Prelude.{Peak}
 use Rattle.cert_grammar.specs.WordMarks.{numeral}
-use Rattle.cert_grammar.specs.Items as Items
-use Rattle.cert_sharing.proofs.UseMarks.{AreStill, Counts, counts_still, counts_both, counts_body, measure_still}
-use Rattle.cert_sharing.proofs.Whole.{never_both}
-use Rattle.cert_openings.specs.Openings.{Opening, ortho_opening, quasi_opening, certificate_for, uses_with, BeginsEntry, IsOpened}
 use Rattle.cert_openings.proofs.Passes.{openings_pass}
-use Rattle.cert_words.specs.declared.error.CertError.{CertError}
-use Rattle.cert_words.specs.declared.reading.Reading as words
-use Rattle.cert_words.specs.CertRefusals.{IsRefusedAs}
-use Rattle.cert_words.specs.Walks.{Run, Reads}
-use Rattle.cert_words.proofs.Walking.{open_before}
-use Rattle.cert_reading.specs.Headings.{behind_measure, behind_version, first_marks, kind_mark, item_by}
-use Rattle.cert_reading.specs.declared.headings.Kind as kinds_of
-use Rattle.cert_reading.specs.declared.headings.Kind.TheVariants as kinds
-use Rattle.cert_reading.specs.Plain.{StepsUse, ApartUses, IsPlainBy}
-use Rattle.cert_reading.specs.Shared.{shared_marks, IsKnown, ArePlainAutomata}
-use Rattle.cert_reading.specs.Stops.{ReadsWhere, WithinOpening, BeforeEntries, Anywhere}
-use Rattle.cert_reading.specs.Uses.{AreShared}
-use Rattle.cert_reading.specs.Whole.{CanShare}
-use Rattle.cert_reading.proofs.Opening.{other_below}
 use Rattle.cert_reading.proofs.KindMarks.{kind_still, first_still}
-use Rattle.cert_reading.proofs.Stopping.{then_where, as_marks_where, low_where, open_before_where}
-use Rattle.cert_reading.proofs.UseReads.{known_behind, known_where}
-use Rattle.cert_reading.proofs.Found.{found_by}
-use Rattle.cert_text.specs.Reading.{Reading}
-use Rattle.cert_text.specs.ReadingView.{place_of, EndsMeasure, IsNext, read_marks, IsUpTo}
-use Rattle.cert_text.specs.OpenedText.{OpenedText, at_entries, whole, IsOpenedAs, IsRefusedBehind, IsToldBefore}
-use Rattle.cert_text.specs.Front.{steps_marks, opening_behind, opened_behind, CanStep, IsBegun}
 use Rattle.cert_text.proofs.Runs.{run_read}
 use Rattle.cert_text.proofs.Fronts.{begun_on, certificate_behind, behind_is, read_behind, whole_behind, run_of, refused_behind_it, none_behind, told_before}
+use Rattle.cert_grammar.specs.Items as Items
+use Rattle.cert_words.specs.declared.reading.Reading as words
+use Rattle.cert_reading.specs.declared.headings.Kind as kinds_of
+use Rattle.cert_reading.specs.declared.headings.Kind.TheVariants as kinds
 
 -- ---- what follows for each text that is opened
 
@@ -153,11 +134,6 @@ module _ {names : NameTable} {bytes : List ℕ} {v : Version} {shared : List Aut
     next = λ x. inr (measure_end v m has, refl, x);
   }
 
-  pub peak_read : (p : Peak) → (b : IsBegun names bytes v shared given steps (line_of_kind given kinds.Peak) (Items.start_line v ∷ []) s)
-      → Reads names (length bytes) (Items.start_line v ∷ []) (λ u. peak_marks u (uses_with v names shared) p ++ closing) [] s t
-      → ReadsWhere Anywhere names (length bytes) (Items.opening ∷ []) (λ u. certificate_marks u (uses_with v names shared) shared given (certificate_behind steps (peak_certificate p))) [] b.start t
-  peak_read p b h = whole_behind b (peak_certificate p) (λ u. refl) h
-
   -- a peak that is read to the end
   pub peak_there : (p : Peak) → IsBegun names bytes v shared given steps (line_of_kind given kinds.Peak) (Items.start_line v ∷ []) s → t.refused ≡ None → t.left.now ≡ []
       → ApartUses v shared p.apart → Reads names (length bytes) (Items.start_line v ∷ []) (λ u. peak_marks u (uses_with v names shared) p ++ closing) [] s t
@@ -168,7 +144,7 @@ module _ {names : NameTable} {bytes : List ℕ} {v : Version} {shared : List Aut
       whole_there names bytes steps c
       (found_by v (certificate_behind steps c) names shared given bytes nothing_shared t.shares refl b.can_share (plain_behind v shared steps c tt (b.can_step was) plain) (b.plain_shared was)
       (subst (λ (r : List ℕ). Run names (length bytes) (Items.opening ∷ []) (λ u. certificate_marks u (uses_with v names shared) shared given (certificate_behind steps c)) [] bytes
-      r nothing_shared t.shares) ends (run_of b none (peak_read p b h))))
+      r nothing_shared t.shares) ends (run_of b none (whole_behind b c (λ u. refl) h))))
 
 module _ {names : NameTable} {bytes : List ℕ} {v : Version} {shared : List Automaton} {given : Option Bool} {steps : Option (List Simplification)} {o : Opening} {t : words.Reading}
     (a : AtEntries names bytes v shared given steps o t) where

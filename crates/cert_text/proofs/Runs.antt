@@ -1,24 +1,10 @@
 -- What a run along the marks of an opening and of entries has read, and where a run refuses a text.
-use Rattle.std.proofs.Common.{◌≡◌, ◌+◌, ◌-◌, ◌==◌, ℕ, Bool, true, false, List, [], ◌∷◌, length, drop, Option, Some, refl, sym, ap, ◌∙◌, subst, arith, length-append}
-use Rattle.std.proofs.lemmas.Bool.{eqb-true, false≢true}
-use Rattle.std.proofs.lemmas.List.{nil_from_length}
-use Rattle.certificates.specs.Prelude.{Automaton, PairEntry}
-use Rattle.cops_names.specs.NameTable.{NameTable}
-use Rattle.cert_grammar.specs.Prelude.{name_of, Version, IsCertificateRefused, CertificateCause, syntax, Naming, Mark, marks_text, Item, opening, Shared, nothing_shared, behind_marks}
-use Rattle.cert_openings.specs.Openings.{Opening, certificate_for, uses_with}
-use Rattle.cert_openings.specs.Laws.{IsReadTo}
-use Rattle.cert_words.specs.declared.error.CertError.{CertError}
+use Rattle.cert_text.proofs.Prelude.{◌≡◌, ◌+◌, ◌-◌, ◌==◌, ℕ, Bool, true, false, List, [], ◌∷◌, length, drop, Option, Some, refl, sym, ap, ◌∙◌, subst, arith, length-append, false≢true}
+use Rattle.cert_text.proofs.Prelude.{nil_from_length, Automaton, PairEntry, NameTable, name_of, Version, IsCertificateRefused, CertificateCause, syntax, Naming, Mark, marks_text, Item, opening}
+use Rattle.cert_text.proofs.Prelude.{Shared, nothing_shared, behind_marks, Opening, certificate_for, uses_with, IsReadTo, CertError, told, IsRefusedAs, left_at, Run, walks_text, walks_pass, walks_at}
+use Rattle.cert_text.proofs.Prelude.{start_at, refused_at, IsPlainBy, ArePlainAutomata, CanShare, Anywhere, StopsWhere, IsStoppedWhere, walks_named, front_found, place_of, read_marks}
+use Rattle.std.proofs.lemmas.Bool.{eqb-true}
 use Rattle.cert_words.specs.declared.error.CertError.TheVariants.{NoMemory}
-use Rattle.cert_words.specs.Words.{told}
-use Rattle.cert_words.specs.CertRefusals.{IsRefusedAs}
-use Rattle.cert_words.specs.Walks.{left_at, Run}
-use Rattle.cert_words.proofs.Whole.{walks_text, walks_pass, walks_at, start_at, refused_at}
-use Rattle.cert_reading.specs.Plain.{IsPlainBy}
-use Rattle.cert_reading.specs.Shared.{ArePlainAutomata}
-use Rattle.cert_reading.specs.Whole.{CanShare}
-use Rattle.cert_reading.specs.Stops.{Anywhere, StopsWhere, IsStoppedWhere}
-use Rattle.cert_reading.proofs.Found.{walks_named, front_found}
-use Rattle.cert_text.specs.ReadingView.{place_of, read_marks}
 
 -- ---- a run to the end, and one behind an opening and entries
 
@@ -51,7 +37,7 @@ refused_from names bytes _ s = stop_refused names bytes _ (s (omega arith))
 
 pub refused_as : (names : NameTable) (bytes : List ℕ) (e : CertError) → {sa : Shared} → sa ≡ nothing_shared
     → IsStoppedWhere Anywhere names (length bytes) (opening ∷ []) bytes sa (told e) → IsRefusedAs names bytes e
-refused_as names bytes e fresh s = refused_from names bytes e (subst (λ (z : Shared). IsStoppedWhere Anywhere names (length bytes) (opening ∷ []) bytes z (told e)) fresh s)
+refused_as names bytes e fresh s = refused_from names bytes e (rw fresh at s)
 
 -- bytes behind the last line are refused
 behind_from : (names : NameTable) (bytes left : List ℕ) (marks : Naming → List Mark) (sb : Shared) → (left ≡ [] → ⊥)
@@ -63,9 +49,7 @@ behind_from names bytes (b ∷ left) marks sb some r =
 
 pub refused_behind : (names : NameTable) (bytes left : List ℕ) (marks : Naming → List Mark) (at : ℕ) → {sa sb : Shared} → sa ≡ nothing_shared → (left ≡ [] → ⊥)
     → at ≡ length bytes - length left → Run names (length bytes) (opening ∷ []) marks [] bytes left sa sb → IsCertificateRefused names bytes syntax at
-refused_behind names bytes left marks at {sa} {sb} fresh some e r =
-    subst (λ (n : ℕ). IsCertificateRefused names bytes syntax n) (sym e)
-    (behind_from names bytes left marks sb some (subst (λ (z : Shared). Run names (length bytes) (opening ∷ []) marks [] bytes left z sb) fresh r))
+refused_behind names bytes left marks at {sb = sb} fresh some e r = rw e (behind_from names bytes left marks sb some (rw fresh at r))
 
 -- the refusal that an error tells
 as_told : (names : NameTable) (bytes : List ℕ) (x y : CertificateCause × ℕ) → IsCertificateRefused names bytes x.0 x.1 → ◌≡◌ {A = Option (CertificateCause × ℕ)} (Some x) (Some y)

@@ -1,18 +1,12 @@
 -- The marks of an opening and of entries are no front of such marks with the same opening and entries, whatever automata are
 -- shared: behind the shared automata there are as many.
-use Rattle.std.proofs.Common.{◌≡◌, ◌+◌, ◌==◌, ℕ, suc, Bool, true, false, cond, List, [], ◌∷◌, ◌++◌, length, get_or, Option, Some, None, codes, refl, sym, ap, ◌∙◌, subst, arith, append_assoc}
-use Rattle.std.proofs.Common.{length-append}
-use Rattle.std.proofs.lemmas.List.{append_cancel_left}
-use Rattle.certificates.specs.Prelude.{Automaton, InfeasibilityEvidence, by_caps, by_automaton, PairEvidence, trivial_pair, infeasible_pair, conflicting_pair, joined_pair, unfeasible_pair}
-use Rattle.certificates.specs.Prelude.{PairEntry, Simplification, dropped, inlined}
-use Rattle.cert_grammar.specs.Prelude.{Uses, in_full, by_number, version_of, Naming, automaton_ends, shares, is_few, Mark, fixed, word, closed, mark_text, number, number_for, position}
-use Rattle.cert_grammar.specs.Prelude.{automaton_marks, automata_marks, infeasibility_marks, evidence_marks, pairs_marks, measure_marks, simplifications_marks, body_marks, answer_marks}
-use Rattle.cert_grammar.specs.Prelude.{heading_marks}
+use Rattle.cert_text.proofs.Prelude.{◌≡◌, ◌+◌, ◌==◌, ℕ, suc, Bool, true, false, cond, List, [], ◌∷◌, ◌++◌, length, get_or, Option, Some, None, codes, refl, sym, ap, ◌∙◌, subst, arith, append_assoc}
+use Rattle.cert_text.proofs.Prelude.{length-append, append_cancel_left, Automaton, InfeasibilityEvidence, by_caps, by_automaton, PairEvidence, trivial_pair, infeasible_pair, conflicting_pair}
+use Rattle.cert_text.proofs.Prelude.{joined_pair, unfeasible_pair, PairEntry, Simplification, dropped, inlined, Uses, in_full, by_number, version_of, Naming, automaton_ends, shares, Mark}
+use Rattle.cert_text.proofs.Prelude.{fixed, word, closed, mark_text, number_for, automaton_marks, automata_marks, infeasibility_marks, evidence_marks, pairs_marks, measure_marks}
+use Rattle.cert_text.proofs.Prelude.{simplifications_marks, body_marks, answer_marks, heading_marks, AreStill, behind_states, behind_states_still, Opening, ortho_opening, quasi_opening}
+use Rattle.cert_text.proofs.Prelude.{simplified_opening, certificate_for, bytes_apart, read_marks}
 use Rattle.cert_grammar.specs.Marks as marks
-use Rattle.cert_sharing.proofs.UseMarks.{AreStill, behind_states, behind_states_still}
-use Rattle.cert_openings.specs.Openings.{Opening, ortho_opening, quasi_opening, simplified_opening, certificate_for}
-use Rattle.cert_openings.proofs.Lines.{bytes_apart}
-use Rattle.cert_text.specs.ReadingView.{read_marks}
 
 -- ---- as many marks
 
@@ -30,35 +24,43 @@ evidence_long (conflicting_pair a b) x u w v = refl
 evidence_long (joined_pair d e) x u w v = refl
 evidence_long (unfeasible_pair k d e) x u w v = refl
 
-both_long : (a b c d : List Mark) → length a ≡ length c → length b ≡ length d → length (a ++ b) ≡ length (c ++ d)
-both_long a b c d p q = omega (arith, p, q, length-append a b, length-append c d)
-
 pairs_long : (ps : List PairEntry) (x : Naming) (u w : Uses) (n : ℕ) → version_of u ≡ version_of w → length (pairs_marks x u n ps) ≡ length (pairs_marks x w n ps)
 pairs_long [] x u w n v = refl
-pairs_long (p ∷ ps) x u w n v =
-    let line = word (codes "pair") (is_few marks.pairs n ∷ []) ∷ fixed (codes " ") ∷ number p.inner ∷ fixed (codes " ") ∷ position p.position ∷ fixed (codes " ")
-    ∷ number p.outer ∷ fixed (codes " ") ∷ [] in
-    both_long (line ++ evidence_marks x u p.evidence) (pairs_marks x u (suc n) ps) (line ++ evidence_marks x w p.evidence) (pairs_marks x w (suc n) ps)
-    (both_long line (evidence_marks x u p.evidence) line (evidence_marks x w p.evidence) refl (evidence_long p.evidence x u w v)) (pairs_long ps x u w (suc n) v)
+pairs_long (p ∷ ps) x u w n v = omega (
+  arith,
+  evidence_long p.evidence x u w v,
+  pairs_long ps x u w (suc n) v,
+  length-append (evidence_marks x u p.evidence) (pairs_marks x u (suc n) ps),
+  length-append (evidence_marks x w p.evidence) (pairs_marks x w (suc n) ps),
+)
 
 steps_long : (ss : List Simplification) (x : Naming) (u w : Uses) → version_of u ≡ version_of w → length (simplifications_marks x u ss) ≡ length (simplifications_marks x w ss)
 steps_long [] x u w v = refl
-steps_long (dropped r e ∷ ss) x u w v =
-    let line = fixed (codes "drop ") ∷ number r ∷ fixed (codes " ") ∷ [] in
-    both_long (line ++ infeasibility_marks x u e) (simplifications_marks x u ss) (line ++ infeasibility_marks x w e) (simplifications_marks x w ss)
-    (both_long line (infeasibility_marks x u e) line (infeasibility_marks x w e) refl (infeasibility_long e x u w v)) (steps_long ss x u w v)
-steps_long (inlined r k ∷ ss) x u w v = let rest = steps_long ss x u w v in omega (arith, rest)
+steps_long (dropped r e ∷ ss) x u w v = omega (
+  arith,
+  infeasibility_long e x u w v,
+  steps_long ss x u w v,
+  length-append (infeasibility_marks x u e) (simplifications_marks x u ss),
+  length-append (infeasibility_marks x w e) (simplifications_marks x w ss),
+)
+steps_long (inlined r k ∷ ss) x u w v = omega (arith, steps_long ss x u w v)
 
 body_long : (o : Opening) (es : List PairEntry) (x : Naming) (u w : Uses) (g h : Option Bool) → version_of u ≡ version_of w
     → length (body_marks x u g (certificate_for o es)) ≡ length (body_marks x w h (certificate_for o es))
-body_long ortho_opening es x u w g h v = let rest = pairs_long es x u w 1 v in omega (arith, rest)
-body_long (quasi_opening m) es x u w g h v =
-    let rest = both_long (measure_marks x m) (pairs_marks x u 1 es) (measure_marks x m) (pairs_marks x w 1 es) refl (pairs_long es x u w 1 v) in
-    omega (arith, rest)
-body_long (simplified_opening ss o) es x u w g h v =
-    let rest = both_long (simplifications_marks x u ss) (body_marks x u g (certificate_for o es)) (simplifications_marks x w ss) (body_marks x w h (certificate_for o es))
-    (steps_long ss x u w v) (body_long o es x u w g h v) in
-    omega (arith, rest)
+body_long ortho_opening es x u w g h v = omega (arith, pairs_long es x u w 1 v)
+body_long (quasi_opening m) es x u w g h v = omega (
+  arith,
+  pairs_long es x u w 1 v,
+  length-append (measure_marks x m) (pairs_marks x u 1 es),
+  length-append (measure_marks x m) (pairs_marks x w 1 es),
+)
+body_long (simplified_opening ss o) es x u w g h v = omega (
+  arith,
+  steps_long ss x u w v,
+  body_long o es x u w g h v,
+  length-append (simplifications_marks x u ss) (body_marks x u g (certificate_for o es)),
+  length-append (simplifications_marks x w ss) (body_marks x w h (certificate_for o es)),
+)
 
 -- ---- the lines before the body
 

@@ -1,4 +1,4 @@
-use Rattle.cert_sharing.proofs.Whole.{text_or_refused, never_both, places_within}
+use Rattle.cert_text.proofs.Prelude.{text_or_refused, never_both, places_within}
 use Rattle.cert_sharing.proofs.Exact.{one_certificate_refusal}
 use Rattle.cert_text.proofs.laws.one_answer.Goals as goal
 

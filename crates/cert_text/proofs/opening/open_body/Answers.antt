@@ -1,13 +1,10 @@
-use Rattle.std.proofs.Common.{[], refl}
-use Rattle.cert_model.specs.CertificateView.{measure_view, peak_view}
-use Rattle.cert_grammar.specs.Prelude.{between, line}
-use Rattle.cert_reading.specs.declared.headings.Kind.TheVariants.{Ortho, Quasi, Peak}
-use Rattle.cert_words.proofs.Walking.{open_before}
+use Rattle.cert_text.proofs.Prelude.{peak_certificate, [], refl, measure_view, peak_view, between, line, Peak, open_before}
+use Rattle.cert_reading.specs.declared.headings.Kind.TheVariants.{Ortho, Quasi}
 use Rattle.cert_text.proofs.Runs.{refused_behind, left_none, left_some}
 use Rattle.cert_text.proofs.OpenedViews.{ortho_opened, quasi_opened, peak_opened}
 use Rattle.cert_text.proofs.Advancing.{up_to_by}
-use Rattle.cert_text.proofs.Fronts.{line_of, refused_behind_it, none_at_peak, no_end, run_of, told_before}
-use Rattle.cert_text.proofs.Openings.{ortho_read, quasi_read, peak_read, peak_there, up_to, opened_there, refused_there, told_there}
+use Rattle.cert_text.proofs.Fronts.{whole_behind, line_of, refused_behind_it, none_at_peak, no_end, run_of, told_before}
+use Rattle.cert_text.proofs.Openings.{ortho_read, quasi_read, peak_there, up_to, opened_there, refused_there, told_there}
 use Rattle.cert_text.proofs.opening.open_body.Goals as goal
 
 pub behind-requires : goal.behind-requires
@@ -66,7 +63,7 @@ returns-in-Some-refused-2 c =
     let front = line_of Peak c.in-Peak.is c.uses_of-in-Peak.ensures.version c.uses_of-in-Peak.ensures.automata c.requires (c.text.ensures.read c.args.names.now (between line) [] refl) in
     let read = c.peak-peak.ensures.read in
     let e = c.in-Some-refused-2.refused in
-    let refused = refused_behind_it front e c.in-Some-refused-2.is (peak_read (peak_view c.peak-peak.result) front read) in
+    let refused = refused_behind_it front e c.in-Some-refused-2.is (whole_behind front (peak_certificate (peak_view c.peak-peak.result)) (λ u. refl) read) in
     record { opened = λ b. tt; refused = refused; early = told_before c.args.names.now c.args.bytes.now e (none_at_peak front e c.in-Some-refused-2.is read) refused; peak = tt }
 
 pub returns-then-not-is_empty : goal.returns-then-not-is_empty
@@ -77,7 +74,7 @@ returns-then-not-is_empty c =
     record {
       opened = λ b. tt;
       refused = refused_behind c.args.names.now c.args.bytes.now c.peak-peak.new.at.left.now _ c.saturating_sub.result refl some c.saturating_sub.ensures
-          (run_of front c.in_default.is (peak_read (peak_view c.peak-peak.result) front read));
+          (run_of front c.in_default.is (whole_behind front (peak_certificate (peak_view c.peak-peak.result)) (λ u. refl) read));
       early = λ f at t end h. absurd (no_end front (open_before read c.in_default.is) end h);
       peak = tt;
     }

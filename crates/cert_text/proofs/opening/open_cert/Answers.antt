@@ -1,8 +1,5 @@
-use Rattle.std.proofs.Common.{map, None, refl}
-use Rattle.cert_model.specs.EvidenceView.{automaton_view}
+use Rattle.cert_text.proofs.Prelude.{map, None, refl, automaton_view, Opened, opened_view, IsOpenedAs, IsRefusedBehind}
 use Rattle.cert_grammar.specs.Versions.{first_version}
-use Rattle.cert_text.specs.declared.opening.Opened.{Opened}
-use Rattle.cert_text.specs.OpenedText.{opened_view, IsOpenedAs, IsRefusedBehind}
 use Rattle.cert_text.proofs.Openings.{refused_late, if_ok, first_begun, second_begun}
 use Rattle.cert_text.proofs.opening.open_cert.Goals as goal
 

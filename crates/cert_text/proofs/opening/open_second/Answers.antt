@@ -1,9 +1,5 @@
-use Rattle.std.proofs.Common.{map, [], ◌∷◌, length, Some, None, refl, sym, ap, subst}
-use Rattle.cert_model.specs.EvidenceView.{automaton_view}
-use Rattle.cert_model.specs.CertificateView.{simp_view}
-use Rattle.cert_grammar.specs.Prelude.{second_version, between, line, simplification_count, simplifications_of}
-use Rattle.cert_words.proofs.Walking.{then_reads, framed}
-use Rattle.cert_reading.specs.Uses.{AreShared}
+use Rattle.cert_text.proofs.Prelude.{map, [], ◌∷◌, length, Some, None, refl, sym, ap, subst, automaton_view, simp_view, second_version, between, line, simplification_count, simplifications_of}
+use Rattle.cert_text.proofs.Prelude.{then_reads, framed, AreShared}
 use Rattle.cert_text.proofs.OpenedViews.{simplified_opened}
 use Rattle.cert_text.proofs.Openings.{word_begun, steps_begin, known_at_steps}
 use Rattle.cert_text.proofs.opening.open_second.Goals as goal

@@ -1,9 +1,4 @@
-use Rattle.std.proofs.Common.{rules, ◌≡◌, ◌<◌, length, refl}
-use Rattle.std.proofs.lemmas.List.{nil_from_length}
-use Rattle.general_lemmas.proofs.Lists.{not_nil}
-use Rattle.cert_model.specs.CertificateView.{certificate_view}
-use Rattle.cert_reading.proofs.Stopping.{ran, stopped_where}
-use Rattle.cert_reading.proofs.Found.{whole_read}
+use Rattle.cert_text.proofs.Prelude.{rules, ◌≡◌, ◌<◌, length, refl, nil_from_length, not_nil, certificate_view, ran, stopped_where, whole_read}
 use Rattle.cert_text.proofs.Runs.{refused_as, refused_behind}
 use Rattle.cert_text.proofs.reader.read_cert.Goals as goal
 

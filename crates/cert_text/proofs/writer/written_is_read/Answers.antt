@@ -1,4 +1,4 @@
-use Rattle.std.proofs.Common.{inl, refl}
+use Rattle.cert_text.proofs.Prelude.{inl, refl}
 use Rattle.cert_grammar.specs.Versions.{second_version}
 use Rattle.cert_text.proofs.writer.written_is_read.Goals as goal
 

@@ -1,11 +1,6 @@
-use Rattle.std.proofs.Common.{rules, ◌≡◌, ◌<◌, ◌+◌, refl, sym, ◌∙◌, length, arith}
-use Rattle.std.proofs.lemmas.List.{nil_from_length}
-use Rattle.general_lemmas.proofs.Lists.{not_nil}
-use Rattle.cert_model.specs.CertificateView.{pair_entry_view}
-use Rattle.cert_reading.specs.Uses.{version_by, automata_by}
-use Rattle.cert_reading.proofs.Stopping.{ran}
-use Rattle.cert_text.proofs.Advancing.{up_to_by, front_kept, held_back, next_refused, held_on, reads_on, never_whole, at_end, no_entry, not_whole, behind_refused}
-use Rattle.cert_text.proofs.Advancing.{refused_there, not_told, not_told_at}
+use Rattle.cert_text.proofs.Prelude.{rules, ◌≡◌, ◌<◌, ◌+◌, refl, sym, ◌∙◌, length, arith, nil_from_length, not_nil, pair_entry_view, version_by, automata_by, ran}
+use Rattle.cert_text.proofs.Advancing.{up_to_by, front_kept, held_back, next_refused, held_on, reads_on, never_whole, at_end, no_entry, not_whole, behind_refused, refused_there, not_told}
+use Rattle.cert_text.proofs.Advancing.{not_told_at}
 use Rattle.cert_text.proofs.pairs.Pairs.next.Goals as goal
 
 pub invariant_of-self : goal.invariant_of-self
