@@ -32,8 +32,7 @@ returns-in-Some-front-clause-condition c = λ q names v i low behind s.
     let n = c.args.n in
     let none = none_now c.is_some.ensures c.if-is_some.false in
     word_where (λ x. s.place left (when_false c.begins_entry.result c.begins_entry.ensures.1 c.if-begins_entry.false)) (λ x. none_refused c.args.at.now _ none)
-    (go c.is_some.ensures c.if-is_some.false (keyword_run (two s.are_leads c.in_default.ensures c.in-Some-front.ensures)
-    (λ at. counted_there names at n 25000 entries refl c.if-n-2.false) tt))
+    (go c.is_some.ensures c.if-is_some.false (keyword_run (two s.are_leads c.in_default.ensures c.in-Some-front.ensures) (λ at. counted_there names at n 25000 entries refl c.if-n-2.false) tt))
 
 pub returns-clause-nothing : goal.returns-clause-nothing
 returns-clause-nothing c = λ q names v i low behind s.

@@ -36,6 +36,3 @@ pub returns-clause-read : goal.returns-clause-read
 returns-clause-read c =
     let is : suc (length c.pairs.pairs.items) ≡ c.len.result + 1 = omega (arith, c.pairs.pairs.ok.0, c.len.ensures) in
     then_where (numbered_where (pairs_from (version_by c.args.uses)) is c.pairs.invariant.read) (anywhere c.in_default.ensures.last)
-
-pub next_pair-requires : goal.next_pair-requires
-next_pair-requires c = c.pairs.invariant.known

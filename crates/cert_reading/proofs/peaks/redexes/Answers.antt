@@ -37,6 +37,3 @@ pub returns-clause-read : goal.returns-clause-read
 returns-clause-read c =
     let is : suc (length c.redexes.redexes.items) ≡ c.len.result + 1 = omega (arith, c.redexes.redexes.ok.0, c.len.ensures) in
     then_reads (numbered (redexes_from (version_by c.args.uses)) is c.redexes.invariant.read) c.in_default.ensures.last
-
-pub next_redex-requires : goal.next_redex-requires
-next_redex-requires c = c.redexes.invariant.known
