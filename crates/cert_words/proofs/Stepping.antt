@@ -152,7 +152,8 @@ module _ (names : NameTable) (end : ℕ) (bytes : List ℕ) (s : Shared) (i : It
   pub stuck_among : (e : CertError) (ls ks : List Lead) → leads i ≡ ls → first_there ls bytes ≡ None → longest ls bytes ≡ longest ks bytes
       → told e ≡ Some (syntax, (end - length bytes) + longest ks bytes) → IsStuckAt names end i bytes s (told e)
   stuck_among e ls ks is f same t =
-      let far : (end - length bytes) + longest (leads i) bytes ≡ (end - length bytes) + longest ks bytes = ap (λ (n : ℕ). (end - length bytes) + n) (ap (λ (x : List Lead). longest x bytes) is ∙ same) in
+      let far : (end - length bytes) + longest (leads i) bytes ≡ (end - length bytes) + longest ks bytes = ap (λ (n : ℕ). (end - length bytes) + n)
+      (ap (λ (x : List Lead). longest x bytes) is ∙ same) in
       let step_none : (items : List Item) → step names (left_at end (i ∷ items) bytes) ≡ refuses syntax ((end - length bytes) + longest ks bytes) =
       λ items. ap (λ (x : Option Lead). step_lead names (left_at end (i ∷ items) bytes) x i items) (ap (λ (x : List Lead). first_there x bytes) is ∙ f) ∙ ap (refuses syntax) far in
       subst (IsStuckAt names end i bytes s) (sym t) (λ items b. ap (after_step (left_at end (i ∷ items) bytes) (with_begun b s) (next_lead (i ∷ items) bytes)) (step_none items))

@@ -23,7 +23,8 @@ arguments-preserved c =
     let there =
     then_reads (c.either.ensures.one c.arguments-test.true names (further_states c.args.states name k) _ _ refl) (then_reads (c.number-next.ensures.read names _ _ refl)
     (c.put-in-arguments.ensures.read names c.args.end (further_states c.args.states name (suc k) ∷ []))) in
-    let more : c.put-in-arguments.new.at.refused ≡ None → length c.put-in-arguments.new.list.items ≡ k + 1 = λ none. length_grown c.arguments.args.items c.number-next.result (c.put-in-arguments.ensures.grown none) in
+    let more : c.put-in-arguments.new.at.refused ≡ None → length c.put-in-arguments.new.list.items ≡ k + 1 = λ none. length_grown c.arguments.args.items c.number-next.result
+    (c.put-in-arguments.ensures.grown none) in
     let some : c.put-in-arguments.new.at.refused ≡ None → 0 < k = λ none. c.arguments.invariant.some (open_before there none) in
     record {
       read = as_reads (λ none. (

@@ -34,7 +34,8 @@ used_automaton-automaton-requires c =
     let names = c.args.names.now in
     let v = version_by c.args.uses in
     let number = c.number-cond-in-5.ensures.read names (any_number (use_between v)) _ refl in
-    known_still v (automata_by c.args.uses) (then_reads (rw c.in-5.is at (c.choose.ensures.chosen names (evidence v) (kinds v) (are_kinds v) refl)) (framed (use_item v ∷ []) number)) (tt, (tt, tt)) c.requires
+    known_still v (automata_by c.args.uses) (then_reads (rw c.in-5.is at (c.choose.ensures.chosen names (evidence v) (kinds v) (are_kinds v) refl)) (framed (use_item v ∷ []) number))
+    (tt, (tt, tt)) c.requires
 
 pub returns-in-5-clause-read : goal.returns-in-5-clause-read
 returns-in-5-clause-read c =

@@ -7,7 +7,8 @@ pub returns-then-n-clause-symbol : goal.returns-then-n-clause-symbol
 returns-then-n-clause-symbol c = λ q names v i low behind s.
     let left = c.args.at.now.left.now in
     let n = c.args.n in
-    let out = one_stop names c.args.end (one s.are_leads c.in-Some.ensures) c.args.at.now.shares (Some (too_many entries, c.saturating_sub.result)) (counted_out names _ n _ 25000 entries c.saturating_sub.ensures refl c.if-n.true refl) in
+    let out = one_stop names c.args.end (one s.are_leads c.in-Some.ensures) c.args.at.now.shares (Some (too_many entries, c.saturating_sub.result))
+    (counted_out names _ n _ 25000 entries c.saturating_sub.ensures refl c.if-n.true refl) in
     word_where (λ x. s.place left (when_false c.begins_entry.result c.begins_entry.ensures.1 c.if-begins_entry.false)) (λ x. out) (stop c.is_some.ensures c.if-is_some.false out)
 
 pub returns-in-Some-clause-symbol : goal.returns-in-Some-clause-symbol

@@ -28,7 +28,8 @@ pairs-preserved c =
       read = next_where (pairs_from v) items _ is c.put.ensures.grown
           (λ none u. cc (pairs_push pair_entry_view u (uses_by c.args.names.now c.args.uses) 1 n items c.in-Some.next (omega (arith, is)), c.put.ensures.grown none))
           c.pairs.invariant.read (anywhere c.in-Some.ensures.pair) (reads_anywhere (c.put.ensures.read c.args.names.now c.args.end (pairs_from v (suc n) ∷ [])));
-      plain = λ none. plain_pairs v all pair_entry_view items _ _ (c.put.ensures.grown none) (c.pairs.invariant.plain (open_before_where c.in-Some.ensures.pair (was none))) (c.in-Some.ensures.plain (was none));
+      plain = λ none. plain_pairs v all pair_entry_view items _ _ (c.put.ensures.grown none) (c.pairs.invariant.plain (open_before_where c.in-Some.ensures.pair (was none)))
+          (c.in-Some.ensures.plain (was none));
       known = known_still v all (c.put.ensures.read c.args.names.now c.args.end []) tt c.in-Some.ensures.known;
     }
 

@@ -13,7 +13,8 @@ returns-then-not-counted_or-clause-last c =
     let ends = Items.line in
     let last = c.counted_or.ensures.other c.if-not-counted_or.true names (pairs_from v n) _ _ refl in
     then_where (word_where (λ s. first_entry v n c.args.at.now.left.now c.args.at.now.left.now) (λ none. c.counted_or.ensures.here none names (pairs_from v n) _ _ refl) last)
-    (word_behind (λ going. line_entry v n c.args.at.now.left.now c.counted_or.new.at.left.now (c.counted_or.ensures.text c.if-not-counted_or.true (open_before last going) going)) (λ none. c.choose.ensures.here none names (between ends) (line_end ∷ []) refl refl)
+    (word_behind (λ going. line_entry v n c.args.at.now.left.now c.counted_or.new.at.left.now (c.counted_or.ensures.text c.if-not-counted_or.true (open_before last going) going))
+    (λ none. c.choose.ensures.here none names (between ends) (line_end ∷ []) refl refl)
     (one_choice names c.args.end (between ends) line_end _ _ _ (c.choose.ensures.chosen names (between ends) (line_end ∷ []) refl refl)))
 
 pub evidence-evidence-requires : goal.evidence-evidence-requires

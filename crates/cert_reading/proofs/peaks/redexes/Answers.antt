@@ -29,7 +29,8 @@ redexes-preserved c =
       read = next_reads (redexes_from v) items _ is c.put.ensures.grown
           (λ none u. cc (redexes_push redex_view u (uses_by c.args.names.now c.args.uses) 1 n items c.in-Some.next (omega (arith, is)), c.put.ensures.grown none))
           c.redexes.invariant.read c.in-Some.ensures.redex (c.put.ensures.read c.args.names.now c.args.end (redexes_from v (suc n) ∷ []));
-      plain = λ none. plain_redexes v all redex_view items _ _ (c.put.ensures.grown none) (c.redexes.invariant.plain (open_before c.in-Some.ensures.redex (was none))) (c.in-Some.ensures.plain (was none));
+      plain = λ none. plain_redexes v all redex_view items _ _ (c.put.ensures.grown none) (c.redexes.invariant.plain (open_before c.in-Some.ensures.redex (was none)))
+          (c.in-Some.ensures.plain (was none));
       known = known_still v all (c.put.ensures.read c.args.names.now c.args.end []) tt c.in-Some.ensures.known;
     }
 

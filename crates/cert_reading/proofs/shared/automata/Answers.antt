@@ -14,7 +14,8 @@ automata-preserved c =
     let put = c.put.ensures.read c.args.names.now c.args.end [] in
     let was : c.put.new.at.refused ≡ None → c.automata.at.refused ≡ None = λ none. open_before_where (c.shared_automaton-next.ensures.read k None) (open_before put none) in
     record {
-      read = λ given. as_marks_where (λ none u. automata_push automaton_view u items c.shared_automaton-next.result ∙ ap (λ xs. automata_marks u (map automaton_view xs)) (sym (c.put.ensures.grown none)))
+      read = λ given. as_marks_where (λ none u. automata_push automaton_view u items c.shared_automaton-next.result ∙ ap (λ xs. automata_marks u (map automaton_view xs))
+          (sym (c.put.ensures.grown none)))
           (then_where (as_where (λ none. (left_next (λ (m : ℕ). behind_automata m given ∷ []) c.args.count c.automata.counter c.automata-test.true, λ u. refl)) (c.automata.invariant.read given))
           (then_nothing_where (c.shared_automaton-next.ensures.read k given) (low_where (behind_automata k given) (other_below (behind_automata k given) (automata_other k given)) put)));
       counted = λ none. counted_more automaton_view items _ (c.put.ensures.grown none) (c.automata.invariant.counted (was none));

@@ -30,7 +30,8 @@ argument-returns-in-Comma-clause-read t c = λ g fs e.
     let f = c.in-Symbol.f in
     symbol_alone c.args.depth n f _ (fixed (codes ",")) (view-Fun f c.new.result ∙ ap (λ l. app f (views l)) c.new.ensures.items)
     (c.in-Symbol.ensures.read (node n (g ∷ fs)) _ _ (node_leads n c.args.depth g fs e))
-    (then_reads (c.in-Comma.ensures.comma refl names f 0 _ _ _ _ refl (arity_met names f 0 c.has_so_many.result (c.in-Symbol.ensures.found (none_now c.is_some.ensures c.if-is_some.false)) c.has_so_many.ensures))
+    (then_reads (c.in-Comma.ensures.comma refl names f 0 _ _ _ _ refl
+    (arity_met names f 0 c.has_so_many.result (c.in-Symbol.ensures.found (none_now c.is_some.ensures c.if-is_some.false)) c.has_so_many.ensures))
     (c.text.ensures.read names _ _ refl))
 
 pub argument-returns-in-Close-clause-read : goal.argument-returns-in-Close-clause-read
@@ -40,7 +41,8 @@ argument-returns-in-Close-clause-read t c = λ g fs e.
     let f = c.in-Symbol.f in
     symbol_alone c.args.depth n f _ (fixed (codes ")")) (view-Fun f c.new-in-Close.result ∙ ap (λ l. app f (views l)) c.new-in-Close.ensures.items)
     (c.in-Symbol.ensures.read (node n (g ∷ fs)) _ _ (node_leads n c.args.depth g fs e))
-    (then_reads (c.in-Close.ensures.close refl names f 0 _ _ _ _ refl (arity_met names f 0 c.has_so_many.result (c.in-Symbol.ensures.found (none_now c.is_some.ensures c.if-is_some.false)) c.has_so_many.ensures))
+    (then_reads (c.in-Close.ensures.close refl names f 0 _ _ _ _ refl
+    (arity_met names f 0 c.has_so_many.result (c.in-Symbol.ensures.found (none_now c.is_some.ensures c.if-is_some.false)) c.has_so_many.ensures))
     (c.text-in-Close.ensures.read names _ _ refl))
 
 pub argument-returns-in-Open-clause-read : goal.argument-returns-in-Open-clause-read
