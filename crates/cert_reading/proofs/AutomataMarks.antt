@@ -1,5 +1,5 @@
 -- The marks of shared automata, one behind another.
-use Rattle.cert_reading.proofs.Prelude.{◌≡◌, List, [], ◌∷◌, ◌++◌, map, sym, ap, ◌∙◌, subst, append_assoc, append-nil, Automaton, Naming, Mark, automata_marks, Shared, automaton_marks}
+use Rattle.cert_reading.proofs.Prelude.{◌≡◌, List, [], ◌∷◌, ◌++◌, map, sym, ap, ◌∙◌, append_assoc, append-nil, Automaton, Naming, Mark, automata_marks, Shared, automaton_marks}
 use Rattle.cert_reading.proofs.Prelude.{automaton_behind, BeginsAnew, AreWithoutStates, sealed_marks, ArePlainAutomata}
 use Rattle.cert_reading.proofs.AutomatonMarks.{more_of}
 

@@ -35,8 +35,7 @@ module _ (names : NameTable) (end : ℕ) (v : Version) (symbol : Item) (b : List
     where
       by : (x : Option Lead) → first_there (pair_or_end v 1) b ≡ x → step names (left_at end (symbol ∷ items) b) ≡ step names (left_at end (pairs_from v 1 ∷ items) b)
       by None e =
-          ap (λ (y : Option Lead). step_lead names (left_at end (symbol ∷ items) b) y (symbol) items) (same.0 ∙ e)
-          ∙ ap (λ (m : ℕ). refuses syntax ((end - length b) + m)) same.1
+          ap (λ (y : Option Lead). step_lead names (left_at end (symbol ∷ items) b) y (symbol) items) (same.0 ∙ e) ∙ ap (λ (m : ℕ). refuses syntax ((end - length b) + m)) same.1
           ∙ sym (ap (λ (y : Option Lead). step_lead names (left_at end (pairs_from v 1 ∷ items) b) y (pairs_from v 1) items) e)
       by (Some a) e =
           ap (λ (y : Option Lead). step_lead names (left_at end (symbol ∷ items) b) y (symbol) items) (same.0 ∙ e)
@@ -97,8 +96,7 @@ symbol_where {P} {names} {end} {f} {to} {s} {t} v n i low behind at h some p x =
     record {
       front = x.front;
       on = goes_as _ _ (IsStoppedWhere P names end (pairs_from v 1 ∷ []) s.left.now s.shares) (IsStoppedWhere P names end (i ∷ []) s.left.now s.shares) s.refused t.refused
-          (λ q none. symbol_run names end v i s.left.now (same q) f to t.left.now s.shares t.shares some)
-          (λ q o. symbol_stopped names end v i s.left.now (same q) P s.shares o p) x.on;
+          (λ q none. symbol_run names end v i s.left.now (same q) f to t.left.now s.shares t.shares some) (λ q o. symbol_stopped names end v i s.left.now (same q) P s.shares o p) x.on;
     }
 
 -- and behind a measure

@@ -110,16 +110,14 @@ left_is first_version names c all left s none l k e = l ∙ sym (ap (drop s.used
 left_is second_version names c all left s none l k e = sym (ap (drop s.used) e ∙ drop_at (shared_by names c) left s.used (sym k.0))
 
 pub front_found : (v : Version) (all : List Automaton) (names : NameTable) (bytes left : List ℕ) (given : Option Bool) (o : Opening) (es : List PairEntry) (at used : ℕ)
-    → CanShare v all → IsPlainBy v all (certificate_for o es) → ArePlainAutomata all
-    → Along names (λ u. front_marks u (uses_with v names all) all given (certificate_for o es))
+    → CanShare v all → IsPlainBy v all (certificate_for o es) → ArePlainAutomata all → Along names (λ u. front_marks u (uses_with v names all) all given (certificate_for o es))
     → PassShares nothing_shared (front_marks (name_of names) (uses_with v names all) all given (certificate_for o es))
     → (behind_marks (front_marks (name_of names) (uses_with v names all) all given (certificate_for o es)) nothing_shared).used ≡ used
     → bytes ≡ marks_text (front_marks (name_of names) (uses_with v names all) all given (certificate_for o es)) ++ left → at + length left ≡ length bytes
     → IsReadTo names bytes o es at v (drop used all) left
 front_found v all names bytes left given o es at used share p q a h e text place =
     subst (λ (l : List Automaton). IsReadTo names bytes o es at v l left) (left_is v names k.certificate all k.left _ share (subst (λ (w : Version). AreLeft w names k.certificate k.left) version
-    k.are_left) k.counted same.1 ∙ ap (λ (n : ℕ). drop n all) e)
-    (read_meant k o es v bytes left at version (sym same.0) text place)
+    k.are_left) k.counted same.1 ∙ ap (λ (n : ℕ). drop n all) e) (read_meant k o es v bytes left at version (sym same.0) text place)
   where
     c : Certificate
     c = certificate_for o es

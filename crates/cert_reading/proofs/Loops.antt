@@ -10,10 +10,10 @@ pub counted_more : {A B : Type 0} (f : A → B) (done : List A) {after : List A}
 counted_more f done {after} a e h = let n = length_grown done a e in omega (arith, h, n, length-map after f, length-map done f)
 
 -- of so many parts that are left, one is next, or none
-left_next : {A : Type 0} (left : ℕ → A) (n k : ℕ) → k < n → left (n - k) ≡ left (suc (n - (k + 1)))
+pub left_next : {A : Type 0} (left : ℕ → A) (n k : ℕ) → k < n → left (n - k) ≡ left (suc (n - (k + 1)))
 left_next left n k h = let e : n - k ≡ suc (n - (k + 1)) = omega (arith, h) in ap left e
 
-left_end : {A : Type 0} (left : ℕ → A) (n k : ℕ) → n ≤ k → left (n - k) ≡ left 0
+pub left_end : {A : Type 0} (left : ℕ → A) (n k : ℕ) → n ≤ k → left (n - k) ≡ left 0
 left_end left n k h = let e : n - k ≡ 0 = omega (arith, h) in ap left e
 
 module _ {names : NameTable} {end : ℕ} {from : List Item} {f : Naming → List Mark} {s t : Reading} (left : ℕ → List Item) (n k : ℕ) where
@@ -24,15 +24,6 @@ module _ {names : NameTable} {end : ℕ} {from : List Item} {f : Naming → List
 
   pub none_left : n ≤ k → Reads names end from f (left (n - k)) s t → Reads names end from f (left 0) s t
   none_left more x = as_reads (λ none. (left_end left n k more, λ x. refl)) x
-
-  pub one_more_where : {P : Place} {g h : Naming → List Mark} {u v : Reading} → k < n → (v.refused ≡ None → (x : Naming) → f x ++ g x ≡ h x)
-      → ReadsWhere P names end from f (left (n - k)) s t → ReadsWhere P names end (left (suc (n - (k + 1)))) g (left (n - (k + 1))) t u
-      → ReadsWhere P names end (left (n - (k + 1))) (λ x. []) (left (n - (k + 1))) u v → ReadsWhere P names end from h (left (n - (k + 1))) s v
-  one_more_where less same before part put =
-      as_marks_where same (then_where (as_where (λ none. (left_next left n k less, λ x. refl)) before) (then_nothing_where part put))
-
-  pub none_left_where : {P : Place} → n ≤ k → ReadsWhere P names end from f (left (n - k)) s t → ReadsWhere P names end from f (left 0) s t
-  none_left_where more x = as_where (λ none. (left_end left n k more, λ x. refl)) x
 
 -- a part that is numbered
 module _ {names : NameTable} {end : ℕ} {from : List Item} {f : Naming → List Mark} {s t : Reading} (item : ℕ → Item) where

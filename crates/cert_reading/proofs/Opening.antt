@@ -111,8 +111,7 @@ none_refused s P e = subst (λ (o : Option CertError). IfSome o P) (sym e) tt
 pub kind_read : (P : Place) (names : NameTable) (end : ℕ) (i : Item) (given : Option Bool) (kind : Bool) (w : List ℕ) {v : List ℕ} (rest : List ℕ) (new : List Item) (s t : Reading)
     (met : Bool) → P (i ∷ []) s.left.now → s.refused ≡ None → Front s.left.now i (keyword w (fits_answer kind given ∷ []) new) v rest
     → met ≡ is_answer kind given → (met ≡ true → (t.left.now ≡ rest) × (t.refused ≡ s.refused) × (t.shares ≡ s.shares))
-    → (met ≡ false → (t.left.now ≡ s.left.now) × (t.refused ≡ Some (CertSyntax 0)) × (t.shares ≡ s.shares))
-    → ReadsWhere P names end (i ∷ []) (λ u. word w (fits_answer kind given ∷ []) ∷ []) new s t
+    → (met ≡ false → (t.left.now ≡ s.left.now) × (t.refused ≡ Some (CertSyntax 0)) × (t.shares ≡ s.shares)) → ReadsWhere P names end (i ∷ []) (λ u. word w (fits_answer kind given ∷ []) ∷ []) new s t
 kind_read P names end i given kind w rest new s t met place none f m goes refused = by met refl
   where
     out : met ≡ false → IsStuckAt names end i s.left.now s.shares (Some (syntax, 0))

@@ -13,10 +13,10 @@ pub use Rattle.cert_grammar.specs.Prelude.{used_by_redexes, used_by_apart, used_
 pub use Rattle.cert_grammar.specs.Prelude.{IsVersionText, IsCertificateText, name_lead, leads, mark_of, taken, Left, CertificateCause, space, HasMeasure, entries, longest, accepts, refuses}
 pub use Rattle.cert_grammar.specs.Prelude.{goes_on, step, step_lead, after_step, shared_step, automaton_marks, steps_mark, steps_marks, step_marks, derivations_marks, head_marks}
 pub use Rattle.cert_grammar.specs.Prelude.{accepting_marks, further_states_marks, states_marks, transitions_marks, derivations_left, text, evidence, infeasibility, IsUnsimplified}
-pub use Rattle.cert_grammar.specs.Prelude.{body_marks, demands_of, use_mark, states_line, shared_use, state_count, automata_left, automaton_end, shared_count, apart, derivation_marks}
-pub use Rattle.cert_grammar.specs.Prelude.{closing, apart_marks, start_line, redexes_from, coefficient, measure, too_many, rule_mark, derivations, steps_left, steps_of, is_number}
-pub use Rattle.cert_grammar.specs.Prelude.{states_behind, argument_state, further_states, head_closed, transitions_of, states, transitions, by_number, simplifications, simplification_count}
-pub use Rattle.cert_grammar.specs.Prelude.{simplifications_of, in_full, answer_marks, simplified, measure_marks, next_argument, symbol_end, name_behind, term_behind, simplifications_left}
+pub use Rattle.cert_grammar.specs.Prelude.{body_marks, demands_of, use_mark, shared_use, automata_left, automaton_end, shared_count, apart, derivation_marks, closing, apart_marks}
+pub use Rattle.cert_grammar.specs.Prelude.{start_line, redexes_from, coefficient, measure, too_many, rule_mark, derivations, steps_left, steps_of, is_number, states_behind, further_states}
+pub use Rattle.cert_grammar.specs.Prelude.{transitions_of, states, transitions, by_number, simplifications, simplification_count, simplifications_of, in_full, answer_marks, simplified}
+pub use Rattle.cert_grammar.specs.Prelude.{measure_marks, next_argument, symbol_end, name_behind, term_behind, simplifications_left}
 pub use Rattle.cert_grammar.specs.WordMarks.{numeral}
 pub use Rattle.cert_model.proofs.DerivationViews.{derivation_of_steps, step_of_rule, step_of_hypothesis}
 pub use Rattle.cert_model.specs.CertificateView.{apart_view, redex_view, linear_entry_view, head_view, pair_entry_view, simp_view, certificate_view, measure_view}
@@ -26,7 +26,7 @@ pub use Rattle.cert_openings.proofs.Entries.{pick_stands}
 pub use Rattle.cert_openings.specs.Openings.{BeginsEntry, Opening, certificate_for}
 pub use Rattle.cert_reading.specs.Arguments.{argument_end, behind_argument}
 pub use Rattle.cert_reading.specs.Headings.{item_by, entries_of, behind_measure, first_marks, kind_mark, behind_kind, IsOfKind, behind_version}
-pub use Rattle.cert_reading.specs.Lines.{line_marks, line_items}
+pub use Rattle.cert_reading.specs.Lines.{line_marks}
 pub use Rattle.cert_reading.specs.Measures.{SymbolAt}
 pub use Rattle.cert_reading.specs.Plain.{HasUsed, EvidenceUses, PairsUse, RedexesUse, StepsUse, IsUsed, ApartUses, IsPlainBy}
 pub use Rattle.cert_reading.specs.Shared.{shared_marks, ArePlainAutomata, IsKnown, sealed_marks}

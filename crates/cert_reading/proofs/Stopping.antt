@@ -25,8 +25,7 @@ module _ (P : Place) (names : NameTable) (end : ℕ) where
         rest = there.rest;
         walks = walks_then names (f (name_of names)) there.marks _ _ _
             first there.walks;
-        stops = stops_then names sa sb (f (name_of names)) there.marks (left_at end (there.item ∷ there.more) there.rest) e
-            (x.shares le) there.stops;
+        stops = stops_then names sa sb (f (name_of names)) there.marks (left_at end (there.item ∷ there.more) there.rest) e (x.shares le) there.stops;
         place = there.place;
       }
 
@@ -51,8 +50,7 @@ module _ (P : Place) (names : NameTable) (end : ℕ) where
     item = i;
     more = [];
     rest = q;
-    walks = alone (f (name_of names)) from (i ∷ []) b q
-        (x.walks le []);
+    walks = alone (f (name_of names)) from (i ∷ []) b q (x.walks le []);
     stops = λ k. ((x.shares le k).0, h le [] k);
     place = p;
   }
@@ -78,8 +76,7 @@ pub then_where : {P : Place} {names : NameTable} {end : ℕ} {from mid to : List
 then_where {P} {names} {end} {from} {mid} {to} {f} {g} {s} {t} {u} x y = record {
   front = front_then s.shares.texts t.shares.texts u.shares.texts x.front y.front;
   on = goes_then _ _ _ (IsStoppedWhere P names end from s.left.now s.shares) (IsStoppedWhere P names end mid t.left.now t.shares) s.refused t.refused u.refused
-      (run_then names end from mid to f g s.left.now t.left.now u.left.now s.shares t.shares u.shares)
-      (stop_behind P names end from mid f s.left.now t.left.now s.shares t.shares) x.on y.on;
+      (run_then names end from mid to f g s.left.now t.left.now u.left.now s.shares t.shares u.shares) (stop_behind P names end from mid f s.left.now t.left.now s.shares t.shares) x.on y.on;
 }
 
 -- other marks and items, where they are the same if nothing is refused
@@ -148,8 +145,7 @@ pub sealed_where : {P : Place} {names : NameTable} {end : ℕ} {i : Item} {from 
 sealed_where {P} {names} {end} {i} {from} {to} {f} {g} {a} {s} {t} p none h x y =
     record {
       front = y.front;
-      on = sealed_on P names end from to i f g a.left.now s.left.now t.left.now a.shares s.shares t.shares a.refused t.refused
-          (open_before x none) p (read_run none x) h y.on;
+      on = sealed_on P names end from to i f g a.left.now s.left.now t.left.now a.shares s.shares t.shares a.refused t.refused (open_before x none) p (read_run none x) h y.on;
     }
 
 -- a part with an item below it
@@ -164,8 +160,7 @@ low_where {P} {names} {end} {from} {to} {f} {s} {t} low p x = record {
 -- ---- at a place of which less is said
 
 pub other_stop : (P Q : Place) → ((items : List Item) (q : List ℕ) → P items q → Q items q)
-    → (names : NameTable) (end : ℕ) (from : List Item) (b : List ℕ) (sa : Shared) (t : Option (CertificateCause × ℕ)) → IsStoppedWhere P names end from b sa t
-    → IsStoppedWhere Q names end from b sa t
+    → (names : NameTable) (end : ℕ) (from : List Item) (b : List ℕ) (sa : Shared) (t : Option (CertificateCause × ℕ)) → IsStoppedWhere P names end from b sa t → IsStoppedWhere Q names end from b sa t
 other_stop P Q f names end from b sa None x = tt
 other_stop P Q f names end from b sa (Some e) x = λ le. let there = x le in record {
   marks = there.marks;

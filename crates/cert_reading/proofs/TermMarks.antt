@@ -12,8 +12,7 @@ commas u d n (t ∷ ts) = (term_marks u d n t ++ (fixed (codes ",") ∷ [])) ++ 
 same_term : (u : Naming) (d m n : ℕ) (t : Term) (e : Mark) → m ≡ n → term_marks u d m t ++ (e ∷ []) ≡ term_marks u d n t ++ (e ∷ [])
 same_term u d m n t e q = ap (λ (k : ℕ). term_marks u d k t ++ (e ∷ [])) q
 
-commas_push : (u : Naming) (d n m : ℕ) (ts : List Term) (t : Term) → m ≡ n + size_all (terms_of ts)
-    → commas u d n ts ++ (term_marks u d m t ++ (fixed (codes ",") ∷ [])) ≡ commas u d n (ts ++ t ∷ [])
+commas_push : (u : Naming) (d n m : ℕ) (ts : List Term) (t : Term) → m ≡ n + size_all (terms_of ts) → commas u d n ts ++ (term_marks u d m t ++ (fixed (codes ",") ∷ [])) ≡ commas u d n (ts ++ t ∷ [])
 commas_push u d n m [] t e = same_term u d m n t (fixed (codes ",")) (omega (arith, e)) ∙ sym (append-nil (term_marks u d n t ++ (fixed (codes ",") ∷ [])))
 commas_push u d n m (s ∷ ts) t e =
     append_assoc (term_marks u d n s ++ (fixed (codes ",") ∷ [])) (commas u d (n + size s) ts) (term_marks u d m t ++ (fixed (codes ",") ∷ []))
@@ -57,8 +56,7 @@ arguments_inner u d n (t ∷ ts) h = refl
 
 -- a symbol with its arguments, and a mark behind it
 symbol_closed : (u : Naming) (d n f k : ℕ) (ts : List Term) (m : Mark) → 0 < length ts → k ≡ length ts
-    → symbol (u f) (is_node d n) ∷ fixed (codes "(") ∷ (inner_marks u (suc d) (suc n) (terms_of ts) ++ (behind (has_arity (u f) k) ∷ m ∷ [])) ≡ term_marks u d n
-    (app f (terms_of ts)) ++ (m ∷ [])
+    → symbol (u f) (is_node d n) ∷ fixed (codes "(") ∷ (inner_marks u (suc d) (suc n) (terms_of ts) ++ (behind (has_arity (u f) k) ∷ m ∷ [])) ≡ term_marks u d n (app f (terms_of ts)) ++ (m ∷ [])
 symbol_closed u d n f k ts m h e =
     ap (λ (ms : List Mark). symbol (u f) (is_node d n) ∷ fixed (codes "(") ∷ ms)
     (ap (λ (j : ℕ). inner_marks u (suc d) (suc n) (terms_of ts) ++ (behind (has_arity (u f) j) ∷ m ∷ [])) (e ∙ sym (count_terms ts))
@@ -79,8 +77,7 @@ symbol_read d n f k ts x m e q head bracket inner some last =
     as_marks (λ none u.
     let many : 0 < length ts = (let h = some (open_before last none) in omega (arith, h, q)) in
     ap₂ (λ (a b : ℕ). symbol (u f) (is_node d n) ∷ fixed (codes "(") ∷ (inner_marks u a b (terms_of ts) ++ (behind (has_arity (u f) k) ∷ m ∷ []))) (sym (suc_is d)) (sym (suc_is n))
-    ∙ symbol_closed u d n f k ts m many q ∙ ap (λ (y : Term). term_marks u d n y ++ (m ∷ [])) (sym e))
-    (then_reads head (then_reads bracket (then_reads inner last)))
+    ∙ symbol_closed u d n f k ts m many q ∙ ap (λ (y : Term). term_marks u d n y ++ (m ∷ [])) (sym e)) (then_reads head (then_reads bracket (then_reads inner last)))
 
 -- either end of an argument
 pub either_end : {names : NameTable} {end : ℕ} {from : List Item} {s t : Reading} (comma : Bool) (n : ℕ) (g : Frame) (fs : List Frame)

@@ -31,8 +31,7 @@ pub known_where : {P : Place} {names : NameTable} {end : ℕ} {from to : List It
     → ReadsWhere P names end from f to s t → (ns : List ℕ) → Counts (f (name_of names)) ns → AreShared v names all end s → AreShared v names all end t
 known_where first_version all x ns c h = tt
 known_where {P} {names} {end} {from} {to} {f} {s} {t} second_version all x ns c h = λ none.
-    known_on names end from to f s.left.now t.left.now s.shares t.shares all ns c (h (open_before_where x none))
-    (ran (open_before_where x none) none x)
+    known_on names end from to f s.left.now t.left.now s.shares t.shares all ns c (h (open_before_where x none)) (ran (open_before_where x none) none x)
 
 -- the same of marks that ask nothing of shared automata
 pub known_still : {names : NameTable} {end : ℕ} {from to : List Item} {f : Naming → List Mark} {s t : Reading} (v : Version) (all : List Automaton) → Reads names end from f to s t

@@ -33,8 +33,7 @@ all_read (leading.Keyword w) bytes n h = sym (spelled (w.now) bytes h)
 all_read _ bytes n h = refl
 
 pub is_front : (a : code.Lead) (bytes w behind : List ℕ) (size : ℕ) → ((b : ℕ) → a ≡ leading.Check b → ⊥) → is_word (scan (mode_of (bare a)) bytes).mode ≡ true
-    → size ≡ (scan (mode_of (bare a)) bytes).size → size ≤ length bytes → w ≡ take size bytes → behind ≡ drop size bytes → ends_lead (bare a) behind ≡ true
-    → IsLeadRead (bare a) bytes w behind
+    → size ≡ (scan (mode_of (bare a)) bytes).size → size ≤ length bytes → w ≡ take size bytes → behind ≡ drop size bytes → ends_lead (bare a) behind ≡ true → IsLeadRead (bare a) bytes w behind
 is_front a bytes w behind size n h e le first last ends =
     let same : taken (bare a) bytes ≡ size = all_read a bytes n h ∙ sym e in
     let off : ends_lead (bare a) (drop (scan (mode_of (bare a)) bytes).size bytes) ≡ true = subst (λ (k : ℕ). ends_lead (bare a) (drop k bytes) ≡ true) e

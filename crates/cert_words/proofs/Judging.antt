@@ -18,5 +18,4 @@ one_digit : (digits : List ℕ) (at n : ℕ) → at < length digits → value_fr
 one_digit digits at n h e = rw add-one (sym (ap (value_from n) (drop-cons digits at 0 h)) ∙ e)
 
 pub value_passes : (digits : List ℕ) (at n : ℕ) → ValueOn digits at n → at < length digits → largest < 10 * n + (get_or digits at 0 - 48) → largest < value digits
-value_passes digits at n v h gt =
-    omega (arith, one_digit digits at n h v.value, grows (drop (at + 1) digits) (10 * n + (get_or digits at 0 - 48)))
+value_passes digits at n v h gt = omega (arith, one_digit digits at n h v.value, grows (drop (at + 1) digits) (10 * n + (get_or digits at 0 - 48)))

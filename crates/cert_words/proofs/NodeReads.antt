@@ -10,8 +10,7 @@ pub suc_is : (n : ℕ) → suc n ≡ n + 1
 suc_is n = omega arith
 
 pub node_leads : (n depth : ℕ) (g : Frame) (fs : List Frame) → suc (suc (length fs)) ≡ depth
-    → leads (node n (g ∷ fs)) ≡ name_lead (is_node depth n) (λ name. name_behind (n + 1) name (g ∷ fs) ∷ []) ∷ variable_lead (is_node depth n)
-    (term_behind (n + 1) (g ∷ fs) ∷ []) ∷ []
+    → leads (node n (g ∷ fs)) ≡ name_lead (is_node depth n) (λ name. name_behind (n + 1) name (g ∷ fs) ∷ []) ∷ variable_lead (is_node depth n) (term_behind (n + 1) (g ∷ fs) ∷ []) ∷ []
 node_leads n depth g fs e = ap₂ (λ (d k : ℕ). name_lead (is_node d n) (λ name. name_behind k name (g ∷ fs) ∷ []) ∷ variable_lead (is_node d n) (term_behind k (g ∷ fs) ∷ []) ∷ [])
     e (suc_is n)
 

@@ -51,8 +51,7 @@ module _ (names : NameTable) (end : ℕ) (s : Reading) {i : Item} {v rest : List
       → Run names end (i ∷ []) (λ u. use_mark n ∷ []) (new n) s.left.now rest s.shares t
   use_run {t} m = number_keeps f k.0 (use_met names (value v) n k.0 k.1) (use_keeps (numeral n) n s.shares t m.0 m.1 m.2)
 
-  out : (x : CertificateCause × ℕ) → ((b : List ℕ) → share_verdict (with_begun b s.shares) (end - length s.left.now) (use_demands n) ≡ Some x)
-      → IsStuckAt names end i s.left.now s.shares (Some x)
+  out : (x : CertificateCause × ℕ) → ((b : List ℕ) → share_verdict (with_begun b s.shares) (end - length s.left.now) (use_demands n) ≡ Some x) → IsStuckAt names end i s.left.now s.shares (Some x)
   out x w = λ items b. shared_stop names end f x items (with_begun b s.shares) (use_met names (value v) n k.0 k.1 (end - length s.left.now))
       (subst (λ (j : ℕ). share_verdict (with_begun b s.shares) (end - length s.left.now) (use_demands j) ≡ Some x) k.0 (w b))
 
@@ -108,12 +107,7 @@ module _ {names : NameTable} {end : ℕ} {from : List Item} {f : Naming → List
   behind_all le b = same_begun (behind_marks done (with_begun b a.shares)) s.shares (run.shares le b).1 ∙ ap (λ (y : List ℕ). with_begun y s.shares) (anew b a.shares)
 
   at_end : Front s.left.now i (at_once (shares automaton_ends) new) [] s.left.now
-  at_end = record {
-    first = ap (λ (ls : List Lead). first_there ls s.left.now) is_end ∙ rw (here_there (shares automaton_ends) new s.left.now) refl;
-    word = refl;
-    rest = refl;
-    within = omega arith;
-  }
+  at_end = record { first = ap (λ (ls : List Lead). first_there ls s.left.now) is_end ∙ rw (here_there (shares automaton_ends) new s.left.now) refl; word = refl; rest = refl; within = omega arith }
 
   pub end_read : {t : Reading} → t.refused ≡ None → t.left.now ≡ s.left.now → good ≡ true → t.shares ≡ behind_end text s.shares
       → Reads names end from (λ u. f u ++ closed (shares automaton_ends) ∷ []) new a t
@@ -130,8 +124,7 @@ module _ {names : NameTable} {end : ℕ} {from : List Item} {f : Naming → List
             let is = text_is le in
             let new_one : is_among text s.shares.texts ≡ false = not_among good (is_among text s.shares.texts) g kept in
             let here = subst (λ (w : List ℕ). is_among w s.shares.texts ≡ false) is new_one in (
-              pass_join done (closed (shares automaton_ends) ∷ []) (with_begun b a.shares) (run.shares le b).0
-                  (subst (λ (z : Shared). PassShares z (closed (shares automaton_ends) ∷ [])) (sym there)
+              pass_join done (closed (shares automaton_ends) ∷ []) (with_begun b a.shares) (run.shares le b).0 (subst (λ (z : Shared). PassShares z (closed (shares automaton_ends) ∷ [])) (sym there)
                   (alone_met (not (is_among (marks_text done) s.shares.texts)) (bad_share, 0 - length (marks_text done)) (ap not here), tt)),
               ap (with_begun []) (behind_both done (closed (shares automaton_ends) ∷ []) (with_begun b a.shares))
                   ∙ ap (λ (z : Shared). with_begun [] (behind_marks (closed (shares automaton_ends) ∷ []) z)) there

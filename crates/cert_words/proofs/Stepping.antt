@@ -96,8 +96,7 @@ module _ (names : NameTable) (end : ℕ) {bytes : List ℕ} {i : Item} {a : Lead
   shared_stop e items z met v =
       let l = left_at end (i ∷ items) bytes in
       let there = subst (λ (k : List ℕ). share_verdict z (end - length bytes) (demands_of (mark_of a k)) ≡ Some e) f.word v in
-      stops_here items z e _ (step_here items None met)
-      (ap (λ (x : Option Lead). behind_lead_shared l z x (behind_lead l a items)) f.first
+      stops_here items z e _ (step_here items None met) (ap (λ (x : Option Lead). behind_lead_shared l z x (behind_lead l a items)) f.first
       ∙ ap (λ (o : Option (CertificateCause × ℕ)). shared_judged o (behind_lead l a items) (behind_mark (mark_of a (take (taken a bytes) bytes)) z)) there)
 
 spelling_of : {bytes w rest : List ℕ} {i : Item} {a : Lead} → Front bytes i a w rest → w ≡ take (scan (mode_of a) bytes).size bytes → IsWordOf (mode_of a) w
@@ -145,8 +144,7 @@ module _ {bytes w rest : List ℕ} {i : Item} where
   pub two : {a b : Lead} {others : List Lead} → leads i ≡ a ∷ b ∷ others → is_there a bytes ≡ false → IsLeadRead (plain b) bytes w rest → Front bytes i b w rest
   two {a} {b} e g h = front_of b (ap (λ (ls : List Lead). first_there ls bytes) e ∙ rw g (rw (sym (same_there b bytes) ∙ h.there) refl)) h
 
-  pub three : {a b d : Lead} {others : List Lead} → leads i ≡ a ∷ b ∷ d ∷ others → is_there a bytes ≡ false → is_there b bytes ≡ false → IsLeadRead (plain d) bytes w rest
-      → Front bytes i d w rest
+  pub three : {a b d : Lead} {others : List Lead} → leads i ≡ a ∷ b ∷ d ∷ others → is_there a bytes ≡ false → is_there b bytes ≡ false → IsLeadRead (plain d) bytes w rest → Front bytes i d w rest
   three {a} {b} {d} e g k h = front_of d (ap (λ (ls : List Lead). first_there ls bytes) e ∙ rw g (rw k (rw (sym (same_there d bytes) ∙ h.there) refl))) h
 
 -- where no lead is there
@@ -154,7 +152,8 @@ module _ (names : NameTable) (end : ℕ) (bytes : List ℕ) (s : Shared) (i : It
   pub stuck_among : (e : CertError) (ls ks : List Lead) → leads i ≡ ls → first_there ls bytes ≡ None → longest ls bytes ≡ longest ks bytes
       → told e ≡ Some (syntax, (end - length bytes) + longest ks bytes) → IsStuckAt names end i bytes s (told e)
   stuck_among e ls ks is f same t =
-      let far : (end - length bytes) + longest (leads i) bytes ≡ (end - length bytes) + longest ks bytes = ap (λ (n : ℕ). (end - length bytes) + n) (ap (λ (x : List Lead). longest x bytes) is ∙ same) in
+      let far : (end - length bytes) + longest (leads i) bytes ≡ (end - length bytes) + longest ks bytes = ap (λ (n : ℕ). (end - length bytes) + n)
+      (ap (λ (x : List Lead). longest x bytes) is ∙ same) in
       let step_none : (items : List Item) → step names (left_at end (i ∷ items) bytes) ≡ refuses syntax ((end - length bytes) + longest ks bytes) =
       λ items. ap (λ (x : Option Lead). step_lead names (left_at end (i ∷ items) bytes) x i items) (ap (λ (x : List Lead). first_there x bytes) is ∙ f) ∙ ap (refuses syntax) far in
       subst (IsStuckAt names end i bytes s) (sym t) (λ items b. ap (after_step (left_at end (i ∷ items) bytes) (with_begun b s) (next_lead (i ∷ items) bytes)) (step_none items))
@@ -207,8 +206,7 @@ module _ {names : NameTable} {end : ℕ} {bytes v rest : List ℕ} {s : Shared} 
   name_run {ds} {new} {g} f e met still =
       let same : name_of names g ≡ v = ap (λ o. unwrap_or o []) (found_is_named names v g e) in
       subst (λ (k : List ℕ). Run names end (i ∷ []) (λ u. symbol (u g) ds ∷ []) (new k) bytes rest s s) (sym same)
-      (one_step names end f s s (λ u. symbol (u g) ds ∷ []) (rw e met) (still_keeps (symbol v ds) s still) (ap (λ (k : List ℕ). symbol k ds ∷ []) same)
-      (name_found names v g e, tt))
+      (one_step names end f s s (λ u. symbol (u g) ds ∷ []) (rw e met) (still_keeps (symbol v ds) s still) (ap (λ (k : List ℕ). symbol k ds ∷ []) same) (name_found names v g e, tt))
 
   pub variable_run : {ds : List Demand} {new : List Item} {x : ℕ} → Front bytes i (variable_lead ds new) v rest → IsBarNumber v (Some x) → verdict names (end - length bytes) ds ≡ None
       → IsStill ds → Run names end (i ∷ []) (λ u. word (codes "|" ++ numeral x) (in_range 1 0 (suc largest) x ∷ ds) ∷ []) new bytes rest s s
@@ -310,8 +308,7 @@ good_arity {s = s} {f = f} {n} some q h m e = went (none_now some q) (none_now s
 
 pub too_many_there : (names : NameTable) (place least n v q most : ℕ) (what seen : Counted) → q ≡ place → (n ≡ v) × ((nat_le least v && nat_lt v (suc largest)) ≡ true)
     → most ≡ limit what → most < n → counted_as what ≡ seen → verdict names place (in_range 0 least (suc largest) v ∷ is_few what v ∷ []) ≡ Some (too_many seen, q)
-too_many_there names place least n v q most what seen e h m lt same =
-    rw (h.1, lt-leb v (limit what) (omega (arith, m, lt, h.0))) cc
+too_many_there names place least n v q most what seen e h m lt same = rw (h.1, lt-leb v (limit what) (omega (arith, m, lt, h.0))) cc
 
 pub few_there : (names : NameTable) (place least n v most : ℕ) (what : Counted) → (n ≡ v) × ((nat_le least v && nat_lt v (suc largest)) ≡ true) → most ≡ limit what → n ≤ most
     → verdict names place (in_range 0 least (suc largest) v ∷ is_few what v ∷ []) ≡ None

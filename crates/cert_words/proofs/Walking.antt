@@ -23,8 +23,7 @@ step_on names l k m z s v =
     let next : next_lead l.items l.bytes ≡ Some s.lead = ap (λ (x : List Item). next_lead x l.bytes) s.items ∙ s.first in
     let there = shares_anywhere z 0 l.at (demands_of m) v in
     ap (after_step l z (next_lead l.items l.bytes)) s.goes ∙ ap (λ (x : Option Lead). behind_lead_shared l z x k) next
-    ∙ ap (λ (n : Mark). shared_judged (share_verdict z l.at (demands_of n)) k (behind_mark n z)) (sym s.mark)
-    ∙ ap (λ (o : Option (CertificateCause × ℕ)). shared_judged o k (behind_mark m z)) there
+    ∙ ap (λ (n : Mark). shared_judged (share_verdict z l.at (demands_of n)) k (behind_mark n z)) (sym s.mark) ∙ ap (λ (o : Option (CertificateCause × ℕ)). shared_judged o k (behind_mark m z)) there
 
 -- where a step goes
 pub goes_where : (names : NameTable) (l k : Left) (m : Mark) → (s : StepsOver names l m k) → k ≡ behind_lead l s.lead s.others
@@ -120,8 +119,7 @@ module _ (names : NameTable) (end : ℕ) where
         rest = there.rest;
         walks = walks_then names (f (name_of names)) there.marks _ _ _
             first there.walks;
-        stops = stops_then names s t (f (name_of names)) there.marks
-            (left_at end (there.item ∷ (there.more ++ items)) there.rest) e (x.shares le) there.stops;
+        stops = stops_then names s t (f (name_of names)) there.marks (left_at end (there.item ∷ (there.more ++ items)) there.rest) e (x.shares le) there.stops;
       }
 
   -- items that stand behind all that is read
@@ -174,8 +172,7 @@ pub then_reads : {names : NameTable} {end : ℕ} {from mid to : List Item} {f g 
 then_reads {names} {end} {from} {mid} {to} {f} {g} {s} {t} {u} x y = record {
   front = front_then s.shares.texts t.shares.texts u.shares.texts x.front y.front;
   on = goes_then _ _ _ (IsStopped names end from s.left.now s.shares) (IsStopped names end mid t.left.now t.shares) s.refused t.refused u.refused
-      (run_then names end from mid to f g s.left.now t.left.now u.left.now s.shares t.shares u.shares)
-      (stop_then names end from mid f s.left.now t.left.now s.shares t.shares) x.on y.on;
+      (run_then names end from mid to f g s.left.now t.left.now u.left.now s.shares t.shares u.shares) (stop_then names end from mid f s.left.now t.left.now s.shares t.shares) x.on y.on;
 }
 
 -- items that stand behind all that is read

@@ -24,8 +24,7 @@ judged_none (Some x) l k e = absurd cc
 
 step_passes : (names : NameTable) (l k : Left) (m : Mark) → StepsOver names l m k → verdict names 0 (demands_of m) ≡ None
 step_passes names l k m s =
-    passed_anywhere names l.at 0 (demands_of m)
-    (ap (λ (n : Mark). verdict names l.at (demands_of n)) s.mark
+    passed_anywhere names l.at 0 (demands_of m) (ap (λ (n : Mark). verdict names l.at (demands_of n)) s.mark
     ∙ judged_none _ (behind_lead l s.lead s.others) k (sym (ap (λ (x : Option Lead). step_lead names l x s.item s.others) s.first)
     ∙ sym (ap (λ (x : List Item). step_items names l x) s.items) ∙ s.goes))
 

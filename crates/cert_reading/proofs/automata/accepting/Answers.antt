@@ -1,5 +1,5 @@
 use Rattle.cert_reading.proofs.Lemmas.{accepting_push}
-use Rattle.cert_reading.proofs.Prelude.{◌∙◌, refl, sym, ap, [], ◌∷◌, accepting_marks, then_reads, as_marks}
+use Rattle.cert_reading.proofs.Prelude.{refl, then_reads, as_marks}
 use Rattle.cert_reading.proofs.automata.accepting.Goals as goal
 
 pub states-preserved : goal.states-preserved

@@ -33,8 +33,7 @@ derivations-derivations-preserved t c =
     }
 
 pub derivations-returns-clause-read : goal.derivations-returns-clause-read
-derivations-returns-clause-read t c = λ names. none_left (derivations c.args.level) c.args.count c.derivations.counter c.derivations-test.false
-    (c.derivations.invariant.read names)
+derivations-returns-clause-read t c = λ names. none_left (derivations c.args.level) c.args.count c.derivations.counter c.derivations-test.false (c.derivations.invariant.read names)
 
 pub derivations-returns-clause-counted : goal.derivations-returns-clause-counted
 derivations-returns-clause-counted t c = λ none.

@@ -1,13 +1,10 @@
 use Rattle.cert_reading.proofs.Lemmas.{past, read_on, known_still}
-use Rattle.cert_reading.proofs.Prelude.{[], ◌∷◌, refl, arith, number, any_number, then_reads, evidence, use_between, use_item, framed, version_by, automata_by}
+use Rattle.cert_reading.proofs.Prelude.{[], ◌∷◌, refl, arith, any_number, then_reads, evidence, use_between, use_item, framed, version_by, automata_by}
 use Rattle.cert_reading.proofs.EvidenceKinds.{kinds, are_kinds}
 use Rattle.cert_reading.proofs.evidence.evidence.Goals as goal
 
 pub returns-in-0-clause-read : goal.returns-in-0-clause-read
-returns-in-0-clause-read c =
-    let names = c.args.names.now in
-    let v = version_by c.args.uses in
-    rw c.in-0.is at (c.choose.ensures.chosen names (evidence v) (kinds v) (are_kinds v) refl)
+returns-in-0-clause-read c = rw c.in-0.is at (c.choose.ensures.chosen c.args.names.now (evidence (version_by c.args.uses)) (kinds (version_by c.args.uses)) (are_kinds (version_by c.args.uses)) refl)
 
 pub returns-in-1-clause-read : goal.returns-in-1-clause-read
 returns-in-1-clause-read c =
@@ -30,17 +27,15 @@ returns-in-3-clause-read c =
     (read_on (c.text-in-3.ensures.read names _ _ refl) (read_on (c.derivation-first.ensures names 0) (c.derivation-second.ensures names 0))))
 
 pub returns-in-4-clause-read : goal.returns-in-4-clause-read
-returns-in-4-clause-read c =
-    let names = c.args.names.now in
-    let v = version_by c.args.uses in
-    rw c.in-4.is at (c.choose.ensures.chosen names (evidence v) (kinds v) (are_kinds v) refl)
+returns-in-4-clause-read c = rw c.in-4.is at (c.choose.ensures.chosen c.args.names.now (evidence (version_by c.args.uses)) (kinds (version_by c.args.uses)) (are_kinds (version_by c.args.uses)) refl)
 
 pub used_automaton-automaton-requires : goal.used_automaton-automaton-requires
 used_automaton-automaton-requires c =
     let names = c.args.names.now in
     let v = version_by c.args.uses in
     let number = c.number-cond-in-5.ensures.read names (any_number (use_between v)) _ refl in
-    known_still v (automata_by c.args.uses) (then_reads (rw c.in-5.is at (c.choose.ensures.chosen names (evidence v) (kinds v) (are_kinds v) refl)) (framed (use_item v ∷ []) number)) (tt, (tt, tt)) c.requires
+    known_still v (automata_by c.args.uses) (then_reads (rw c.in-5.is at (c.choose.ensures.chosen names (evidence v) (kinds v) (are_kinds v) refl)) (framed (use_item v ∷ []) number))
+    (tt, (tt, tt)) c.requires
 
 pub returns-in-5-clause-read : goal.returns-in-5-clause-read
 returns-in-5-clause-read c =

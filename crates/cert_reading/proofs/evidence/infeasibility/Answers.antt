@@ -1,5 +1,5 @@
 use Rattle.cert_reading.proofs.Lemmas.{read_on, known_still}
-use Rattle.cert_reading.proofs.Prelude.{[], ◌∷◌, refl, number, any_number, then_reads, infeasibility, use_between, use_item, framed, version_by, automata_by}
+use Rattle.cert_reading.proofs.Prelude.{[], ◌∷◌, refl, any_number, then_reads, infeasibility, use_between, use_item, framed, version_by, automata_by}
 use Rattle.cert_reading.proofs.EvidenceKinds.{are_infeasible}
 use Rattle.cert_reading.proofs.evidence.infeasibility.Goals as goal
 

@@ -1,5 +1,5 @@
 use Rattle.cert_reading.proofs.Lemmas.{word_where, pairs_item, when_false, none_begins}
-use Rattle.cert_reading.proofs.Prelude.{refl, pair_or_end, pairs_from, none_now, stuck_among, stop}
+use Rattle.cert_reading.proofs.Prelude.{refl, pair_or_end, pairs_from, stuck_among, stop}
 use Rattle.cert_reading.proofs.headings.entries_begin.Goals as goal
 
 pub returns-clause-read : goal.returns-clause-read

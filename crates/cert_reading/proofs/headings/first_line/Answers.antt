@@ -3,10 +3,12 @@ use Rattle.cert_reading.proofs.Prelude.{refl, arith, true, false, Some, opening}
 use Rattle.cert_reading.proofs.headings.first_line.Goals as goal
 
 pub returns-in-0 : goal.returns-in-0
-returns-in-0 c = λ names. then_where (other_word tt (λ here. c.choose.ensures.here here names opening first_lines refl refl) (rw c.in-0.is at (c.choose.ensures.chosen names opening first_lines refl refl))) (c.version_line-second.ensures names (Some true))
+returns-in-0 c = λ names. then_where (other_word tt (λ here. c.choose.ensures.here here names opening first_lines refl refl)
+    (rw c.in-0.is at (c.choose.ensures.chosen names opening first_lines refl refl))) (c.version_line-second.ensures names (Some true))
 
 pub returns-in-1 : goal.returns-in-1
-returns-in-1 c = λ names. then_where (other_word tt (λ here. c.choose.ensures.here here names opening first_lines refl refl) (rw c.in-1.is at (c.choose.ensures.chosen names opening first_lines refl refl))) (c.version_line-second-in-1.ensures names (Some false))
+returns-in-1 c = λ names. then_where (other_word tt (λ here. c.choose.ensures.here here names opening first_lines refl refl)
+    (rw c.in-1.is at (c.choose.ensures.chosen names opening first_lines refl refl))) (c.version_line-second-in-1.ensures names (Some false))
 
 pub returns-in-2 : goal.returns-in-2
 returns-in-2 c = λ names. other_word tt (λ here. c.choose.ensures.here here names opening first_lines refl refl) (rw c.in-2.is at (c.choose.ensures.chosen names opening first_lines refl refl))

@@ -15,8 +15,7 @@ returns-in-Some-clause-there c = λ names end v i same place.
 pub returns-in-Some-front-clause-there : goal.returns-in-Some-front-clause-there
 returns-in-Some-front-clause-there c = λ names end v i same place.
     kind_read BeforeEntries names end i c.args.given true (codes "quasi") _ (between line ∷ item_by v Quasi ∷ []) c.args.at.now c.judged-in-Some-front.new.at
-    c.fits-in-Some-front.result place c.requires
-    (front_of _ (same ∙ (two {i = body v c.args.given} refl c.in_default.ensures c.in-Some-front.ensures).first) c.in-Some-front.ensures)
+    c.fits-in-Some-front.result place c.requires (front_of _ (same ∙ (two {i = body v c.args.given} refl c.in_default.ensures c.in-Some-front.ensures).first) c.in-Some-front.ensures)
     c.fits-in-Some-front.ensures c.judged-in-Some-front.ensures.goes c.judged-in-Some-front.ensures.refused
 
 pub returns-in-Some-front-2-clause-there : goal.returns-in-Some-front-2-clause-there

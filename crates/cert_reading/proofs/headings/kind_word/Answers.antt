@@ -2,9 +2,6 @@ use Rattle.cert_reading.proofs.Lemmas.{word_where, other_place}
 use Rattle.cert_reading.proofs.Prelude.{front_same, stopped, stuck_stops, told, refl, ap, leads, body, Shared, none_now, stuck_among}
 use Rattle.cert_reading.proofs.headings.kind_word.Goals as goal
 
-pub kind_there-requires : goal.kind_there-requires
-kind_there-requires c = none_now c.is_some.ensures c.if-is_some.false
-
 pub returns-in-Some : goal.returns-in-Some
 returns-in-Some c = λ names v. c.in-Some.ensures.there names c.args.end v (body v c.args.given) refl (other_place (body v c.args.given) _ tt)
 

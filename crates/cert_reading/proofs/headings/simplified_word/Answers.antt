@@ -15,9 +15,6 @@ returns-in-Some-clause-steps c = λ names.
     word_where (λ x. other_place i _ tt) (λ x. none_refused s _ none)
     (go c.is_some.ensures c.if-is_some.false (text_run (one {a = text (codes "simplify ") (simplification_count ∷ body second_version c.args.given ∷ [])} refl c.in-Some.ensures)))
 
-pub kind_there-requires : goal.kind_there-requires
-kind_there-requires c = none_now c.is_some.ensures c.if-is_some.false
-
 pub returns-in-Some-kind_there-clause-kind : goal.returns-in-Some-kind_there-clause-kind
 returns-in-Some-kind_there-clause-kind c = λ names.
     let left = c.args.at.now.left.now in

@@ -12,9 +12,7 @@ numbers-preserved c = λ names.
     let long = length_grown ks _ (c.put.ensures.grown none) in (
       (let more : n ≡ length c.put.new.list.items = omega (arith, long, is) in ap (λ (j : ℕ). coefficients_behind j ∷ []) more),
       λ u. cc (coefficients_push 1 n ks c.numbered-next.result (omega (arith, is)), c.put.ensures.grown none),
-    ))
-    (then_reads (c.numbers.invariant names)
-    (then_reads (numbered coefficient is (c.either.ensures.one c.numbers-test.true names (coefficients_behind (length ks)) _ _ refl))
+    )) (then_reads (c.numbers.invariant names) (then_reads (numbered coefficient is (c.either.ensures.one c.numbers-test.true names (coefficients_behind (length ks)) _ _ refl))
     (then_reads (c.numbered-next.ensures.read names (coefficient n) (λ j. coefficients_behind n ∷ []) refl) (c.put.ensures.read names c.args.end (coefficients_behind n ∷ [])))))
 
 pub returns : goal.returns

@@ -22,7 +22,8 @@ entries-preserved c = λ v.
     let n = c.len.result + 1 in
     let low = entries_from v (suc n) in
     let is : suc (length items) ≡ n = omega (arith, c.entries.entries.ok.0, c.len.ensures) in
-    next_where (entries_from v) items _ is c.put.ensures.grown (λ none u. cc (entries_push linear_entry_view u 1 n items c.in-Some.next (omega (arith, is)), c.put.ensures.grown none)) (c.entries.invariant v) (c.in-Some.ensures.entry v)
+    next_where (entries_from v) items _ is c.put.ensures.grown (λ none u. cc (entries_push linear_entry_view u 1 n items c.in-Some.next (omega (arith, is)), c.put.ensures.grown none))
+    (c.entries.invariant v) (c.in-Some.ensures.entry v)
     (low_where low (low_unopened v low (entry_at v n).later) (c.put.ensures.read c.args.names.now c.args.end []))
 
 pub returns-clause-read : goal.returns-clause-read

@@ -7,7 +7,8 @@ pub returns-then-n-clause-symbol : goal.returns-then-n-clause-symbol
 returns-then-n-clause-symbol c = λ q names v i low behind s.
     let left = c.args.at.now.left.now in
     let n = c.args.n in
-    let out = one_stop names c.args.end (one s.are_leads c.in-Some.ensures) c.args.at.now.shares (Some (too_many entries, c.saturating_sub.result)) (counted_out names _ n _ 25000 entries c.saturating_sub.ensures refl c.if-n.true refl) in
+    let out = one_stop names c.args.end (one s.are_leads c.in-Some.ensures) c.args.at.now.shares (Some (too_many entries, c.saturating_sub.result))
+    (counted_out names _ n _ 25000 entries c.saturating_sub.ensures refl c.if-n.true refl) in
     word_where (λ x. s.place left (when_false c.begins_entry.result c.begins_entry.ensures.1 c.if-begins_entry.false)) (λ x. out) (stop c.is_some.ensures c.if-is_some.false out)
 
 pub returns-in-Some-clause-symbol : goal.returns-in-Some-clause-symbol
@@ -32,8 +33,7 @@ returns-in-Some-front-clause-condition c = λ q names v i low behind s.
     let n = c.args.n in
     let none = none_now c.is_some.ensures c.if-is_some.false in
     word_where (λ x. s.place left (when_false c.begins_entry.result c.begins_entry.ensures.1 c.if-begins_entry.false)) (λ x. none_refused c.args.at.now _ none)
-    (go c.is_some.ensures c.if-is_some.false (keyword_run (two s.are_leads c.in_default.ensures c.in-Some-front.ensures)
-    (λ at. counted_there names at n 25000 entries refl c.if-n-2.false) tt))
+    (go c.is_some.ensures c.if-is_some.false (keyword_run (two s.are_leads c.in_default.ensures c.in-Some-front.ensures) (λ at. counted_there names at n 25000 entries refl c.if-n-2.false) tt))
 
 pub returns-clause-nothing : goal.returns-clause-nothing
 returns-clause-nothing c = λ q names v i low behind s.

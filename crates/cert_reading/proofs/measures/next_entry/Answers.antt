@@ -6,8 +6,7 @@ pub returns-clause-entry : goal.returns-clause-entry
 returns-clause-entry c = λ v.
     let n = c.args.n in
     let low = entries_from v (suc n) in
-    as_marks_where (λ none u. sym (append-nil _))
-    (then_where (c.in-Some.ensures.head v (entries_from v n) low (coefficients_behind 0) (entry_at v n))
+    as_marks_where (λ none u. sym (append-nil _)) (then_where (c.in-Some.ensures.head v (entries_from v n) low (coefficients_behind 0) (entry_at v n))
     (low_where low (low_unopened v low (entry_at v n).later) (c.coefficients-coeffs.ensures c.args.names.now)))
 
 pub returns-in_default-clause-none : goal.returns-in_default-clause-none

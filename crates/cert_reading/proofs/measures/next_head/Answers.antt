@@ -6,8 +6,7 @@ pub returns-clause-head : goal.returns-clause-head
 returns-clause-head c =
     let n = c.args.n in
     let low = heads_from (suc n) in
-    as_marks_where (λ none u. sym (append-nil _))
-    (then_where (c.in-Some.ensures.head second_version (heads_from n) low (between line) (head_at n))
+    as_marks_where (λ none u. sym (append-nil _)) (then_where (c.in-Some.ensures.head second_version (heads_from n) low (between line) (head_at n))
     (low_where low (low_unopened second_version low (head_at n).later) (c.text.ensures.read c.args.names.now (between line) [] refl)))
 
 pub returns-in_default-clause-none : goal.returns-in_default-clause-none

@@ -22,7 +22,8 @@ order-preserved c =
     let n = c.len.result + 1 in
     let low = heads_from (suc n) in
     let is : suc (length items) ≡ n = omega (arith, c.order.order.ok.0, c.len.ensures) in
-    next_where (heads_from) items _ is c.put.ensures.grown (λ none u. cc (heads_push head_view u 1 n items c.in-Some.next (omega (arith, is)), c.put.ensures.grown none)) c.order.invariant c.in-Some.ensures.head
+    next_where (heads_from) items _ is c.put.ensures.grown (λ none u. cc
+    (heads_push head_view u 1 n items c.in-Some.next (omega (arith, is)), c.put.ensures.grown none)) c.order.invariant c.in-Some.ensures.head
     (low_where low (low_unopened second_version low (head_at n).later) (c.put.ensures.read c.args.names.now c.args.end []))
 
 pub returns-clause-read : goal.returns-clause-read

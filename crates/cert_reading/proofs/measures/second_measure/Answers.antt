@@ -16,8 +16,7 @@ pub returns-then-choose-eq1-clause-read : goal.returns-then-choose-eq1-clause-re
 returns-then-choose-eq1-clause-read c =
     let names = c.args.names.now in
     let i = measure second_version in
-    then_where (word_where (λ s. other_place i _ tt second_version)
-    (λ none. c.choose.ensures.here none names i kinds refl refl)
+    then_where (word_where (λ s. other_place i _ tt second_version) (λ none. c.choose.ensures.here none names i kinds refl refl)
     (rw c.if-choose-eq1.true at (c.choose.ensures.chosen names i kinds refl refl))) c.precedence-order.ensures.read
 
 pub returns-clause-read : goal.returns-clause-read

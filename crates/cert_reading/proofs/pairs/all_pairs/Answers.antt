@@ -28,7 +28,8 @@ pairs-preserved c =
       read = next_where (pairs_from v) items _ is c.put.ensures.grown
           (λ none u. cc (pairs_push pair_entry_view u (uses_by c.args.names.now c.args.uses) 1 n items c.in-Some.next (omega (arith, is)), c.put.ensures.grown none))
           c.pairs.invariant.read (anywhere c.in-Some.ensures.pair) (reads_anywhere (c.put.ensures.read c.args.names.now c.args.end (pairs_from v (suc n) ∷ [])));
-      plain = λ none. plain_pairs v all pair_entry_view items _ _ (c.put.ensures.grown none) (c.pairs.invariant.plain (open_before_where c.in-Some.ensures.pair (was none))) (c.in-Some.ensures.plain (was none));
+      plain = λ none. plain_pairs v all pair_entry_view items _ _ (c.put.ensures.grown none) (c.pairs.invariant.plain (open_before_where c.in-Some.ensures.pair (was none)))
+          (c.in-Some.ensures.plain (was none));
       known = known_still v all (c.put.ensures.read c.args.names.now c.args.end []) tt c.in-Some.ensures.known;
     }
 
@@ -36,6 +37,3 @@ pub returns-clause-read : goal.returns-clause-read
 returns-clause-read c =
     let is : suc (length c.pairs.pairs.items) ≡ c.len.result + 1 = omega (arith, c.pairs.pairs.ok.0, c.len.ensures) in
     then_where (numbered_where (pairs_from (version_by c.args.uses)) is c.pairs.invariant.read) (anywhere c.in_default.ensures.last)
-
-pub next_pair-requires : goal.next_pair-requires
-next_pair-requires c = c.pairs.invariant.known

@@ -1,6 +1,6 @@
 use Rattle.cert_reading.proofs.Lemmas.{known_behind, line_end, one_choice, front_counts, at_front}
 use Rattle.cert_reading.proofs.Prelude.{suc, [], ◌∷◌, codes, refl, sym, append-nil, word, redexes, is_few, between, line, then_reads, as_marks, open_before, name_of, used_by_redexes}
-use Rattle.cert_reading.proofs.Prelude.{evidence, infeasibility, framed, redexes_from, version_by, automata_by, uses_by, redex_view, numbers_of, counts_redexes}
+use Rattle.cert_reading.proofs.Prelude.{infeasibility, framed, redexes_from, version_by, automata_by, uses_by, redex_view, numbers_of, counts_redexes}
 use Rattle.cert_reading.proofs.peaks.next_redex.Goals as goal
 
 pub returns-then-not-counted_or-clause-last : goal.returns-then-not-counted_or-clause-last

@@ -17,8 +17,7 @@ apart-apart-requires c =
     (then_reads (framed rest c.start_term-start.ensures) (read_on (c.derivation-first.ensures names 0) (at_front {more = apart v ∷ []} (c.derivation-second.ensures names 0)))) in
     known_still v (automata_by c.args.uses) front (
       tt,
-      still_both line (derivation_marks first ++ derivation_marks second)
-          (still_both (term_marks (name_of names) 1 1 start) (fixed (codes "\n") ∷ []) (term_still start (name_of names) 1 1) (tt, tt))
+      still_both line (derivation_marks first ++ derivation_marks second) (still_both (term_marks (name_of names) 1 1 start) (fixed (codes "\n") ∷ []) (term_still start (name_of names) 1 1) (tt, tt))
           (still_both (derivation_marks first) (derivation_marks second) (derivation_still first) (derivation_still second)),
     ) c.requires
 

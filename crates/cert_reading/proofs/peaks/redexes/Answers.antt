@@ -29,7 +29,8 @@ redexes-preserved c =
       read = next_reads (redexes_from v) items _ is c.put.ensures.grown
           (λ none u. cc (redexes_push redex_view u (uses_by c.args.names.now c.args.uses) 1 n items c.in-Some.next (omega (arith, is)), c.put.ensures.grown none))
           c.redexes.invariant.read c.in-Some.ensures.redex (c.put.ensures.read c.args.names.now c.args.end (redexes_from v (suc n) ∷ []));
-      plain = λ none. plain_redexes v all redex_view items _ _ (c.put.ensures.grown none) (c.redexes.invariant.plain (open_before c.in-Some.ensures.redex (was none))) (c.in-Some.ensures.plain (was none));
+      plain = λ none. plain_redexes v all redex_view items _ _ (c.put.ensures.grown none) (c.redexes.invariant.plain (open_before c.in-Some.ensures.redex (was none)))
+          (c.in-Some.ensures.plain (was none));
       known = known_still v all (c.put.ensures.read c.args.names.now c.args.end []) tt c.in-Some.ensures.known;
     }
 
@@ -37,6 +38,3 @@ pub returns-clause-read : goal.returns-clause-read
 returns-clause-read c =
     let is : suc (length c.redexes.redexes.items) ≡ c.len.result + 1 = omega (arith, c.redexes.redexes.ok.0, c.len.ensures) in
     then_reads (numbered (redexes_from (version_by c.args.uses)) is c.redexes.invariant.read) c.in_default.ensures.last
-
-pub next_redex-requires : goal.next_redex-requires
-next_redex-requires c = c.redexes.invariant.known

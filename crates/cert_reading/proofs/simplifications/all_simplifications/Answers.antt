@@ -6,9 +6,6 @@ use Rattle.cert_reading.proofs.simplifications.all_simplifications.Goals as goal
 pub returns-then-is_some-clause-read : goal.returns-then-is_some-clause-read
 returns-then-is_some-clause-read c = refused_reads c.is_some.ensures c.if-is_some.true c.steps.invariant.read
 
-pub returns-then-is_some-clause-known : goal.returns-then-is_some-clause-known
-returns-then-is_some-clause-known c = c.steps.invariant.known
-
 pub steps-preserved : goal.steps-preserved
 steps-preserved c =
     let names = c.args.names.now in
@@ -22,16 +19,9 @@ steps-preserved c =
           (λ none u. cc (steps_push simp_view u (by_number (number_in names all)) items c.simplification-next.result, c.put.ensures.grown none)) c.steps.invariant.read
           (c.simplification-next.ensures.read k) put;
       counted = λ none. counted_more simp_view items _ (c.put.ensures.grown none) (c.steps.invariant.counted (was none));
-      plain = λ none. plain_steps second_version all simp_view items _ _ (c.put.ensures.grown none) (c.steps.invariant.plain (was none))
-          (c.simplification-next.ensures.plain (open_before put none));
+      plain = λ none. plain_steps second_version all simp_view items _ _ (c.put.ensures.grown none) (c.steps.invariant.plain (was none)) (c.simplification-next.ensures.plain (open_before put none));
       known = known_still second_version all put tt c.simplification-next.ensures.known;
     }
 
 pub returns-clause-read : goal.returns-clause-read
 returns-clause-read c = none_left simplifications_of c.args.count c.steps.counter c.steps-test.false c.steps.invariant.read
-
-pub simplification-next-requires : goal.simplification-next-requires
-simplification-next-requires c = c.steps.invariant.known
-
-pub returns-clause-known : goal.returns-clause-known
-returns-clause-known c = c.steps.invariant.known

@@ -37,6 +37,3 @@ returns-clause-known c =
     let w = by_number (number_in names all) in
     let ss = inlined c.number-rule-2.result c.number-cond.result ∷ [] in
     known_behind second_version all (returns-clause-read c 0) (numbers_of w (used_by_steps ss)) (counts_steps ss (name_of names) w) c.requires
-
-pub returns-then-either-clause-plain : goal.returns-then-either-clause-plain
-returns-then-either-clause-plain c = λ none. (c.infeasibility-evidence.ensures.plain none, tt)

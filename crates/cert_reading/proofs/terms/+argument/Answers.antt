@@ -1,8 +1,8 @@
 use Rattle.cert_reading.proofs.Lemmas.{so_far, so_far_push, size_push, symbol_alone, symbol_read, either_end}
 use Rattle.cert_reading.proofs.Prelude.{◌≡◌, ◌+◌, ◌-◌, ◌∙◌, ℕ, suc, refl, sym, ap, length, map, List, [], ◌∷◌, ◌++◌, None, codes, arith, length_push, length-map, Term, app, size, size_all}
-use Rattle.cert_reading.proofs.Prelude.{terms_of, view, views, view-Var, view-Fun, name_of, is_number, fixed, term_marks, with_next, node, name_behind, term_behind, term_closed}
-use Rattle.cert_reading.proofs.Prelude.{next_argument, symbol_end, arity_at, seen_push, then_reads, then_nothing, as_reads, as_marks, open_before, none_now, some_now, arity_met, node_leads}
-use Rattle.cert_reading.proofs.Prelude.{refused_node, any_frame, frames, frames_deep, argument_end, behind_argument}
+use Rattle.cert_reading.proofs.Prelude.{terms_of, view, views, view-Var, view-Fun, name_of, is_number, fixed, term_marks, node, name_behind, term_behind, arity_at, seen_push, then_reads}
+use Rattle.cert_reading.proofs.Prelude.{then_nothing, as_reads, as_marks, open_before, none_now, some_now, arity_met, node_leads, refused_node, any_frame, frames, frames_deep, argument_end}
+use Rattle.cert_reading.proofs.Prelude.{behind_argument}
 use Rattle.cert_reading.proofs.terms.+argument.Goals as goal
 
 pub argument-returns-then-is_some-clause-read : goal.argument-returns-then-is_some-clause-read
@@ -28,20 +28,22 @@ argument-returns-in-Comma-clause-read t c = λ g fs e.
     let names = c.args.names.now in
     let n = c.args.n in
     let f = c.in-Symbol.f in
-    let found = c.in-Symbol.ensures.found (none_now c.is_some.ensures c.if-is_some.false) in
     symbol_alone c.args.depth n f _ (fixed (codes ",")) (view-Fun f c.new.result ∙ ap (λ l. app f (views l)) c.new.ensures.items)
     (c.in-Symbol.ensures.read (node n (g ∷ fs)) _ _ (node_leads n c.args.depth g fs e))
-    (then_reads (c.in-Comma.ensures.comma refl names f 0 _ _ _ _ refl (arity_met names f 0 c.has_so_many.result found c.has_so_many.ensures)) (c.text.ensures.read names _ _ refl))
+    (then_reads (c.in-Comma.ensures.comma refl names f 0 _ _ _ _ refl
+    (arity_met names f 0 c.has_so_many.result (c.in-Symbol.ensures.found (none_now c.is_some.ensures c.if-is_some.false)) c.has_so_many.ensures))
+    (c.text.ensures.read names _ _ refl))
 
 pub argument-returns-in-Close-clause-read : goal.argument-returns-in-Close-clause-read
 argument-returns-in-Close-clause-read t c = λ g fs e.
     let names = c.args.names.now in
     let n = c.args.n in
     let f = c.in-Symbol.f in
-    let found = c.in-Symbol.ensures.found (none_now c.is_some.ensures c.if-is_some.false) in
     symbol_alone c.args.depth n f _ (fixed (codes ")")) (view-Fun f c.new-in-Close.result ∙ ap (λ l. app f (views l)) c.new-in-Close.ensures.items)
     (c.in-Symbol.ensures.read (node n (g ∷ fs)) _ _ (node_leads n c.args.depth g fs e))
-    (then_reads (c.in-Close.ensures.close refl names f 0 _ _ _ _ refl (arity_met names f 0 c.has_so_many.result found c.has_so_many.ensures)) (c.text-in-Close.ensures.read names _ _ refl))
+    (then_reads (c.in-Close.ensures.close refl names f 0 _ _ _ _ refl
+    (arity_met names f 0 c.has_so_many.result (c.in-Symbol.ensures.found (none_now c.is_some.ensures c.if-is_some.false)) c.has_so_many.ensures))
+    (c.text-in-Close.ensures.read names _ _ refl))
 
 pub argument-returns-in-Open-clause-read : goal.argument-returns-in-Open-clause-read
 argument-returns-in-Open-clause-read t c = λ g fs e.
@@ -56,8 +58,7 @@ argument-returns-in-Open-clause-read t c = λ g fs e.
     let met = arity_met names f k c.has_so_many-in-Open.result found (c.has_so_many-in-Open.ensures ∙ ap (λ (m : ℕ). is_number m (arity_at names f)) many) in
     let deeper : suc (suc (length (g ∷ fs))) ≡ c.args.depth + 1 = omega (arith, e) in
     symbol_read c.args.depth n f k (map view args.items) _ (argument_end c.argument_closed-comma.result) (view-Fun f args) (sym (length-map args.items view))
-    (c.in-Symbol.ensures.read (node n (g ∷ fs)) _ _ (node_leads n c.args.depth g fs e))
-    (c.in-Open.ensures.opened refl names f 0 _ _ _ _ refl)
+    (c.in-Symbol.ensures.read (node n (g ∷ fs)) _ _ (node_leads n c.args.depth g fs e)) (c.in-Open.ensures.opened refl names f 0 _ _ _ _ refl)
     (c.arguments-args.ensures.read name (g ∷ fs) deeper) c.arguments-args.ensures.some (c.argument_closed-comma.ensures names f k c.arguments-args.result.1 g fs met)
 
 pub argument-returns-in-Open-clause-counted : goal.argument-returns-in-Open-clause-counted
@@ -94,9 +95,7 @@ arguments-arguments-preserved t c =
           as_reads (λ none. let l = longer none in let m : suc k ≡ length new = omega (arith, l) in (
             ap (λ (j : ℕ). behind_argument comma next (record { name = name; argument = j }) fs ∷ []) m,
             λ u. so_far_push comma u d n c.arguments.next (map view items) (view arg) (before none) ∙ ap (so_far comma u d n) (sym (seen none)),
-          ))
-          (then_reads (rw c.arguments-test.true at (c.arguments.invariant.read name fs e))
-          (then_nothing (c.argument-arg.ensures.read (record { name = name; argument = suc k }) fs e)
+          )) (then_reads (rw c.arguments-test.true at (c.arguments.invariant.read name fs e)) (then_nothing (c.argument-arg.ensures.read (record { name = name; argument = suc k }) fs e)
           (c.put.ensures.read names c.args.end (behind_argument comma next (record { name = name; argument = suc k }) fs ∷ []))));
       counted = λ none.
           let same = ap (λ (ts : List Term). size_all (terms_of ts)) (seen none) in

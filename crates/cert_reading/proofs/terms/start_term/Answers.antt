@@ -1,7 +1,6 @@
 use Rattle.cert_reading.proofs.Lemmas.{symbol_alone, symbol_read}
 use Rattle.cert_reading.proofs.Prelude.{◌≡◌, ◌∙◌, ℕ, refl, sym, ap, length, map, [], ◌∷◌, ◌++◌, codes, arith, length-map, Term, app, view, views, view-Var, view-Fun, arity_at, name_of}
-use Rattle.cert_reading.proofs.Prelude.{is_number, fixed, term_marks, line, between, node, name_behind, term_behind, term_closed, then_reads, as_marks, none_now, some_now, arity_met}
-use Rattle.cert_reading.proofs.Prelude.{refused_node}
+use Rattle.cert_reading.proofs.Prelude.{is_number, fixed, term_marks, node, name_behind, term_behind, then_reads, as_marks, none_now, some_now, arity_met, refused_node}
 use Rattle.cert_reading.proofs.terms.start_term.Goals as goal
 
 pub returns-then-is_some : goal.returns-then-is_some
@@ -20,8 +19,7 @@ returns-then-not-opened c =
     let names = c.args.names.now in
     let f = c.in-Symbol.f in
     let found = c.in-Symbol.ensures.found (none_now c.is_some.ensures c.if-is_some.false) in
-    symbol_alone 1 1 f _ (fixed (codes "\n")) (view-Fun f c.new.result ∙ ap (λ l. app f (views l)) c.new.ensures.items)
-    (c.in-Symbol.ensures.read (node 1 []) _ _ refl)
+    symbol_alone 1 1 f _ (fixed (codes "\n")) (view-Fun f c.new.result ∙ ap (λ l. app f (views l)) c.new.ensures.items) (c.in-Symbol.ensures.read (node 1 []) _ _ refl)
     (then_reads (c.opened.ensures.none c.if-not-opened.true names f 0 _ _ _ refl (arity_met names f 0 c.has_so_many.result found c.has_so_many.ensures))
     (c.text-then-not-opened.ensures.read names _ _ refl))
 
@@ -35,8 +33,6 @@ returns-else-not-opened c =
     let k = length args.items in
     let many : c.len.result ≡ k = omega (arith, args.ok.0, c.len.ensures) in
     let met = arity_met names f k c.has_so_many-in-Symbol.result found (c.has_so_many-in-Symbol.ensures ∙ ap (λ (m : ℕ). is_number m (arity_at names f)) many) in
-    symbol_read 1 1 f k (map view args.items) _ (fixed (codes "\n")) (view-Fun f args) (sym (length-map args.items view))
-    (c.in-Symbol.ensures.read (node 1 []) _ _ refl)
-    (c.opened.ensures.opened c.if-not-opened.false names f 0 _ _ _ refl)
-    (c.arguments-args.ensures.read name [] refl) c.arguments-args.ensures.some
+    symbol_read 1 1 f k (map view args.items) _ (fixed (codes "\n")) (view-Fun f args) (sym (length-map args.items view)) (c.in-Symbol.ensures.read (node 1 []) _ _ refl)
+    (c.opened.ensures.opened c.if-not-opened.false names f 0 _ _ _ refl) (c.arguments-args.ensures.read name [] refl) c.arguments-args.ensures.some
     (then_reads (c.checked.ensures names f k _ _ refl met) (c.text-in-Symbol.ensures.read names _ _ refl))

@@ -1,11 +1,10 @@
 use Rattle.cert_reading.proofs.Lemmas.{read_on, UseFacts, use_facts, number_there, use_line}
-use Rattle.cert_reading.proofs.Prelude.{◌≡◌, ◌≤◌, ◌-◌, ℕ, [], ◌∷◌, None, Some, slice_get, map, refl, sym, ap, subst, length-map, automaton_view, space, line, between, states_line}
-use Rattle.cert_reading.proofs.Prelude.{shared_use, then_reads, then_nothing, as_marks, framed}
+use Rattle.cert_reading.proofs.Prelude.{◌≡◌, ◌≤◌, ◌-◌, ℕ, [], ◌∷◌, None, Some, slice_get, map, refl, sym, ap, subst, length-map, automaton_view, space, between, shared_use, then_reads}
+use Rattle.cert_reading.proofs.Prelude.{then_nothing, as_marks, framed}
 use Rattle.cert_reading.proofs.uses.used_automaton.Goals as goal
 
 pub returns-in-InFull-clause-read : goal.returns-in-InFull-clause-read
-returns-in-InFull-clause-read c =
-    rw c.in-InFull.is (read_on (c.text.ensures.read c.args.names.now _ _ refl) c.automaton.ensures.read)
+returns-in-InFull-clause-read c = rw c.in-InFull.is (read_on (c.text.ensures.read c.args.names.now _ _ refl) c.automaton.ensures.read)
 
 pub returns-in-InFull-clause-plain : goal.returns-in-InFull-clause-plain
 returns-in-InFull-clause-plain c = λ none. rw c.in-InFull.is (c.automaton.ensures.plain none)

@@ -1,7 +1,7 @@
-use Rattle.cert_reading.proofs.Lemmas.{still_where, then_where, as_marks_where, anywhere, open_before_where, first_still, known_where}
+use Rattle.cert_reading.proofs.Lemmas.{still_where, then_where, as_marks_where, anywhere, open_before_where, first_still}
 use Rattle.cert_reading.proofs.Prelude.{map, Bool, [], ◌∷◌, ◌++◌, codes, refl, sym, ap, subst, append_assoc, automaton_view, certificate_view, first_version, second_version, in_full}
-use Rattle.cert_reading.proofs.Prelude.{by_number, number_in, fixed, answer_marks, body_marks, closing, opening, simplified, Shared, counts_still, behind_version, first_marks, shared_marks}
-use Rattle.cert_reading.proofs.Prelude.{IsPlainBy, ReadsWhere, BeforeEntries, Anywhere, AreShared}
+use Rattle.cert_reading.proofs.Prelude.{by_number, number_in, fixed, answer_marks, body_marks, closing, opening, simplified, Shared, behind_version, first_marks, shared_marks, IsPlainBy}
+use Rattle.cert_reading.proofs.Prelude.{ReadsWhere, BeforeEntries, Anywhere, AreShared}
 use Rattle.cert_reading.proofs.whole.certificate.Goals as goal
 
 pub returns-then-not-second : goal.returns-then-not-second
@@ -44,8 +44,7 @@ returns c =
       shared = all;
       can_share = tt;
       given = given;
-      read = as_marks_where (λ none u. append_assoc (answer_marks given) (fixed (codes "concon 2\n") ∷ [])
-          (shared_marks u all ++ (body_marks u (by_number (number_in names all)) given d ++ closing)))
+      read = as_marks_where (λ none u. append_assoc (answer_marks given) (fixed (codes "concon 2\n") ∷ []) (shared_marks u all ++ (body_marks u (by_number (number_in names all)) given d ++ closing)))
           (then_where (anywhere line) (then_where (anywhere (c.shared_automata-automata.ensures.read given)) body));
       plain = λ none. (
         subst (λ xs. IsPlainBy second_version (map automaton_view xs) d) c.deref.ensures.value (c.second_body.ensures.plain none),

@@ -1,6 +1,6 @@
-use Rattle.cert_reading.proofs.Lemmas.{known_still, still_where, at_front, then_where, as_marks_where, anywhere, reads_anywhere, known_behind, known_where}
-use Rattle.cert_reading.proofs.Prelude.{map, [], ◌∷◌, codes, refl, sym, ap, append_assoc, List, pair_entry_view, measure_view, name_of, Mark, fixed, measure_marks, pairs_marks, closing}
-use Rattle.cert_reading.proofs.Prelude.{between, line, pairs_from, measure, start_line, counts_still, measure_still, framed, version_by, automata_by, uses_by}
+use Rattle.cert_reading.proofs.Lemmas.{known_still, still_where, at_front, then_where, as_marks_where, anywhere, reads_anywhere}
+use Rattle.cert_reading.proofs.Prelude.{map, ◌∷◌, codes, refl, sym, ap, append_assoc, List, pair_entry_view, measure_view, name_of, Mark, fixed, measure_marks, pairs_marks, closing, between}
+use Rattle.cert_reading.proofs.Prelude.{line, measure_still, version_by, automata_by, uses_by}
 use Rattle.cert_model.proofs.CertificateViews.{ortho_shown, quasi_shown, peak_shown}
 use Rattle.cert_reading.proofs.EntryItems.{measure_where, last_some_two}
 use Rattle.cert_reading.proofs.whole.of_kind.Goals as goal
@@ -47,8 +47,7 @@ returns-in-Quasi c =
 pub returns-in-Peak : goal.returns-in-Peak
 returns-in-Peak c =
     rw peak_shown (record {
-      read = rw c.in-Peak.is (then_where (reads_anywhere (at_front (c.text.ensures.read c.args.names.now _ _ refl)))
-          (reads_anywhere c.peak-peak.ensures.read));
+      read = rw c.in-Peak.is (then_where (reads_anywhere (at_front (c.text.ensures.read c.args.names.now _ _ refl))) (reads_anywhere c.peak-peak.ensures.read));
       plain = c.peak-peak.ensures.plain;
       kind = c.in-Peak.is;
     })

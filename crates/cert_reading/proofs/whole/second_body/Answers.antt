@@ -1,8 +1,7 @@
 use Rattle.cert_reading.proofs.Lemmas.{known_still, still_where, then_where, then_nothing_where, as_marks_where, anywhere, reads_anywhere, open_before_where, kind_marks, kind_still}
-use Rattle.cert_reading.proofs.Lemmas.{known_behind, known_where}
 use Rattle.cert_reading.proofs.Prelude.{◌∙◌, ℕ, suc, List, map, length, [], ◌∷◌, ◌++◌, codes, refl, sym, ap, subst, append_assoc, automaton_view, simp_view, certificate_view, largest}
 use Rattle.cert_reading.proofs.Prelude.{second_version, by_number, number_in, Mark, fixed, word, in_range, is_few, simplifications, simplifications_marks, body_marks, closing, between, line}
-use Rattle.cert_reading.proofs.Prelude.{simplification_count, simplifications_of, body, numeral, counts_still, then_reads, framed, open_before, kind_mark, IsPlainBy}
+use Rattle.cert_reading.proofs.Prelude.{simplification_count, simplifications_of, body, numeral, then_reads, framed, open_before, IsPlainBy}
 use Rattle.certificates.specs.Certificates as math
 use Rattle.cert_reading.proofs.whole.second_body.Goals as goal
 
@@ -24,9 +23,6 @@ all_simplifications-steps-requires c =
     let count = then_reads (c.counted_steps-count.ensures names simplification_count _ refl) (framed (simplifications_of n) (c.text.ensures.read names (between line) _ refl)) in
     known_still second_version all count (tt, (tt, tt)) (still_where second_version all (c.in_default.ensures.steps names) (tt, tt) c.requires)
 
-pub body-body-requires : goal.body-body-requires
-body-body-requires c = c.all_simplifications-steps.ensures.known
-
 pub returns-clause-read : goal.returns-clause-read
 returns-clause-read c =
     let names = c.args.names.now in
@@ -43,11 +39,9 @@ returns-clause-read c =
     ∷ (simplifications_marks u w ss ++ (body_marks u w given d ++ closing))) (sym counted)
     ∙ ap (λ (ms : List Mark). fixed (codes "simplify ") ∷ word (numeral (length ss)) (in_range 0 1 (suc largest) (length ss) ∷ is_few simplifications (length ss) ∷ []) ∷ fixed
     (codes "\n") ∷ ms) (sym (append_assoc (simplifications_marks u w ss) (body_marks u w given d) closing))
-    ∙ ap (λ (e : math.Certificate). body_marks u w given e ++ closing) (sym (c.behind_steps.ensures.steps none)))
-    (then_where (anywhere (c.in_default.ensures.steps names))
+    ∙ ap (λ (e : math.Certificate). body_marks u w given e ++ closing) (sym (c.behind_steps.ensures.steps none))) (then_where (anywhere (c.in_default.ensures.steps names))
     (then_where (reads_anywhere (framed rest (then_reads (c.counted_steps-count.ensures names simplification_count _ refl)
-    (framed (simplifications_of n) (c.text.ensures.read names (between line) _ refl)))))
-    (then_where (reads_anywhere (framed rest c.all_simplifications-steps.ensures.read))
+    (framed (simplifications_of n) (c.text.ensures.read names (between line) _ refl))))) (then_where (reads_anywhere (framed rest c.all_simplifications-steps.ensures.read))
     (then_nothing_where c.body-body.ensures.read (reads_anywhere (c.behind_steps.ensures.read names c.args.end []))))))
 
 pub returns-clause-plain : goal.returns-clause-plain
@@ -59,6 +53,3 @@ returns-clause-plain c = λ none.
       c.all_simplifications-steps.ensures.plain (open_before_where c.body-body.ensures.read was),
       c.body-body.ensures.plain was,
     )
-
-pub returns-in-Some-clause-plain : goal.returns-in-Some-clause-plain
-returns-in-Some-clause-plain c = c.of_kind.ensures.plain

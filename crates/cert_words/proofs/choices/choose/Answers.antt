@@ -9,8 +9,7 @@ returns-in-None-clause-here c = λ none names i cs e q.
     let left = c.args.at.now.left.now in
     let missed = subst (Missed left (length c.args.texts.now)) q c.in-None.ensures in
     stuck_among names c.args.end left c.args.at.now.shares i c.stuck.result (map lead_of cs) (map bare c.args.texts.now) e
-    (none_of left cs (length c.args.texts.now) (same_number c.args.texts.now cs q) missed)
-    (same_longest left cs ∙ ap (λ (ls : List Lead). longest ls left) (sym q)) c.stuck.ensures
+    (none_of left cs (length c.args.texts.now) (same_number c.args.texts.now cs q) missed) (same_longest left cs ∙ ap (λ (ls : List Lead). longest ls left) (sym q)) c.stuck.ensures
 
 pub returns-then-is_some-clause-chosen : goal.returns-then-is_some-clause-chosen
 returns-then-is_some-clause-chosen c = λ names i cs e q.
@@ -20,8 +19,7 @@ returns-then-is_some-clause-chosen c = λ names i cs e q.
 pub returns-in-Some-clause-chosen : goal.returns-in-Some-clause-chosen
 returns-in-Some-clause-chosen c = λ names i cs e q.
     let left = c.args.at.now.left.now in
-    first_chosen names c.args.end i c.args.at.now _ left c.in-Some.rest.now cs c.in-Some.place
-    (subst (λ (ls : List Lead). IsFirst left ls c.in-Some.place c.in-Some.rest.now) q c.in-Some.ensures)
+    first_chosen names c.args.end i c.args.at.now _ left c.in-Some.rest.now cs c.in-Some.place (subst (λ (ls : List Lead). IsFirst left ls c.in-Some.place c.in-Some.rest.now) q c.in-Some.ensures)
     (λ x w f h. go c.is_some.ensures c.if-is_some.false (text_run (front_of (lead_of x) (ap (λ (ls : List Lead). first_there ls left) e ∙ f) h)))
 
 pub returns-in-None-clause-chosen : goal.returns-in-None-clause-chosen

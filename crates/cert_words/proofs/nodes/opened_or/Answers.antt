@@ -9,8 +9,7 @@ returns-then-not-met-clause-comma c = λ t names f n i new comma close e m. bad_
     c.saturating_sub-place.ensures c.if-not-met.true
 
 pub returns-else-not-met-clause-comma : goal.returns-else-not-met-clause-comma
-returns-else-not-met-clause-comma c = λ t names f n i new comma close e m. good_arity c.is_some.ensures c.if-is_some.false
-    (two e c.in_default.ensures c.in-Some-front.ensures) m c.if-not-met.false
+returns-else-not-met-clause-comma c = λ t names f n i new comma close e m. good_arity c.is_some.ensures c.if-is_some.false (two e c.in_default.ensures c.in-Some-front.ensures) m c.if-not-met.false
 
 pub returns-in_default-front-2-clause-close : goal.returns-in_default-front-2-clause-close
 returns-in_default-front-2-clause-close c = λ t names f n i new comma close e m. none_of_three c.is_some.ensures c.if-is_some.false e c.in_default.ensures

@@ -13,15 +13,13 @@ returns-else-value-gt0 c = λ names. found names c.args.at c.args.word.now (Some
 
 pub returns-then-value-eq0 : goal.returns-then-value-eq0
 returns-then-value-eq0 c = λ names. found names c.args.at c.args.word.now (Some c.bytes.begins) (not_root c.args.word.now _ _ c.behind.ensures c.if-is_some.ensures)
-    c.requires.spelt (parts_end c.args.word.now c.bytes.place c.bytes.begins c.bytes.value c.bytes.invariant.parts c.bytes-test.false
-    (let zero = c.if-value-eq0.true in omega (arith, zero)))
+    c.requires.spelt (parts_end c.args.word.now c.bytes.place c.bytes.begins c.bytes.value c.bytes.invariant.parts c.bytes-test.false (let zero = c.if-value-eq0.true in omega (arith, zero)))
 
 pub returns : goal.returns
 returns c = λ names.
     let n = not_root c.args.word.now _ _ c.behind.ensures c.if-is_some.ensures in (
       places_read c.args.word.now c.bytes.place c.bytes.value c.bytes.parts.items _ (places_are c.args.word.now n c.requires.spelt) c.bytes.invariant.numbers
           c.bytes-test.false c.in_ok-push-2.ensures.items,
-      found names c.args.at c.args.word.now None n c.requires.spelt
-          (parts_good c.args.word.now c.bytes.place c.bytes.begins c.bytes.value c.bytes.invariant.parts c.bytes-test.false
+      found names c.args.at c.args.word.now None n c.requires.spelt (parts_good c.args.word.now c.bytes.place c.bytes.begins c.bytes.value c.bytes.invariant.parts c.bytes-test.false
           (let some = c.if-value-eq0.false in omega (arith, some))),
     )

@@ -3,8 +3,7 @@ use Rattle.cert_words.proofs.Prelude.{refl}
 use Rattle.cert_words.proofs.shared.begins.Goals as goal
 
 pub returns-in-Some-clause-read : goal.returns-in-Some-clause-read
-returns-in-Some-clause-read c = λ names i new e. go c.is_some.ensures c.if-is_some.false (keyword_keeps (one e c.in-Some.ensures) (λ at. refl)
-    (begins_keeps c.args.bytes.now c.args.at.now.shares))
+returns-in-Some-clause-read c = λ names i new e. go c.is_some.ensures c.if-is_some.false (keyword_keeps (one e c.in-Some.ensures) (λ at. refl) (begins_keeps c.args.bytes.now c.args.at.now.shares))
 
 pub returns-in-None-clause-read : goal.returns-in-None-clause-read
 returns-in-None-clause-read c = λ names i new e. no_word c.is_some.ensures c.if-is_some.false e c.in-None.ensures c.stuck.ensures

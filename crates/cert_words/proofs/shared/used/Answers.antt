@@ -14,12 +14,6 @@ returns-in-Good-clause-read c = λ names i new e.
     let none = none_now c.is_some.ensures c.if-is_some.false in
     went none none (front_same _ _ (ap (λ (z : Shared). z.texts) c.in-Good.ensures.2)) (use_run names c.args.end c.args.at.now (one e c.in-Some.ensures) c.in-Some-within.ensures c.in-Good.ensures)
 
-pub returns-in-Good-clause-used : goal.returns-in-Good-clause-used
-returns-in-Good-clause-used c = λ none. c.in-Good.ensures.0
-
-pub returns-in-Good-clause-known : goal.returns-in-Good-clause-known
-returns-in-Good-clause-known c = λ none. c.in-Good.ensures.2
-
 pub returns-in-Bad-clause-read : goal.returns-in-Bad-clause-read
 returns-in-Bad-clause-read c = λ names i new e. stop_as c.is_some.ensures c.if-is_some.false (ap (λ (z : Shared). z.texts) c.in-Bad.ensures.1)
     (rw c.place-here.ensures (use_bad names c.args.end c.args.at.now (one e c.in-Some.ensures) c.in-Some-within.ensures c.in-Bad.ensures.0))

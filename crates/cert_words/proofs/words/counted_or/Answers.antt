@@ -15,7 +15,8 @@ returns-then-not-all_used-clause-here c = λ none names i new other e. rw c.plac
     (end_stop names c.args.end c.args.at.now.shares (two e c.in_default.ensures c.in-Some-front.ensures) c.all_used.ensures c.if-not-all_used.true)
 
 pub returns-then-n-limit-clause-word : goal.returns-then-n-limit-clause-word
-returns-then-n-limit-clause-word c = λ t names i new other e. stop c.is_some.ensures c.if-is_some.false (returns-then-n-limit-clause-here c (none_now c.is_some.ensures c.if-is_some.false) names i new other e)
+returns-then-n-limit-clause-word c = λ t names i new other e. stop c.is_some.ensures c.if-is_some.false
+    (returns-then-n-limit-clause-here c (none_now c.is_some.ensures c.if-is_some.false) names i new other e)
 
 pub returns-in-Some-clause-word : goal.returns-in-Some-clause-word
 returns-in-Some-clause-word c = λ t names i new other e. go c.is_some.ensures c.if-is_some.false (keyword_run (one e c.in-Some.ensures)
@@ -26,10 +27,12 @@ returns-clause-other c = λ t names i new other e. go c.is_some.ensures c.if-is_
     (end_keeps c.args.other.now c.args.at.now.shares _ c.all_used.ensures c.if-not-all_used.false))
 
 pub returns-in_default-front-clause-other : goal.returns-in_default-front-clause-other
-returns-in_default-front-clause-other c = λ t names i new other e. stop c.is_some.ensures c.if-is_some.false (returns-in_default-front-clause-here c (none_now c.is_some.ensures c.if-is_some.false) names i new other e)
+returns-in_default-front-clause-other c = λ t names i new other e. stop c.is_some.ensures c.if-is_some.false
+    (returns-in_default-front-clause-here c (none_now c.is_some.ensures c.if-is_some.false) names i new other e)
 
 pub returns-then-not-all_used-clause-other : goal.returns-then-not-all_used-clause-other
-returns-then-not-all_used-clause-other c = λ t names i new other e. stop c.is_some.ensures c.if-is_some.false (returns-then-not-all_used-clause-here c (none_now c.is_some.ensures c.if-is_some.false) names i new other e)
+returns-then-not-all_used-clause-other c = λ t names i new other e. stop c.is_some.ensures c.if-is_some.false
+    (returns-then-not-all_used-clause-here c (none_now c.is_some.ensures c.if-is_some.false) names i new other e)
 
 pub returns-clause-text : goal.returns-clause-text
 returns-clause-text c = λ f old new. word_text _ _ _ _ c.in-Some-front.ensures

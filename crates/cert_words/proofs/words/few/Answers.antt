@@ -10,7 +10,8 @@ returns-in_default-within-clause-here c = λ none names i new d seen most e. one
     (out_of_range names _ c.args.least (suc largest) (value c.in-Some.word.now) _ (is_few d (value c.in-Some.word.now) ∷ []) c.place.ensures c.in_default-within.ensures)
 
 pub returns-then-n-most-clause-here : goal.returns-then-n-most-clause-here
-returns-then-n-most-clause-here c = λ none names i new d seen most e. one_stop names c.args.end (one e c.in-Some.ensures) c.args.at.now.shares (Some (too_many (counted_view c.args.what), c.place-then-n-most.result))
+returns-then-n-most-clause-here c = λ none names i new d seen most e. one_stop names c.args.end (one e c.in-Some.ensures) c.args.at.now.shares
+    (Some (too_many (counted_view c.args.what), c.place-then-n-most.result))
     (too_many_there names _ c.args.least c.in-Some-within.n (value c.in-Some.word.now) _ _ d (counted_view c.args.what) c.place-then-n-most.ensures c.in-Some-within.ensures
     (sym most) c.if-n-most.true seen)
 
@@ -21,7 +22,8 @@ pub returns-in_default-within-clause-read : goal.returns-in_default-within-claus
 returns-in_default-within-clause-read c = λ names i new d seen most e. bad_numeral c.is_some.ensures c.if-is_some.false (one e c.in-Some.ensures) c.place.ensures c.in_default-within.ensures
 
 pub returns-then-n-most-clause-read : goal.returns-then-n-most-clause-read
-returns-then-n-most-clause-read c = λ names i new d seen most e. stop c.is_some.ensures c.if-is_some.false (returns-then-n-most-clause-here c (none_now c.is_some.ensures c.if-is_some.false) names i new d seen most e)
+returns-then-n-most-clause-read c = λ names i new d seen most e. stop c.is_some.ensures c.if-is_some.false
+    (returns-then-n-most-clause-here c (none_now c.is_some.ensures c.if-is_some.false) names i new d seen most e)
 
 pub returns-clause-read : goal.returns-clause-read
 returns-clause-read c = λ names i new d seen most e. go c.is_some.ensures c.if-is_some.false (number_run (one e c.in-Some.ensures) c.in-Some-within.ensures.0

@@ -8,7 +8,8 @@ pub returns-in_default-front-clause-none : goal.returns-in_default-front-clause-
 returns-in_default-front-clause-none c = λ t names f n i new other e m. neither_word c.is_some.ensures c.if-is_some.false e c.in_default.ensures c.in_default-front.ensures c.stuck.ensures
 
 pub returns-then-not-met-clause-none : goal.returns-then-not-met-clause-none
-returns-then-not-met-clause-none c = λ t names f n i new other e m. bad_arity c.is_some.ensures c.if-is_some.false (two e c.in_default.ensures c.in-Some-front.ensures) m c.place.ensures c.if-not-met.true
+returns-then-not-met-clause-none c = λ t names f n i new other e m. bad_arity c.is_some.ensures c.if-is_some.false
+    (two e c.in_default.ensures c.in-Some-front.ensures) m c.place.ensures c.if-not-met.true
 
 pub returns-else-not-met-clause-none : goal.returns-else-not-met-clause-none
 returns-else-not-met-clause-none c = λ t names f n i new other e m. good_arity c.is_some.ensures c.if-is_some.false (two e c.in_default.ensures c.in-Some-front.ensures) m c.if-not-met.false
