@@ -87,10 +87,7 @@ fn grow_on(
     let mut current = automaton;
     // Each round but the last adds a transition, and there are at most 5,000.
     'rounds: loop {
-        let next = match round(alloc, sys, s, &current) {
-            Ok(next) => next,
-            Err(e) => return Err(e),
-        };
+        let next = round(alloc, sys, s, &current)?;
         if next.len() == current.transitions.len() {
             return Ok(current);
         }
@@ -108,19 +105,17 @@ fn grow_of(alloc: Global, sys: &System, s: &Term, states: u32) -> Result<Automat
     ensures { GrownAnswers sys.now (view s.now) result }
 {
     let accepting = Vec::from_array(alloc, [top(&[], &[], 1, s)])?;
-    match start(alloc, sys, s) {
-        Ok(transitions) => grow_on(
-            alloc,
-            sys,
-            s,
-            Automaton {
-                states,
-                accepting,
-                transitions,
-            },
-        ),
-        Err(e) => Err(e),
-    }
+    let transitions = start(alloc, sys, s)?;
+    grow_on(
+        alloc,
+        sys,
+        s,
+        Automaton {
+            states,
+            accepting,
+            transitions,
+        },
+    )
 }
 
 /// The least automaton that accepts the term and is closed under the rules, with its transitions in order (after
@@ -133,8 +128,6 @@ pub fn grow(alloc: Global, sys: &System, s: &Term) -> Result<Automaton, GrowErro
     let Some(states) = count_states(sys, s) else {
         return Err(GrowError::TooManyStates);
     };
-    match check_widths(alloc, sys.rules(), states) {
-        Ok(()) => grow_of(alloc, sys, s, states),
-        Err(e) => Err(e),
-    }
+    check_widths(alloc, sys.rules(), states)?;
+    grow_of(alloc, sys, s, states)
 }

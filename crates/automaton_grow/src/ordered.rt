@@ -119,10 +119,7 @@ pub fn add_all(
     ensures { AddAnswers (Contains (map transition_view some.now)) (map transition_view transitions.old.items) (map transition_view transitions.new.items) result }
 {
     for one in some {
-        match add(alloc, one.symbol, &one.args, one.target, transitions) {
-            Ok(()) => {}
-            Err(e) => return Err(e),
-        }
+        add(alloc, one.symbol, &one.args, one.target, transitions)?;
     }
     Ok(())
 }

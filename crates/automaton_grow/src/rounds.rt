@@ -49,14 +49,8 @@ fn add_basic(
     requires most { length (map transition_view transitions.old.items) ≤ MOST_GROWN_TRANSITIONS }
     ensures { AddAnswers (IsBasicOf arities.now (map transition_view inside.now)) (map transition_view transitions.old.items) (map transition_view transitions.new.items) result }
 {
-    match add_symbols(alloc, arities, transitions) {
-        Ok(()) => {}
-        Err(e) => return Err(e),
-    }
-    match add(alloc, None, &[], 0, transitions) {
-        Ok(()) => {}
-        Err(e) => return Err(e),
-    }
+    add_symbols(alloc, arities, transitions)?;
+    add(alloc, None, &[], 0, transitions)?;
     add_all(alloc, inside, transitions)
 }
 
@@ -73,10 +67,8 @@ pub fn start(alloc: Global, sys: &System, s: &Term) -> Result<Vec<Transition>, G
     };
     push_grown(alloc, values, 2, s, 1, &mut inside)?;
     let mut transitions = Vec::new(alloc);
-    match add_basic(alloc, sys.arities(), &inside, &mut transitions) {
-        Ok(()) => Ok(transitions),
-        Err(e) => Err(e),
-    }
+    add_basic(alloc, sys.arities(), &inside, &mut transitions)?;
+    Ok(transitions)
 }
 
 // Adds the twins at a state of the transitions to another.
@@ -93,10 +85,7 @@ fn add_twins(
 {
     for one in current {
         if one.target == from {
-            match add(alloc, one.symbol, &one.args, to, next) {
-                Ok(()) => {}
-                Err(e) => return Err(e),
-            }
+            add(alloc, one.symbol, &one.args, to, next)?;
         }
     }
     Ok(())
@@ -184,10 +173,7 @@ fn add_rule(
             leaves: &leaves,
             states: &row.choice,
         };
-        match add_asked(alloc, placed, values, row.state, current, next) {
-            Ok(()) => {}
-            Err(e) => return Err(e),
-        }
+        add_asked(alloc, placed, values, row.state, current, next)?;
     }
     Ok(())
 }
@@ -244,10 +230,7 @@ fn grow_rules(
     let mut first = 1 + inner(s);
     let rules = sys.rules();
     for rule in rules {
-        match grow_rule(alloc, rule, first, current, index, next) {
-            Ok(()) => {}
-            Err(e) => return Err(e),
-        }
+        grow_rule(alloc, rule, first, current, index, next)?;
         first += proper(&rule.right);
     }
     Ok(())
@@ -270,8 +253,6 @@ pub fn round(
     let index = AutomatonIndex::new(alloc, None, current)?;
     let copy = current.try_clone(alloc)?;
     let mut next = copy.transitions;
-    match grow_rules(alloc, sys, s, current, &index, &mut next) {
-        Ok(()) => Ok(next),
-        Err(e) => Err(e),
-    }
+    grow_rules(alloc, sys, s, current, &index, &mut next)?;
+    Ok(next)
 }

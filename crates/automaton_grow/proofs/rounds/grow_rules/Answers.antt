@@ -1,5 +1,6 @@
 use Rattle.std.proofs.Common.{◌≡◌, map, length, subst, sym, arith}
 use Rattle.term_core.specs.Prelude.{view, rule_view}
+use Rattle.term_core.proofs.Rules.{handed_on}
 use Rattle.cert_model.specs.EvidenceView.{transition_view}
 use Rattle.automata.specs.Growth.{HasStates}
 use Rattle.automaton_grow.proofs.States.{room_at}
@@ -38,14 +39,15 @@ grow_rule-requires-clause-room c =
       c.requires.most,
     )
 
-pub returns-in-Err : goal.returns-in-Err
-returns-in-Err c =
+pub returns-in_err-grow_rule : goal.returns-in_err-grow_rule
+returns-in_err-grow_rule c =
     let at = rule_of c.args.sys.now c.rules-rules.result.now c.rules-rules.ensures.rules c.loop-rule.rule-index c.rule-item.result c.loop-rule-test.true c.rule-item.is in
     let low = rule_low c.args.sys.now c.rules-rules.result.now c.rules-rules.ensures.rules c.loop-rule.rule-index c.rule-item.result c.loop-rule-test.true c.rule-item.is in
-    rules_error c.args.sys.now (view c.args.s.now) (map transition_view c.args.current.now.transitions.items) c.loop-rule.rule-index (rule_view c.rule-item.result) at
+    rw (handed_on _ _ c.from_residual.ensures.1)
+    (rules_error c.args.sys.now (view c.args.s.now) (map transition_view c.args.current.now.transitions.items) c.loop-rule.rule-index (rule_view c.rule-item.result) at
     c.args.current.now.states c.loop-rule.first c.requires.states c.loop-rule.invariant.first
-    (map transition_view c.args.next.now.items) (map transition_view c.loop-rule.next.items) (map transition_view c.grow_rule.new.next.items) c.in-Err.e low
-    c.loop-rule.invariant.added c.in-Err.ensures
+    (map transition_view c.args.next.now.items) (map transition_view c.loop-rule.next.items) (map transition_view c.grow_rule.new.next.items) c.in_err-grow_rule.field-0.0 low
+    c.loop-rule.invariant.added c.in_err-grow_rule.ensures)
 
 pub proper-first-requires : goal.proper-first-requires
 proper-first-requires c =
@@ -74,7 +76,8 @@ loop-rule-preserved c =
       added =
           rules_next c.args.sys.now (view c.args.s.now) (map transition_view c.args.current.now.transitions.items) c.loop-rule.rule-index (rule_view c.rule-item.result) at
           c.args.current.now.states c.loop-rule.first c.requires.states c.loop-rule.invariant.first
-          (map transition_view c.args.next.now.items) (map transition_view c.loop-rule.next.items) (map transition_view c.grow_rule.new.next.items) c.loop-rule.invariant.added c.in-Ok.ensures;
+          (map transition_view c.args.next.now.items) (map transition_view c.loop-rule.next.items) (map transition_view c.grow_rule.new.next.items)
+          c.loop-rule.invariant.added c.in_ok-grow_rule.ensures;
     }
 
 pub returns : goal.returns
