@@ -86,4 +86,4 @@ module _ (P : ℕ → Type 0) where
   pub of_rules : (k n : ℕ) (rs : List Rule) → HoldsOfAll (numbers_needing k n rs) → (j : ℕ) (r : Rule) → slice_get rs j ≡ Some r → needed_at r ≡ k → P (n + j)
   of_rules k n rs h j r at e =
       let s = numbers.stands (λ r. nat_eq k (needed_at r)) n rs j r at (eq-eqb k (needed_at r) (sym e)) in
-      subst P s.1.1 (h s.0 s.1.0)
+      subst P s.2 (h s.0 s.1)

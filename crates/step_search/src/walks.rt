@@ -28,10 +28,10 @@ fn walk_one(
     if !budget.take() {
         return Ok(Sought::Spent);
     }
-    match tried(alloc, sys, number, rule, place) {
-        Ok(Some(made)) => Ok(Sought::Found(made)),
-        Ok(None) => Ok(Sought::Nothing),
-        Err(e) => Err(e),
+    let found = tried(alloc, sys, number, rule, place)?;
+    match found {
+        Some(made) => Ok(Sought::Found(made)),
+        None => Ok(Sought::Nothing),
     }
 }
 
@@ -87,8 +87,6 @@ pub fn walk_through(
 ) -> Result<Sought<Made>, NoMemory>
     ensures { WalkAnswers sys.now (tries sys.now) budget.old budget.new result }
 {
-    match IndexedSystem::new(alloc, sys) {
-        Ok(indexed) => walk_rules(alloc, &indexed, budget),
-        Err(e) => Err(e),
-    }
+    let indexed = IndexedSystem::new(alloc, sys)?;
+    walk_rules(alloc, &indexed, budget)
 }

@@ -63,10 +63,8 @@ fn judge_condition(
     if !is_accepted(alloc, &index, a, &cond.left)? {
         return Err(Refusal::Reason(EvidenceReason::AutoMisses));
     }
-    match judge_unless_closed(alloc, &index, sys, a, is_closed) {
-        Ok(()) => judge_exclusion(alloc, &index, a, &cond.right),
-        Err(why) => Err(why),
-    }
+    judge_unless_closed(alloc, &index, sys, a, is_closed)?;
+    judge_exclusion(alloc, &index, a, &cond.right)
 }
 
 // Judges evidence for conditions of a system.
