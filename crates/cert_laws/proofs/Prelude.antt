@@ -36,6 +36,7 @@ pub use Rattle.cert_grammar.specs.Prelude.{automaton_ends, all_used, closing, ce
 pub use Rattle.cert_grammar.specs.Prelude.{behind_automata, use_mark, place_begins, derivations, steps_of, simplifications_of, is_word, is_number, rule_mark, Mode, is_there, taken, behind_lead}
 pub use Rattle.cert_grammar.specs.Prelude.{whole_text, answer_marks, Fails, IsPlainText, spelling, term_checks, end_lead, next}
 pub use Rattle.cert_grammar.specs.WordMarks.{numeral}
+pub use Rattle.cert_grammar.specs.SharedText.{same_bytes}
 pub use Rattle.cert_grammar.proofs.Names.{name_is, found_is_named}
 pub use Rattle.cert_grammar.proofs.Runs.{numeral_is, All, name_id}
 pub use Rattle.cert_grammar.proofs.ScanLaws.{IsWordOf, Goes, scanned, scan_least, goes_front, front_completed, completion, completed, spelling_whole, Stops, scan_exact, word_stops}

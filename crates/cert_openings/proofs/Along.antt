@@ -5,7 +5,8 @@ use Rattle.cert_openings.proofs.Prelude.{between, space, line, automaton_end, an
 use Rattle.cert_openings.proofs.Prelude.{keyword, numeral_lead, position_lead, variable_lead, leads, first_version, mode_of, mark_of, items_of, number_begins, place_begins, bar_begins, Moves}
 use Rattle.cert_openings.proofs.Prelude.{same_taken, skeleton_path, text_both}
 use Rattle.cert_grammar.proofs.ScanLaws.{IsWordOf}
-use Rattle.cert_laws.proofs.LeadTables.{In}
+pub use Rattle.cert_laws.proofs.LeadTables.{never_ends}
+use Rattle.cert_laws.proofs.LeadTables.{each_in, is_end, is_line_alone, next_never, seals, lead_seals}
 use Rattle.cert_laws.proofs.Moves.{takes_along}
 use Rattle.cert_laws.proofs.Paths.{Takes, Path}
 
@@ -14,55 +15,8 @@ use Rattle.cert_laws.proofs.Paths.{Takes, Path}
 abbrev pub end_mark : Mark
 end_mark = word (codes "end") (shares all_used ∷ [])
 
-abbrev is_end : Lead → Bool
-is_end (keyword bytes demands items) = same_bytes bytes (codes "end")
-is_end _ = false
-
-abbrev each : (Lead → Bool) → List Lead → Bool
-each test [] = true
-each test (a ∷ ls) = test a && each test ls
-
-each_in : (test : Lead → Bool) (a : Lead) (ls : List Lead) → In a ls → each test ls ≡ true → test a ≡ true
-each_in test a [] n e = absurd n
-each_in test a (b ∷ ls) (inl q) e = ap test q ∙ (and_parts (test b) (each test ls) e).0
-each_in test a (b ∷ ls) (inr n) e = each_in test a ls n (and_parts (test b) (each test ls) e).1
-
-abbrev pub never_ends : Item → Bool
-never_ends i = each (λ (a : Lead). not (is_end a)) (leads i)
-
 abbrev MayEnd : Item → Type 0
 MayEnd i = never_ends i ≡ true → ⊥
-
--- behind the word of the last line its end stands alone, and behind another lead that is no text an item at which it may not stand
-abbrev is_line_alone : List Item → Bool
-is_line_alone (between line ∷ []) = true
-is_line_alone _ = false
-
-abbrev next_never : List Item → Bool
-next_never [] = false
-next_never (i ∷ items) = never_ends i
-
-abbrev seals : List ℕ → Lead → Bool
-seals w (text [] items) = false
-seals w (text (b ∷ bytes) items) = true
-seals w a = cond (is_end a) (is_line_alone (items_of a w)) (next_never (items_of a w))
-
-leads_seal : (i : Item) (w : List ℕ) → each (seals w) (leads i) ≡ true
-leads_seal (automaton_end zero given) w = refl
-leads_seal (between space) w = refl
-leads_seal (any_number space) w = refl
-leads_seal (any_position space) w = refl
-leads_seal (measure first_version) w = refl
-leads_seal (evidence first_version) w = refl
-leads_seal (infeasibility first_version) w = refl
-leads_seal (node n []) w = refl
-leads_seal (name_behind n name []) w = refl
-leads_seal (term_behind n []) w = refl
-leads_seal (term_closed n name k []) w = refl
-leads_seal _ w = refl
-
-sealed_by : (i : Item) (m : Mark) (new : List Item) → (h : Takes i m new) → seals h.word_of h.lead ≡ true
-sealed_by i m new h = each_in (seals h.word_of) h.lead (leads i) h.among (leads_seal i h.word_of)
 
 -- the word of the last line is one by a lead for it alone
 spelt_end : (a : Lead) (w : List ℕ) → IsWordOf (mode_of a) w → end_mark ≡ mark_of a w → is_end a ≡ true
@@ -89,7 +43,7 @@ one_left [] p = absurd p
 one_left (i ∷ s) p =
     let k = p.1 in
     let is = spelt_end k.lead k.word_of k.spelt k.mark in
-    let items : p.0 ≡ between line ∷ [] = k.items ∙ line_behind k.lead k.word_of is (sealed_by i end_mark p.0 k) in
+    let items : p.0 ≡ between line ∷ [] = k.items ∙ line_behind k.lead k.word_of is (lead_seals i k.word_of k.lead k.among) in
     let last = subst (λ (x : List Item). Path (fixed (codes "\n") ∷ []) (x ++ s) []) items p.2 in
     let none : s ≡ [] = nothing_else last.0 s last.2 in
     (i, ap (λ (x : List Item). i ∷ x) none, λ n. absurd (let both : not true ≡ true = ap not (sym is) ∙ each_in (λ (a : Lead). not (is_end a)) k.lead (leads i) k.among n in cc))
@@ -117,7 +71,7 @@ ends_in : (m : Mark) (ms : List Mark) (s : List Item) (i : Item) → Path (m ∷
 ends_in m ms [] i p n = absurd p
 ends_in m [] (j ∷ s) i p n =
     let k = p.1 in
-    let last = last_bytes k.lead k.word_of s i (sealed_by j m p.0 k) (ap (λ (x : List Item). x ++ s) (sym k.items) ∙ p.2) n in
+    let last = last_bytes k.lead k.word_of s i (lead_seals j k.word_of k.lead k.among) (ap (λ (x : List Item). x ++ s) (sym k.items) ∙ p.2) n in
     ([], last.0, last.1, ap (λ (x : Mark). x ∷ []) (k.mark ∙ last.2))
 ends_in m (o ∷ ms) (j ∷ s) i p n = let k = ends_in o ms (p.0 ++ s) i p.2 n in (m ∷ k.0, k.1, k.2, ap (λ (x : List Mark). m ∷ x) k.3)
 
