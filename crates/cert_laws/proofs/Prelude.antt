@@ -2,7 +2,7 @@
 pub use Rattle.std.proofs.Common.{◌≡◌, ◌⊎◌, inl, inr, ℕ, ◌==◌, true, false, not, List, [], ◌∷◌, ◌++◌, refl, sym, ap, ◌∙◌, subst, eqb-true, take, Option, Some, None, append_assoc, suc, ◌+◌, ◌≤◌, Bool}
 pub use Rattle.std.proofs.Common.{length, codes, arith, zero, ◌<◌, drop, max, length-append, nat_le, nat_lt, decimal, eq-eqb, ◌-◌, cond, ◌&&◌, ◌*◌, ◌||◌, if◌then◌else◌, ◌/◌, ◌%◌, ne_eqb, length-drop}
 pub use Rattle.std.specs.Prelude.{is_some, unwrap_or, option_and_then}
-pub use Rattle.std.proofs.Math.Seq.{take-append_seam, drop-append_seam}
+pub use Rattle.std.proofs.Math.Seq.{take-append_seam, drop-append_seam, take-append-add}
 pub use Rattle.std.proofs.lemmas.Bool.{not-true, and_parts, cases_lt, lt-ltb, le-leb, and_from, ltb-true, leb-true, or_right}
 pub use Rattle.std.proofs.lemmas.List.{append-nil, append_cancel_left, take-append-drop, length-take-le, take-take}
 pub use Rattle.rewriting.specs.Prelude.{Term, Fits, var, app, Terms, nil, cons, size, Position, Head, file, auxiliary, count, size_all}

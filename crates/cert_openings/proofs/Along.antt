@@ -7,7 +7,7 @@ use Rattle.cert_openings.proofs.Prelude.{same_taken, skeleton_path, text_both}
 use Rattle.cert_grammar.proofs.ScanLaws.{IsWordOf}
 pub use Rattle.cert_laws.proofs.LeadTables.{never_ends}
 use Rattle.cert_laws.proofs.LeadTables.{each_in, is_end, is_line_alone, next_never, seals, lead_seals}
-use Rattle.cert_laws.proofs.Moves.{takes_along}
+use Rattle.cert_laws.proofs.Moves.{takes_goes}
 use Rattle.cert_laws.proofs.Paths.{Takes, Path}
 
 -- ---- items at which the last line may stand
@@ -85,12 +85,12 @@ pub moves_to : (front : List Mark) (mark : Mark) (back : List Mark) (s : List It
     → IsReached mark back rest → (t : List Item) × Moves (front ++ mark ∷ []) s bytes t rest × Path back t []
 moves_to [] mark back [] bytes rest p e r = absurd p
 moves_to [] mark back (i ∷ s) bytes rest p e r =
-    let there = takes_along i mark p.0 s back bytes [] mark p.1 p.2 (record { back = back; parts = refl; rest = rest; text = e; reached = r }) in
+    let there = takes_goes i mark p.0 s back bytes p.1 p.2 (inr ([], mark, record { back = back; parts = refl; rest = rest; text = e; reached = r })) in
     (p.0 ++ s, (p.0, rest, record { takes = p.1; there = there; text = e }, (refl, refl)), p.2)
 moves_to (m ∷ front) mark back [] bytes rest p e r = absurd p
 moves_to (m ∷ front) mark back (i ∷ s) bytes rest p e r =
     let behind = marks_text front ++ (mark_text mark ++ rest) in
-    let there = takes_along i m p.0 s (front ++ mark ∷ back) bytes (m ∷ front) mark p.1 p.2 (record { back = back; parts = refl; rest = rest; text = e; reached = r }) in
+    let there = takes_goes i m p.0 s (front ++ mark ∷ back) bytes p.1 p.2 (inr (m ∷ front, mark, record { back = back; parts = refl; rest = rest; text = e; reached = r })) in
     let others = moves_to front mark back (p.0 ++ s) behind rest p.2 refl r in
     (others.0, (p.0, behind, record { takes = p.1; there = there; text = e ∙ append_assoc (mark_text m) (marks_text front) (mark_text mark ++ rest) }, others.1), others.2)
 
