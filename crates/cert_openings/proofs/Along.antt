@@ -7,7 +7,8 @@ use Rattle.cert_openings.proofs.Prelude.{same_taken, skeleton_path, text_both}
 use Rattle.cert_grammar.proofs.ScanLaws.{IsWordOf}
 pub use Rattle.cert_laws.proofs.LeadTables.{never_ends}
 use Rattle.cert_laws.proofs.LeadTables.{each_in, is_end, is_line_alone, next_never, seals, lead_seals}
-use Rattle.cert_laws.proofs.Moves.{takes_goes}
+pub use Rattle.cert_laws.proofs.Reached.{Meet, ahead, behind_it, meet}
+use Rattle.cert_laws.proofs.Reached.{moves_to}
 use Rattle.cert_laws.proofs.Paths.{Takes, Path}
 
 -- ---- items at which the last line may stand
@@ -80,20 +81,6 @@ path_split [] b s t p = (s, refl, p)
 path_split (m ∷ a) b [] t p = absurd p
 path_split (m ∷ a) b (i ∷ s) t p = let r = path_split a b (p.0 ++ s) t p.2 in (r.0, (p.0, p.1, r.1), r.2)
 
--- bytes that go to a mark are read along the marks up to it
-pub moves_to : (front : List Mark) (mark : Mark) (back : List Mark) (s : List Item) (bytes rest : List ℕ) → Path (front ++ mark ∷ back) s [] → bytes ≡ marks_text front ++ (mark_text mark ++ rest)
-    → IsReached mark back rest → (t : List Item) × Moves (front ++ mark ∷ []) s bytes t rest × Path back t []
-moves_to [] mark back [] bytes rest p e r = absurd p
-moves_to [] mark back (i ∷ s) bytes rest p e r =
-    let there = takes_goes i mark p.0 s back bytes p.1 p.2 (inr ([], mark, record { back = back; parts = refl; rest = rest; text = e; reached = r })) in
-    (p.0 ++ s, (p.0, rest, record { takes = p.1; there = there; text = e }, (refl, refl)), p.2)
-moves_to (m ∷ front) mark back [] bytes rest p e r = absurd p
-moves_to (m ∷ front) mark back (i ∷ s) bytes rest p e r =
-    let behind = marks_text front ++ (mark_text mark ++ rest) in
-    let there = takes_goes i m p.0 s (front ++ mark ∷ back) bytes p.1 p.2 (inr (m ∷ front, mark, record { back = back; parts = refl; rest = rest; text = e; reached = r })) in
-    let others = moves_to front mark back (p.0 ++ s) behind rest p.2 refl r in
-    (others.0, (p.0, behind, record { takes = p.1; there = there; text = e ∙ append_assoc (mark_text m) (marks_text front) (mark_text mark ++ rest) }, others.1), others.2)
-
 -- marks of a text before its last line, up to one item, and the bytes behind them
 pub record Along (own : List Mark) (bytes rest : List ℕ) : Type 0 where
   pub item : Item
@@ -133,27 +120,6 @@ along s own bytes rest e spelt = by own refl
         (subst (λ (k : List Mark). Path k (opening ∷ []) []) (e ∙ ap (λ (k : List Mark). k ++ closing) whole ∙ append_assoc last.0 (bytes_last ∷ []) closing) (skeleton_path s))
         (cc (spelt, text_both last.0 (bytes_last ∷ []), append_assoc (marks_text last.0) (mark_text bytes_last ++ []) rest, append-nil (mark_text bytes_last))) tt in
         settled own bytes rest last.0 last.1 last.2 whole moved.0 moved.1 moved.2
-
--- ---- two readers of the same bytes
-
--- the first gets to where the other is, or stays before
-pub data Meet (f g : List Mark) (t : List Item) (r : List ℕ) (u : List Item) (q : List ℕ) : Type 0 where
-  ahead : (more : List Mark) → g ≡ f ++ more → Moves more t r u q → Meet f g t r u q
-  behind_it : (m : Mark) (ms : List Mark) → f ≡ g ++ m ∷ ms → Moves (m ∷ ms) u q t r → Meet f g t r u q
-
-meet_more : (m n : Mark) (f g : List Mark) (t : List Item) (r : List ℕ) (u : List Item) (q : List ℕ) → m ≡ n → Meet f g t r u q → Meet (m ∷ f) (n ∷ g) t r u q
-meet_more m n f g t r u q e (ahead more p h) = ahead more (cc) h
-meet_more m n f g t r u q e (behind_it k ms p h) = behind_it k ms (cc) h
-
-pub meet : (f g : List Mark) (s t u : List Item) (b r q : List ℕ) → Moves f s b t r → Moves g s b u q → Meet f g t r u q
-meet [] g s t u b r q h k = ahead g refl (subst (λ (x : List Item). Moves g x r u q) h.0 (subst (λ (x : List ℕ). Moves g s x u q) h.1 k))
-meet (m ∷ f) [] s t u b r q h k = behind_it m f refl (subst (λ (x : List Item). Moves (m ∷ f) x q t r) k.0 (subst (λ (x : List ℕ). Moves (m ∷ f) s x t r) k.1 h))
-meet (m ∷ f) (n ∷ g) [] t u b r q h k = absurd h
-meet (m ∷ f) (n ∷ g) (i ∷ s) t u b r q h k =
-    let same = same_taken i m n h.0 k.0 b h.2.takes k.2.takes h.2.there k.2.there in
-    let rest : h.1 ≡ k.1 = append_cancel_left (mark_text m) h.1 k.1 (sym h.2.text ∙ k.2.text ∙ ap (λ (x : Mark). mark_text x ++ k.1) (sym same.marks)) in
-    meet_more m n f g t r u q same.marks (meet f g (h.0 ++ s) t u h.1 r q h.3
-    (subst (λ (x : List ℕ). Moves g (h.0 ++ s) x u q) (sym rest) (subst (λ (x : List Item). Moves g (x ++ s) k.1 u q) (sym same.items) k.3)))
 
 -- bytes that are read along a text go to a mark of the own ones, or to one behind them
 pub data Walked (own front : List Mark) (mark : Mark) : Type 0 where
