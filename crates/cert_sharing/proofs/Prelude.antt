@@ -7,7 +7,8 @@ pub use Rattle.cert_grammar.specs.Prelude.{read_shared, read_text, unfolded, bad
 pub use Rattle.cert_grammar.specs.Prelude.{texts_of, with_new, number_in, unfolded_length, place_among, uses_of, same_bytes}
 pub use Rattle.cert_laws.proofs.AlikePaths.{alike_skeletons, same_marks, same_skeletons}
 pub use Rattle.cert_laws.proofs.Moves.{There, tail_same}
-pub use Rattle.cert_laws.proofs.OneRefusal.{Judging, Stops, one_stop, Closes, never, passed_anywhere}
+pub use Rattle.cert_laws.proofs.OneAnswer.{Stops, one_stop, never}
+pub use Rattle.cert_laws.proofs.OneRefusal.{Judging, passed_anywhere}
 pub use Rattle.cert_laws.proofs.PassEvidence.{AllOf, AllBy, Solves, meant_automaton, all_of, target_marks}
 pub use Rattle.cert_laws.proofs.PassWhole.{pair_front, redex_front, steps_front, IsBare, meant_body, told_answer}
 pub use Rattle.cert_laws.proofs.Prelude.{◌≡◌, inr, ℕ, Bool, true, false, cond, List, [], ◌∷◌, length, Option, Some, None, refl, ap, ◌∙◌, arith, NameTable, CertificateCause, Demand, shares, Mark}
