@@ -6,7 +6,7 @@ use Rattle.cert_openings.proofs.Prelude.{keyword, numeral_lead, position_lead, v
 use Rattle.cert_openings.proofs.Prelude.{same_taken, skeleton_path, text_both}
 use Rattle.cert_grammar.proofs.ScanLaws.{IsWordOf}
 pub use Rattle.cert_laws.proofs.LeadTables.{never_ends}
-use Rattle.cert_laws.proofs.LeadTables.{each_in, is_end, is_line_alone, next_never, seals, lead_seals}
+use Rattle.cert_laws.proofs.LeadTables.{each_in, is_end, is_line_alone, next_never, seals, lead_holds}
 pub use Rattle.cert_laws.proofs.Reached.{Meet, ahead, behind_it, meet}
 use Rattle.cert_laws.proofs.Reached.{moves_to}
 use Rattle.cert_laws.proofs.Paths.{Takes, Path}
@@ -44,7 +44,7 @@ one_left [] p = absurd p
 one_left (i ∷ s) p =
     let k = p.1 in
     let is = spelt_end k.lead k.word_of k.spelt k.mark in
-    let items : p.0 ≡ between line ∷ [] = k.items ∙ line_behind k.lead k.word_of is (lead_seals i k.word_of k.lead k.among) in
+    let items : p.0 ≡ between line ∷ [] = k.items ∙ line_behind k.lead k.word_of is (lead_holds i k.word_of k.lead k.among).1 in
     let last = subst (λ (x : List Item). Path (fixed (codes "\n") ∷ []) (x ++ s) []) items p.2 in
     let none : s ≡ [] = nothing_else last.0 s last.2 in
     (i, ap (λ (x : List Item). i ∷ x) none, λ n. absurd (let both : not true ≡ true = ap not (sym is) ∙ each_in (λ (a : Lead). not (is_end a)) k.lead (leads i) k.among n in cc))
@@ -72,7 +72,7 @@ ends_in : (m : Mark) (ms : List Mark) (s : List Item) (i : Item) → Path (m ∷
 ends_in m ms [] i p n = absurd p
 ends_in m [] (j ∷ s) i p n =
     let k = p.1 in
-    let last = last_bytes k.lead k.word_of s i (lead_seals j k.word_of k.lead k.among) (ap (λ (x : List Item). x ++ s) (sym k.items) ∙ p.2) n in
+    let last = last_bytes k.lead k.word_of s i (lead_holds j k.word_of k.lead k.among).1 (ap (λ (x : List Item). x ++ s) (sym k.items) ∙ p.2) n in
     ([], last.0, last.1, ap (λ (x : Mark). x ∷ []) (k.mark ∙ last.2))
 ends_in m (o ∷ ms) (j ∷ s) i p n = let k = ends_in o ms (p.0 ++ s) i p.2 n in (m ∷ k.0, k.1, k.2, ap (λ (x : List Mark). m ∷ x) k.3)
 
