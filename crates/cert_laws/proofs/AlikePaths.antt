@@ -1,5 +1,5 @@
 -- The grammar is deterministic: what two paths from one stack of items spell is alike.
-use Rattle.cert_laws.proofs.Prelude.{◌≡◌, inr, ℕ, true, List, [], ◌∷◌, ◌++◌, refl, sym, ap, ◌∙◌, subst, append-nil, append_cancel_left, Mark, mark_text, marks_text, Skeleton, marks_of, skeleton_text}
+use Rattle.cert_laws.proofs.Prelude.{◌≡◌, inr, ℕ, true, List, [], ◌∷◌, ◌++◌, refl, sym, ◌∙◌, subst, append-nil, Mark, marks_text, Skeleton, marks_of, skeleton_text}
 use Rattle.cert_laws.proofs.Prelude.{Item, opening, Lead, text, ends_lead, Alike, ended, same, parted}
 use Rattle.general_lemmas.proofs.Decisions.{same_numbers}
 use Rattle.cert_laws.proofs.Moves.{There, takes_goes}
