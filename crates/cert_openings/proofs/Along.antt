@@ -1,15 +1,13 @@
 -- Where the last line may stand one item is left, and the marks before it end in bytes: whatever stands behind these bytes, a reader goes along them.
-use Rattle.cert_openings.proofs.Prelude.{◌≡◌, inl, inr, ℕ, zero, Bool, true, false, not, cond, ◌&&◌, List, [], ◌∷◌, ◌++◌, refl, sym, ap, ◌∙◌, subst, codes, append_assoc, append-nil, and_parts}
-use Rattle.cert_openings.proofs.Prelude.{append_cancel_left, all_used, shares, same_bytes, Mark, fixed, word, mark_text, marks_text, closing, GoesTo, IsReached, Skeleton, marks_of, Item, opening}
-use Rattle.cert_openings.proofs.Prelude.{between, space, line, automaton_end, any_number, any_position, measure, evidence, infeasibility, node, name_behind, term_behind, term_closed, Lead, text}
-use Rattle.cert_openings.proofs.Prelude.{keyword, numeral_lead, position_lead, variable_lead, leads, first_version, mode_of, mark_of, items_of, number_begins, place_begins, bar_begins, Moves}
-use Rattle.cert_openings.proofs.Prelude.{same_taken, skeleton_path, text_both}
+use Rattle.cert_openings.proofs.Prelude.{◌≡◌, ℕ, Bool, true, false, not, cond, List, [], ◌∷◌, ◌++◌, refl, sym, ap, ◌∙◌, subst, codes, append_assoc, append-nil, all_used, shares, same_bytes, Mark}
+use Rattle.cert_openings.proofs.Prelude.{fixed, word, mark_text, marks_text, closing, GoesTo, Skeleton, marks_of, Item, opening, between, line, Lead, text, keyword, numeral_lead, position_lead}
+use Rattle.cert_openings.proofs.Prelude.{variable_lead, leads, mode_of, mark_of, items_of, number_begins, place_begins, bar_begins, Moves, skeleton_path, text_both}
 use Rattle.cert_grammar.proofs.ScanLaws.{IsWordOf}
 pub use Rattle.cert_laws.proofs.LeadTables.{never_ends}
 use Rattle.cert_laws.proofs.LeadTables.{each_in, is_end, is_line_alone, next_never, seals, lead_holds}
 pub use Rattle.cert_laws.proofs.Reached.{Meet, ahead, behind_it, meet}
 use Rattle.cert_laws.proofs.Reached.{moves_to}
-use Rattle.cert_laws.proofs.Paths.{Takes, Path}
+use Rattle.cert_laws.proofs.Paths.{Path}
 
 -- ---- items at which the last line may stand
 
