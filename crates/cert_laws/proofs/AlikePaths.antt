@@ -1,10 +1,10 @@
 -- The grammar is deterministic: what two paths from one stack of items spell is alike.
-use Rattle.cert_laws.proofs.Prelude.{◌≡◌, inr, ℕ, true, List, [], ◌∷◌, ◌++◌, refl, sym, ap, ◌∙◌, subst, append-nil, append_cancel_left, Mark, mark_text, marks_text, Skeleton, marks_of, skeleton_text}
+use Rattle.cert_laws.proofs.Prelude.{◌≡◌, inr, ℕ, true, List, [], ◌∷◌, ◌++◌, refl, sym, ◌∙◌, subst, append-nil, Mark, marks_text, Skeleton, marks_of, skeleton_text}
 use Rattle.cert_laws.proofs.Prelude.{Item, opening, Lead, text, ends_lead, Alike, ended, same, parted}
 use Rattle.general_lemmas.proofs.Decisions.{same_numbers}
-use Rattle.cert_laws.proofs.Moves.{There, takes_goes, takes_text}
+use Rattle.cert_laws.proofs.Moves.{There, takes_goes}
 use Rattle.cert_laws.proofs.Paths.{Path}
-use Rattle.cert_laws.proofs.Reached.{same_words, same_taken}
+use Rattle.cert_laws.proofs.Reached.{Moves, moves_all, Meet, ahead, behind_it, meet, same_words, same_taken}
 use Rattle.cert_laws.proofs.SkeletonPaths.{skeleton_path}
 
 -- a word with nothing behind it
@@ -35,17 +35,12 @@ alike_skeletons s t = alike_paths (marks_of s) (marks_of t) (opening ∷ []) (sk
 
 -- and with one text they are the same
 pub same_marks : (ms ns : List Mark) (s : List Item) → Path ms s [] → Path ns s [] → marks_text ms ≡ marks_text ns → ms ≡ ns
-same_marks [] [] s p q e = refl
-same_marks [] (n ∷ ns) [] p q e = absurd q
-same_marks [] (n ∷ ns) (i ∷ s) p q e = absurd cc
-same_marks (m ∷ ms) ns [] p q e = absurd p
-same_marks (m ∷ ms) [] (i ∷ s) p q e = absurd cc
-same_marks (m ∷ ms) (n ∷ ns) (i ∷ s) p q e =
-    let mine = subst (There p.1.lead p.1.word_of) e (takes_text i m p.0 s ms p.1 p.2) in
-    let one = same_taken i m n p.0 q.0 (mark_text n ++ marks_text ns) p.1 q.1 mine (takes_text i n q.0 s ns q.1 q.2) in
-    let rest = append_cancel_left (mark_text n) (marks_text ms) (marks_text ns) (ap (λ (x : Mark). mark_text x ++ marks_text ms) (sym one.marks) ∙ e) in
-    let others = same_marks ms ns (q.0 ++ s) (subst (λ (x : List Item). Path ms (x ++ s) []) one.items p.2) q.2 rest in
-    ap (λ (x : Mark). x ∷ ms) one.marks ∙ ap (λ (l : List Mark). n ∷ l) others
+same_marks ms ns s p q e = by (meet ms ns s [] [] (marks_text ms) [] [] (moves_all ms s p) (subst (λ (b : List ℕ). Moves ns s b [] []) (sym e) (moves_all ns s q)))
+  where
+    by : Meet ms ns [] [] [] [] → ms ≡ ns
+    by (ahead [] f h) = sym (f ∙ append-nil ms)
+    by (ahead (m ∷ more) f h) = absurd h
+    by (behind_it m more f h) = absurd h
 
 pub same_skeletons : (s t : Skeleton) → skeleton_text s ≡ skeleton_text t → marks_of s ≡ marks_of t
 same_skeletons s t e = same_marks (marks_of s) (marks_of t) (opening ∷ []) (skeleton_path s) (skeleton_path t) e

@@ -1,68 +1,21 @@
 -- Where the last line may stand one item is left, and the marks before it end in bytes: whatever stands behind these bytes, a reader goes along them.
-use Rattle.cert_openings.proofs.Prelude.{◌≡◌, inl, inr, ℕ, zero, Bool, true, false, not, cond, ◌&&◌, List, [], ◌∷◌, ◌++◌, refl, sym, ap, ◌∙◌, subst, codes, append_assoc, append-nil, and_parts}
-use Rattle.cert_openings.proofs.Prelude.{append_cancel_left, all_used, shares, same_bytes, Mark, fixed, word, mark_text, marks_text, closing, GoesTo, IsReached, Skeleton, marks_of, Item, opening}
-use Rattle.cert_openings.proofs.Prelude.{between, space, line, automaton_end, any_number, any_position, measure, evidence, infeasibility, node, name_behind, term_behind, term_closed, Lead, text}
-use Rattle.cert_openings.proofs.Prelude.{keyword, numeral_lead, position_lead, variable_lead, leads, first_version, mode_of, mark_of, items_of, number_begins, place_begins, bar_begins, Moves}
-use Rattle.cert_openings.proofs.Prelude.{same_taken, skeleton_path, text_both}
+use Rattle.cert_openings.proofs.Prelude.{◌≡◌, ℕ, Bool, true, false, not, cond, List, [], ◌∷◌, ◌++◌, refl, sym, ap, ◌∙◌, subst, codes, append_assoc, append-nil, all_used, shares, same_bytes, Mark}
+use Rattle.cert_openings.proofs.Prelude.{fixed, word, mark_text, marks_text, closing, GoesTo, Skeleton, marks_of, Item, opening, between, line, Lead, text, keyword, numeral_lead, position_lead}
+use Rattle.cert_openings.proofs.Prelude.{variable_lead, leads, mode_of, mark_of, items_of, number_begins, place_begins, bar_begins, Moves, skeleton_path, text_both}
 use Rattle.cert_grammar.proofs.ScanLaws.{IsWordOf}
-use Rattle.cert_laws.proofs.LeadTables.{In}
-use Rattle.cert_laws.proofs.Moves.{takes_along}
-use Rattle.cert_laws.proofs.Paths.{Takes, Path}
+pub use Rattle.cert_laws.proofs.LeadTables.{never_ends}
+use Rattle.cert_laws.proofs.LeadTables.{each_in, is_end, is_line_alone, next_never, seals, lead_holds}
+pub use Rattle.cert_laws.proofs.Reached.{Meet, ahead, behind_it, meet}
+use Rattle.cert_laws.proofs.Reached.{moves_to}
+use Rattle.cert_laws.proofs.Paths.{Path}
 
 -- ---- items at which the last line may stand
 
 abbrev pub end_mark : Mark
 end_mark = word (codes "end") (shares all_used ∷ [])
 
-abbrev is_end : Lead → Bool
-is_end (keyword bytes demands items) = same_bytes bytes (codes "end")
-is_end _ = false
-
-abbrev each : (Lead → Bool) → List Lead → Bool
-each test [] = true
-each test (a ∷ ls) = test a && each test ls
-
-each_in : (test : Lead → Bool) (a : Lead) (ls : List Lead) → In a ls → each test ls ≡ true → test a ≡ true
-each_in test a [] n e = absurd n
-each_in test a (b ∷ ls) (inl q) e = ap test q ∙ (and_parts (test b) (each test ls) e).0
-each_in test a (b ∷ ls) (inr n) e = each_in test a ls n (and_parts (test b) (each test ls) e).1
-
-abbrev pub never_ends : Item → Bool
-never_ends i = each (λ (a : Lead). not (is_end a)) (leads i)
-
 abbrev MayEnd : Item → Type 0
 MayEnd i = never_ends i ≡ true → ⊥
-
--- behind the word of the last line its end stands alone, and behind another lead that is no text an item at which it may not stand
-abbrev is_line_alone : List Item → Bool
-is_line_alone (between line ∷ []) = true
-is_line_alone _ = false
-
-abbrev next_never : List Item → Bool
-next_never [] = false
-next_never (i ∷ items) = never_ends i
-
-abbrev seals : List ℕ → Lead → Bool
-seals w (text [] items) = false
-seals w (text (b ∷ bytes) items) = true
-seals w a = cond (is_end a) (is_line_alone (items_of a w)) (next_never (items_of a w))
-
-leads_seal : (i : Item) (w : List ℕ) → each (seals w) (leads i) ≡ true
-leads_seal (automaton_end zero given) w = refl
-leads_seal (between space) w = refl
-leads_seal (any_number space) w = refl
-leads_seal (any_position space) w = refl
-leads_seal (measure first_version) w = refl
-leads_seal (evidence first_version) w = refl
-leads_seal (infeasibility first_version) w = refl
-leads_seal (node n []) w = refl
-leads_seal (name_behind n name []) w = refl
-leads_seal (term_behind n []) w = refl
-leads_seal (term_closed n name k []) w = refl
-leads_seal _ w = refl
-
-sealed_by : (i : Item) (m : Mark) (new : List Item) → (h : Takes i m new) → seals h.word_of h.lead ≡ true
-sealed_by i m new h = each_in (seals h.word_of) h.lead (leads i) h.among (leads_seal i h.word_of)
 
 -- the word of the last line is one by a lead for it alone
 spelt_end : (a : Lead) (w : List ℕ) → IsWordOf (mode_of a) w → end_mark ≡ mark_of a w → is_end a ≡ true
@@ -89,7 +42,7 @@ one_left [] p = absurd p
 one_left (i ∷ s) p =
     let k = p.1 in
     let is = spelt_end k.lead k.word_of k.spelt k.mark in
-    let items : p.0 ≡ between line ∷ [] = k.items ∙ line_behind k.lead k.word_of is (sealed_by i end_mark p.0 k) in
+    let items : p.0 ≡ between line ∷ [] = k.items ∙ line_behind k.lead k.word_of is (lead_holds i k.word_of k.lead k.among).1 in
     let last = subst (λ (x : List Item). Path (fixed (codes "\n") ∷ []) (x ++ s) []) items p.2 in
     let none : s ≡ [] = nothing_else last.0 s last.2 in
     (i, ap (λ (x : List Item). i ∷ x) none, λ n. absurd (let both : not true ≡ true = ap not (sym is) ∙ each_in (λ (a : Lead). not (is_end a)) k.lead (leads i) k.among n in cc))
@@ -117,7 +70,7 @@ ends_in : (m : Mark) (ms : List Mark) (s : List Item) (i : Item) → Path (m ∷
 ends_in m ms [] i p n = absurd p
 ends_in m [] (j ∷ s) i p n =
     let k = p.1 in
-    let last = last_bytes k.lead k.word_of s i (sealed_by j m p.0 k) (ap (λ (x : List Item). x ++ s) (sym k.items) ∙ p.2) n in
+    let last = last_bytes k.lead k.word_of s i (lead_holds j k.word_of k.lead k.among).1 (ap (λ (x : List Item). x ++ s) (sym k.items) ∙ p.2) n in
     ([], last.0, last.1, ap (λ (x : Mark). x ∷ []) (k.mark ∙ last.2))
 ends_in m (o ∷ ms) (j ∷ s) i p n = let k = ends_in o ms (p.0 ++ s) i p.2 n in (m ∷ k.0, k.1, k.2, ap (λ (x : List Mark). m ∷ x) k.3)
 
@@ -125,20 +78,6 @@ path_split : (a b : List Mark) (s t : List Item) → Path (a ++ b) s t → (u : 
 path_split [] b s t p = (s, refl, p)
 path_split (m ∷ a) b [] t p = absurd p
 path_split (m ∷ a) b (i ∷ s) t p = let r = path_split a b (p.0 ++ s) t p.2 in (r.0, (p.0, p.1, r.1), r.2)
-
--- bytes that go to a mark are read along the marks up to it
-pub moves_to : (front : List Mark) (mark : Mark) (back : List Mark) (s : List Item) (bytes rest : List ℕ) → Path (front ++ mark ∷ back) s [] → bytes ≡ marks_text front ++ (mark_text mark ++ rest)
-    → IsReached mark back rest → (t : List Item) × Moves (front ++ mark ∷ []) s bytes t rest × Path back t []
-moves_to [] mark back [] bytes rest p e r = absurd p
-moves_to [] mark back (i ∷ s) bytes rest p e r =
-    let there = takes_along i mark p.0 s back bytes [] mark p.1 p.2 (record { back = back; parts = refl; rest = rest; text = e; reached = r }) in
-    (p.0 ++ s, (p.0, rest, record { takes = p.1; there = there; text = e }, (refl, refl)), p.2)
-moves_to (m ∷ front) mark back [] bytes rest p e r = absurd p
-moves_to (m ∷ front) mark back (i ∷ s) bytes rest p e r =
-    let behind = marks_text front ++ (mark_text mark ++ rest) in
-    let there = takes_along i m p.0 s (front ++ mark ∷ back) bytes (m ∷ front) mark p.1 p.2 (record { back = back; parts = refl; rest = rest; text = e; reached = r }) in
-    let others = moves_to front mark back (p.0 ++ s) behind rest p.2 refl r in
-    (others.0, (p.0, behind, record { takes = p.1; there = there; text = e ∙ append_assoc (mark_text m) (marks_text front) (mark_text mark ++ rest) }, others.1), others.2)
 
 -- marks of a text before its last line, up to one item, and the bytes behind them
 pub record Along (own : List Mark) (bytes rest : List ℕ) : Type 0 where
@@ -179,27 +118,6 @@ along s own bytes rest e spelt = by own refl
         (subst (λ (k : List Mark). Path k (opening ∷ []) []) (e ∙ ap (λ (k : List Mark). k ++ closing) whole ∙ append_assoc last.0 (bytes_last ∷ []) closing) (skeleton_path s))
         (cc (spelt, text_both last.0 (bytes_last ∷ []), append_assoc (marks_text last.0) (mark_text bytes_last ++ []) rest, append-nil (mark_text bytes_last))) tt in
         settled own bytes rest last.0 last.1 last.2 whole moved.0 moved.1 moved.2
-
--- ---- two readers of the same bytes
-
--- the first gets to where the other is, or stays before
-pub data Meet (f g : List Mark) (t : List Item) (r : List ℕ) (u : List Item) (q : List ℕ) : Type 0 where
-  ahead : (more : List Mark) → g ≡ f ++ more → Moves more t r u q → Meet f g t r u q
-  behind_it : (m : Mark) (ms : List Mark) → f ≡ g ++ m ∷ ms → Moves (m ∷ ms) u q t r → Meet f g t r u q
-
-meet_more : (m n : Mark) (f g : List Mark) (t : List Item) (r : List ℕ) (u : List Item) (q : List ℕ) → m ≡ n → Meet f g t r u q → Meet (m ∷ f) (n ∷ g) t r u q
-meet_more m n f g t r u q e (ahead more p h) = ahead more (cc) h
-meet_more m n f g t r u q e (behind_it k ms p h) = behind_it k ms (cc) h
-
-pub meet : (f g : List Mark) (s t u : List Item) (b r q : List ℕ) → Moves f s b t r → Moves g s b u q → Meet f g t r u q
-meet [] g s t u b r q h k = ahead g refl (subst (λ (x : List Item). Moves g x r u q) h.0 (subst (λ (x : List ℕ). Moves g s x u q) h.1 k))
-meet (m ∷ f) [] s t u b r q h k = behind_it m f refl (subst (λ (x : List Item). Moves (m ∷ f) x q t r) k.0 (subst (λ (x : List ℕ). Moves (m ∷ f) s x t r) k.1 h))
-meet (m ∷ f) (n ∷ g) [] t u b r q h k = absurd h
-meet (m ∷ f) (n ∷ g) (i ∷ s) t u b r q h k =
-    let same = same_taken i m n h.0 k.0 b h.2.takes k.2.takes h.2.there k.2.there in
-    let rest : h.1 ≡ k.1 = append_cancel_left (mark_text m) h.1 k.1 (sym h.2.text ∙ k.2.text ∙ ap (λ (x : Mark). mark_text x ++ k.1) (sym same.marks)) in
-    meet_more m n f g t r u q same.marks (meet f g (h.0 ++ s) t u h.1 r q h.3
-    (subst (λ (x : List ℕ). Moves g (h.0 ++ s) x u q) (sym rest) (subst (λ (x : List Item). Moves g (x ++ s) k.1 u q) (sym same.items) k.3)))
 
 -- bytes that are read along a text go to a mark of the own ones, or to one behind them
 pub data Walked (own front : List Mark) (mark : Mark) : Type 0 where

@@ -7,7 +7,7 @@ use Rattle.cert_sharing.proofs.Prelude.{first_version, second_version, Uses, in_
 use Rattle.cert_sharing.proofs.Prelude.{automaton_text, IsAutomaton, IsMeasured, AreEntries, AreHeads, IsMeasure, IsWithin, IsCertificateText, Naming, Mark, fixed, marks_text, term_marks}
 use Rattle.cert_sharing.proofs.Prelude.{derivation_marks, closing, use_marks, automaton_marks, automata_marks, infeasibility_marks, evidence_marks, pairs_marks, coefficients_marks, measured_marks}
 use Rattle.cert_sharing.proofs.Prelude.{entries_marks, heads_marks, measure_marks, redexes_marks, apart_marks, simplifications_marks, body_marks, answer_marks, certificate_marks, is_among, texts_of}
-use Rattle.cert_sharing.proofs.Prelude.{shared_by, number_in, AreAutomata, HaveNames, states_line, same_marks, same_skeletons, nothing_left, automaton_path, spelt_automaton, AllOf, all_of, tail_same}
+use Rattle.cert_sharing.proofs.Prelude.{shared_by, number_in, AreAutomata, states_line, same_marks, same_skeletons, automaton_alone, spelt_automaton, AllOf, all_of, tail_same}
 use Rattle.cert_sharing.proofs.Prelude.{◌+◌, ◌==◌, cond, subst, eq-eqb, var, app, Terms, nil, cons, count, size, no_steps, first_step, Step, by_rule, by_hypothesis, Derivations, no_derivations}
 use Rattle.cert_sharing.proofs.Prelude.{first_derivation, derivation_count, step_count, Transition, name_at, number_of, IsSpelt, AreSpelt, IsHead, AreTransitions, Counted, Demand, has_arity, behind}
 use Rattle.cert_sharing.proofs.Prelude.{mark_text, number_for, places_text, position, places, arguments_marks, further_marks, steps_marks, step_marks, derivations_marks, accepting_marks}
@@ -439,8 +439,7 @@ text_tells a b names h i e =
     let mine = spelt_automaton a names h in
     let yours = spelt_automaton b names i in
     let texts : marks_text (automaton_marks x a ++ []) ≡ marks_text (automaton_marks x b ++ []) = cc (append-nil (automaton_marks x a), append-nil (automaton_marks x b)) in
-    let path = λ (c : Automaton) (h : HaveNames (automaton_marks x c)). (automaton_path {s = []} {ks = []} c x h nothing_left).path in
-    (same_automata a b names [] [] h i (same_marks (automaton_marks x a ++ []) (automaton_marks x b ++ []) (states_line ∷ []) (path a mine.named) (path b yours.named) texts)).0
+    (same_automata a b names [] [] h i (same_marks (automaton_marks x a ++ []) (automaton_marks x b ++ []) (states_line ∷ []) (automaton_alone x a mine.named) (automaton_alone x b yours.named) texts)).0
 
 -- ---- certificates
 

@@ -7,7 +7,8 @@ pub use Rattle.cert_grammar.specs.Prelude.{read_shared, read_text, unfolded, bad
 pub use Rattle.cert_grammar.specs.Prelude.{texts_of, with_new, number_in, unfolded_length, place_among, uses_of, same_bytes}
 pub use Rattle.cert_laws.proofs.AlikePaths.{alike_skeletons, same_marks, same_skeletons}
 pub use Rattle.cert_laws.proofs.Moves.{There, tail_same}
-pub use Rattle.cert_laws.proofs.OneRefusal.{Judging, Stops, one_stop, Closes, never, passed_anywhere}
+pub use Rattle.cert_laws.proofs.OneAnswer.{Stops, one_stop, never}
+pub use Rattle.cert_laws.proofs.OneRefusal.{Judging, passed_anywhere}
 pub use Rattle.cert_laws.proofs.PassEvidence.{AllOf, AllBy, Solves, meant_automaton, all_of, target_marks}
 pub use Rattle.cert_laws.proofs.PassWhole.{pair_front, redex_front, steps_front, IsBare, meant_body, told_answer}
 pub use Rattle.cert_laws.proofs.Prelude.{◌≡◌, inr, ℕ, Bool, true, false, cond, List, [], ◌∷◌, length, Option, Some, None, refl, ap, ◌∙◌, arith, NameTable, CertificateCause, Demand, shares, Mark}
@@ -27,7 +28,7 @@ pub use Rattle.cert_laws.proofs.Prelude.{coefficients_marks, measured_marks, ent
 pub use Rattle.cert_laws.proofs.Prelude.{by_hypothesis, Derivations, no_derivations, first_derivation, derivation_count, step_count, Transition, name_at, number_of, IsSpelt, AreSpelt, IsHead}
 pub use Rattle.cert_laws.proofs.Prelude.{AreTransitions, has_arity, behind, places_text, position, places, arguments_marks, further_marks, steps_marks, step_marks, derivations_marks}
 pub use Rattle.cert_laws.proofs.Prelude.{further_states_marks, states_marks, head_marks}
-pub use Rattle.cert_laws.proofs.SkeletonPaths.{skeleton_path, nothing_left, automaton_path}
+pub use Rattle.cert_laws.proofs.SkeletonPaths.{skeleton_path, automaton_alone}
 pub use Rattle.cert_laws.proofs.Spelt.{pass_both, have_append, text_both, Spells, put_bytes, put_two}
 pub use Rattle.cert_laws.proofs.SpeltWhole.{answer_of, spelt_automaton, AreShort, HasHeading, spelt_heading, spelt_body}
 pub use Rattle.cert_sharing.specs.Fronts.{uses_with, AreLeft}
