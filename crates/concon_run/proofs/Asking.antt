@@ -151,7 +151,7 @@ module _ (file query : List ℕ) where
   pub refused_query_says : (e : QueryError) (words : Option (ℕ × List ℕ)) (said : Said) → words ≡ query_refusal_text e → IsSaidIfMemory (refused_said status.QueryRefused query words) said
       → Says (no_reply.QueryRefused e) said
   refused_query_says e words said same h =
-      refusal_is_said (said_of_query file query) (λ r. queried (bad_query r)) no_query_text query_cause_words status.QueryRefused query (λ cause at. refl) (query_error_cause e) words said same h
+      refusal_is_said (said_of_query file query) no_query_text query_cause_words (λ r. queried (bad_query r)) status.QueryRefused query (λ cause at. refl) (query_error_cause e) words said same h
 
 -- what is known of the texts of queries, and of the space of answers
 pub record KnownQueries : Type 0 where

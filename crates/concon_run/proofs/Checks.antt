@@ -149,7 +149,7 @@ module _ (file cert : List ℕ) where
   pub refused_cert_says : (e : CertError) (text : Option (ℕ × List ℕ)) (said : Said) → text ≡ cert_refusal_text e → IsSaidIfMemory (refused_said status.CertRefused cert text) said
       → Says (no_verdict.CertRefused e) said
   refused_cert_says e text said same h =
-      refusal_is_said (said_of_check file cert) (λ r. checked (no_certificate r)) no_certificate_text cert_cause_words status.CertRefused cert (λ cause at. refl) (cert_error_cause e) text said same h
+      refusal_is_said (said_of_check file cert) no_certificate_text cert_cause_words (λ r. checked (no_certificate r)) status.CertRefused cert (λ cause at. refl) (cert_error_cause e) text said same h
 
 -- where the texts can come to one thing alone and nothing fails, that is the answer
 pub check_exactly : KnownSystems → KnownCertificates → (run : Run) (file cert : List ℕ) (outcome : CheckOutcome) → CalmlyComesTo run file cert outcome

@@ -43,7 +43,7 @@ module _ {A : Type 0} (P : A → Type 0) (shelf : ShelfRun) (file : List ℕ) (u
   given_none (Refused e) h = refusal (file_refusal_of e) h
 
 -- what is said of a text that is refused, for a cause and at a place, is what the answer says
-module _ {A R C : Type 0} (said_of : A → Said) (refused : R → A) (text : C → ℕ → R) (words : C → List ℕ) (s : Status) (name : List ℕ)
+module _ {A R C : Type 0} (said_of : A → Said) (text : C → ℕ → R) (words : C → List ℕ) (refused : R → A) (s : Status) (name : List ℕ)
     (says : (cause : C) (at : ℕ) → said_of (refused (text cause at)) ≡ record { status = s; out = []; err = refused_line name at (words cause) }) where
   pub refusal_so : (o : Option (C × ℕ)) → refused_said s name (option_map (λ r. (r.1, words r.0)) o) ≡ said_if_any said_of (option_map refused (option_map (λ r. text r.0 r.1) o))
   refusal_so (Some r) = sym (says r.0 r.1)
@@ -60,7 +60,7 @@ module _ {A : Type 0} (said_of : A → Said) (file : List ℕ) (unread : A) (ref
   no_system_so (Unread reading.ReadFault) = sym faults
   no_system_so (Unread (reading.TooLong n)) = sym (says long_file)
   no_system_so (Unread reading.NoMemory) = refl
-  no_system_so (Refused e) = refusal_so said_of refused no_system_text file_cause_words status.FileRefused file (λ cause at. says (no_system_text cause at)) (file_error_cause e)
+  no_system_so (Refused e) = refusal_so said_of no_system_text file_cause_words refused status.FileRefused file (λ cause at. says (no_system_text cause at)) (file_error_cause e)
 
   pub no_system_is_said : (e : NoSystem) (said : Said) → IsSaidIfMemory (no_system_said file e) said → IsSaidIfMemory (said_if_any said_of (no_system_answer unread refused e)) said
   no_system_is_said e said h = subst (λ w. IsSaidIfMemory w said) (no_system_so e) h
