@@ -48,7 +48,7 @@ use Rattle.concon_run.specs.declared.status.Status.{Status}
 use Rattle.concon_run.specs.declared.status.Status.TheVariants as status
 use Rattle.concon_run.proofs.Letters.{first_letter}
 use Rattle.concon_run.proofs.OneSystem.{KnownSystems, Told, same_bytes, one_pair, spells_or_none, none_or_spells, one_refused}
-use Rattle.concon_run.proofs.Unread.{given_none, no_system_is_said}
+use Rattle.concon_run.proofs.Unread.{given_none, no_system_is_said, refusal_is_said}
 
 pub letter_of_query : (words : List (List ℕ)) (file query : List ℕ) (budget : ℕ) → IsQuery words file query budget → first_letter words ≡ 113
 letter_of_query words file query budget (inl (e, b)) = ap first_letter e
@@ -148,15 +148,10 @@ module _ (file query : List ℕ) where
   pub no_system_says : (e : NoSystem) (said : Said) → IsSaidIfMemory (no_system_said file e) said → Says (no_reply.NoSystem e) said
   no_system_says e said h = no_system_is_said (said_of_query file query) file file_unread (λ r. queried (bad_file r)) refl (λ r. refl) e said h
 
-  refused_query : (o : Option (text.Refusal × ℕ))
-      → refused_said status.QueryRefused query (option_map (λ r. (r.1, query_cause_words r.0)) o)
-      ≡ said_if_any (said_of_query file query) (option_map (λ r. queried (bad_query r)) (option_map (λ r. no_query_text r.0 r.1) o))
-  refused_query (Some r) = refl
-  refused_query None = refl
-
   pub refused_query_says : (e : QueryError) (words : Option (ℕ × List ℕ)) (said : Said) → words ≡ query_refusal_text e → IsSaidIfMemory (refused_said status.QueryRefused query words) said
       → Says (no_reply.QueryRefused e) said
-  refused_query_says e words said same h = subst (λ w. IsSaidIfMemory w said) (refused_query (query_error_cause e)) (subst (λ t. IsSaidIfMemory (refused_said status.QueryRefused query t) said) same h)
+  refused_query_says e words said same h =
+      refusal_is_said (said_of_query file query) no_query_text query_cause_words (λ r. queried (bad_query r)) status.QueryRefused query (λ cause at. refl) (query_error_cause e) words said same h
 
 -- what is known of the texts of queries, and of the space of answers
 pub record KnownQueries : Type 0 where

@@ -12,7 +12,6 @@ use Rattle.cc_io.specs.declared.shelf.ReadAllError.TheVariants as reading
 use Rattle.cert_model.specs.ReasonView.{rejected_view}
 use Rattle.cert_model.specs.declared.reasons.Rejected as reasons
 use Rattle.cert_grammar.specs.CertificateText.{IsCertificateText}
-use Rattle.cert_grammar.specs.Marks as marks
 use Rattle.cert_check.proofs.BodyReasons.{of_body, body_is_bare}
 use Rattle.cert_check.specs.Kinds.{IsOfStep}
 use Rattle.cert_check.specs.Answers.{OnYes, OnNo}
@@ -43,7 +42,7 @@ use Rattle.concon_run.specs.declared.status.Status.TheVariants as status
 use Rattle.concon_run.proofs.Letters.{first_letter}
 use Rattle.concon_run.proofs.OneSystem.{KnownSystems}
 use Rattle.concon_run.proofs.OneOutcome.{KnownCertificates, one_outcome}
-use Rattle.concon_run.proofs.Unread.{given_none, no_system_is_said}
+use Rattle.concon_run.proofs.Unread.{given_none, no_system_is_said, refusal_is_said}
 
 pub letter_of_check : (words : List (List ℕ)) (file cert : List ℕ) → IsCheck words file cert → first_letter words ≡ 99
 letter_of_check words file cert e = ap first_letter e
@@ -147,15 +146,10 @@ module _ (file cert : List ℕ) where
   pub no_system_says : (e : NoSystem) (said : Said) → IsSaidIfMemory (no_system_said file e) said → Says (no_verdict.NoSystem e) said
   no_system_says e said h = no_system_is_said (said_of_check file cert) file file_unread (λ r. checked (no_system r)) refl (λ r. refl) e said h
 
-  refused_cert : (o : Option (marks.CertificateCause × ℕ))
-      → refused_said status.CertRefused cert (option_map (λ r. (r.1, cert_cause_words r.0)) o)
-      ≡ said_if_any (said_of_check file cert) (option_map (λ r. checked (no_certificate r)) (option_map (λ r. no_certificate_text r.0 r.1) o))
-  refused_cert (Some r) = refl
-  refused_cert None = refl
-
   pub refused_cert_says : (e : CertError) (text : Option (ℕ × List ℕ)) (said : Said) → text ≡ cert_refusal_text e → IsSaidIfMemory (refused_said status.CertRefused cert text) said
       → Says (no_verdict.CertRefused e) said
-  refused_cert_says e text said same h = subst (λ w. IsSaidIfMemory w said) (refused_cert (cert_error_cause e)) (subst (λ t. IsSaidIfMemory (refused_said status.CertRefused cert t) said) same h)
+  refused_cert_says e text said same h =
+      refusal_is_said (said_of_check file cert) no_certificate_text cert_cause_words (λ r. checked (no_certificate r)) status.CertRefused cert (λ cause at. refl) (cert_error_cause e) text said same h
 
 -- where the texts can come to one thing alone and nothing fails, that is the answer
 pub check_exactly : KnownSystems → KnownCertificates → (run : Run) (file cert : List ℕ) (outcome : CheckOutcome) → CalmlyComesTo run file cert outcome

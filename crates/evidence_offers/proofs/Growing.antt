@@ -23,7 +23,8 @@ use Rattle.automaton_grow.specs.Answers.{GrowAnswers}
 use Rattle.automaton_grow.specs.declared.GrowError.{GrowError}
 use Rattle.automaton_grow.specs.declared.GrowError.TheVariants as growing
 use Rattle.search_spaces.specs.Grown.{GrowsTo}
-use Rattle.search_spaces.specs.Refuting.{try_growth, Tries}
+use Rattle.search_spaces.specs.Refuting.{Refuting, try_growth, Tries}
+use Rattle.search_spaces.proofs.Entries.{tries_once}
 use Rattle.search_spaces.proofs.GrownOnce.{grown_once, not_many}
 use Rattle.evidence_offers.specs.Growth.{NoAutomatonAnswers, GrownAnswers, ShownAnswers, GrowthGives, MayGive, ValidGrowthAnswers}
 
@@ -56,6 +57,12 @@ module _ (sys : System) (s : Term) where
   growth_refused growing.TooManyTransitions (Ok (Some x)) h n = absurd n
   growth_refused growing.TooManyTransitions (Ok None) h n = λ a g. not_many sys s a g h.2
   growth_refused growing.NoMemory (Ok x) h n = absurd n
+
+-- where the evidence that is tried is refused, none that is tried is valid
+pub refused_fails : (sys : System) (cs : List Condition) (item : Refuting) (e : InfeasibilityEvidence) (why : EvidenceReason) → Tries sys cs item e → IsInfeasibilityJudged sys cs e (Some why)
+    → (b : InfeasibilityEvidence) → Tries sys cs item b → IsInfeasibilityJudged sys cs b None → ⊥
+refused_fails sys cs item e why tried h b other j =
+    let same = evidence_once sys cs e None (Some why) (subst (λ z. IsInfeasibilityJudged sys cs z None) (tries_once sys cs item b e other tried) j) h in cc
 
 never_excluded : (sys : System) (c : Condition) (a : math.Automaton) (x : ℕ) → c.right ≡ var x → IsConditionJudged sys c a None → ⊥
 never_excluded sys c a x is (right_side None all (q, accepting, run) closed (narrow, excludes)) =

@@ -44,8 +44,8 @@ module _ (sys : System) where
   taken : (k d : ℕ) (p : Prefix) (n : ℕ) → Walked k d p n → IsTaken p
   taken = paths.holds_along extensions (IsDeadPrefix sys) (PrefixGives sys) (length (columns sys)) (start sys) IsTaken refl taken_further
 
-  pub begin : HasComeTo sys [] 0
-  begin = (columns sys, (refl, refl, refl))
+  pub begin : (es : Interpretation) → es ≡ [] → HasComeTo sys es 0
+  begin es e = subst (λ (z : Interpretation). HasComeTo sys z 0) (sym e) (columns sys, (refl, refl, refl))
 
   -- what is asked of entries that are judged
   module _ (es : Interpretation) (behind : List (List LinearEntry)) (n : ℕ) (w : StandsAt sys behind es n) where

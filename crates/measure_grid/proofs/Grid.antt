@@ -25,7 +25,8 @@ each_is (e ∷ column) = (tt, each_is column)
 pub leaves_are : (behind : List (List LinearEntry)) (es : Interpretation) → leaves extensions (length behind) (node es behind) ≡ map (leaf extensions whole es) (choices behind)
 leaves_are [] es = ap (λ (z : Interpretation). whole z ∷ []) (sym (append-nil es))
 leaves_are (column ∷ behind) es =
-    leaves_grown extensions whole (length behind) es (λ e. Unit {0}) (λ e. node (es ++ e ∷ []) behind) (λ e. e) (λ e. choices behind) (λ e any. leaves_are behind (es ++ e ∷ [])) column (each_is column)
+    leaves_grown extensions whole (length behind) es (λ e. Unit {0}) (λ e. node (es ++ e ∷ []) behind) (λ e. e) (λ e. choices behind)
+    (λ e any. leaves_are behind (es ++ e ∷ [])) column (each_is column)
 
 -- each list has a member
 abbrev AreSome : {X : Type 0} → List (List X) → Type 0

@@ -41,22 +41,25 @@ module _ (sys : System) where
   empty : (d : ℕ) (p : Prefix) → IsDeadPrefix sys p → NoneGives Gives (leaves extensions (suc d) p)
   empty d p dead = dead_below (suc d) p dead
 
-  leaves_grid : leaves extensions (length (columns sys)) (start sys) ≡ map (leaf extensions whole []) (grid sys)
+  abbrev top : ℕ
+  top = length (columns sys)
+
+  leaves_grid : leaves extensions top (start sys) ≡ map (leaf extensions whole []) (grid sys)
   leaves_grid = leaves_are (columns sys) []
 
   pub firsts_are : (m : MeasureCertificate) (n : ℕ) → IsPrunedFirst sys m n → (k : ℕ) × IsFirst one (GivesMeasure sys) (grid sys) m k × (n ≤ k)
   firsts_are =
-      first_of_list extensions (IsDeadPrefix sys) Gives (length (columns sys)) (start sys) (leaf extensions whole []) (GivesMeasure sys) (λ a b g. g) (λ a b g. g) (grid sys) leaves_grid (columns_full sys []) empty
+      first_of_list extensions (IsDeadPrefix sys) Gives top (start sys) (leaf extensions whole []) (GivesMeasure sys) (λ a b g. g) (λ a b g. g) (grid sys) leaves_grid (columns_full sys []) empty
 
   pub barren_is : (n : ℕ) → IsPrunedBarren sys n → NoneGives (GivesMeasure sys) (grid sys) × (n ≤ length (grid sys))
   barren_is =
-      none_of_list extensions (IsDeadPrefix sys) Gives (length (columns sys)) (start sys) (leaf extensions whole []) (GivesMeasure sys) (λ a b g. g) (λ a b g. g) (grid sys) leaves_grid (columns_full sys []) empty
+      none_of_list extensions (IsDeadPrefix sys) Gives top (start sys) (leaf extensions whole []) (GivesMeasure sys) (λ a b g. g) (λ a b g. g) (grid sys) leaves_grid (columns_full sys []) empty
 
   pub comes_to_one : ComesToOne (IsPrunedFirst sys) (IsPrunedBarren sys)
-  comes_to_one = tree_comes_to_one extensions (IsDeadPrefix sys) Gives (length (columns sys)) (start sys) (λ p m k x y. x.0 ∙ sym y.0)
+  comes_to_one = tree_comes_to_one extensions (IsDeadPrefix sys) Gives top (start sys) (λ p m k x y. x.0 ∙ sym y.0)
 
   pub ends_once : EndsOnce (IsPrunedWhole sys)
   ends_once = comes_to_end (IsPrunedFirst sys) (IsPrunedBarren sys) comes_to_one
 
   pub stops_before_whole : (n m : ℕ) → PrunedStops sys n → IsPrunedWhole sys m → n < m
-  stops_before_whole = stopped_before_whole extensions (IsDeadPrefix sys) Gives (length (columns sys)) (start sys)
+  stops_before_whole = stopped_before_whole extensions (IsDeadPrefix sys) Gives top (start sys)

@@ -10,22 +10,16 @@ use Rattle.term_core.specs.declared.terms.NoMemory.{NoMemory}
 use Rattle.cert_model.specs.EvidenceView.{inf_evidence_view}
 use Rattle.cert_model.specs.declared.evidence.InfEvidence.{InfEvidence}
 use Rattle.judged_evidence.specs.Evidence.{IsInfeasibilityJudged}
-use Rattle.judged_evidence.proofs.Judged.{evidence_once}
 use Rattle.redex_conditions.specs.Judged.{AreJudged}
 use Rattle.first_found.specs.Items.{GivesNothing, NoneGives, one}
 use Rattle.first_found.proofs.Items.{first_here, first_right}
 use Rattle.search_spaces.specs.Refuting.{Refuting, try_growth, Tries, growths, refutings}
-use Rattle.search_spaces.proofs.Entries.{tries_once}
 use Rattle.search_spaces.proofs.Growths.{growths_behind, all_behind, next_behind, none_behind}
 use Rattle.evidence_offers.specs.Growth.{MayGive}
-use Rattle.evidence_offers.proofs.Growing.{growth_shows, growth_fails}
+use Rattle.evidence_offers.proofs.Growing.{growth_shows, growth_fails, refused_fails}
 use Rattle.noncon_search.specs.Trying.{Refutes, FirstAnswers}
 
 module _ (sys : System) (cs : List Condition) where
-  other_judgement : (e : InfeasibilityEvidence) (why : EvidenceReason) → IsInfeasibilityJudged sys cs e (Some why) → DoConditionsFit cs → AreJudged sys cs e None → ⊥
-  other_judgement e why h fit (inl (_, k)) = (let same = evidence_once sys cs e None (Some why) k h in cc)
-  other_judgement e why h fit (inr (large, is)) = large fit
-
   -- nothing is valid for conditions that do not fit
   pub large_gives : (DoConditionsFit cs → ⊥) → (items : List Refuting) → NoneGives (Refutes sys cs) items
   large_gives large [] = tt
@@ -38,8 +32,8 @@ module _ (sys : System) (cs : List Condition) where
   -- an item gives nothing where its evidence is refused
   pub refused_gives : (item : Refuting) (e : InfeasibilityEvidence) (why : EvidenceReason) → Tries sys cs item e → IsInfeasibilityJudged sys cs e (Some why) → DoConditionsFit cs
       → GivesNothing (Refutes sys cs) item
-  refused_gives item e why tried h fit b (other, judged) =
-      other_judgement e why h fit (subst (λ z. AreJudged sys cs z None) (tries_once sys cs item b e other tried) judged)
+  refused_gives item e why tried h fit b (other, inl (_, judged)) = refused_fails sys cs item e why tried h b other judged
+  refused_gives item e why tried h fit b (other, inr (large, _)) = large fit
 
   -- what growth gives for a condition
   module _ (k : ℕ) (fit : DoConditionsFit cs) where

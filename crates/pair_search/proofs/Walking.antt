@@ -41,30 +41,11 @@ module _ (First : math.Overlap → certificates.PairEntry → ℕ → Type 0) wh
           (firsts_more First (map overlap_view (take i xs)) (map pair_entry_view es) far.0 (overlap_view x) entry m (far.0 + m) far.2 f refl),
     )
 
-    pub row_ends : (whole : math.Overlap → ℕ) → Spends here (whole (overlap_view x)) after → HasNone First (overlap_view x)
-        → (n : ℕ) × Spends start n after × EndsAtRow First whole (map overlap_view xs) n
-    row_ends whole unit none = (
-      far.0 + whole (overlap_view x),
-      spends_both start here after far.0 (whole (overlap_view x)) far.1 unit,
-      record {
-        before = map overlap_view (take i xs);
-        row = overlap_view x;
-        behind = map overlap_view (drop (i + 1) xs);
-        split = split_here;
-        results = map pair_entry_view es;
-        paid = far.0;
-        firsts = far.2;
-        none = none;
-        up_to = refl;
-      },
-    )
-
-    pub row_stops : (Stops : math.Overlap → ℕ → Type 0) → (m : ℕ) × Spends here m after × (after.left ≡ 0) × Stops (overlap_view x) m
-        → (n : ℕ) × Spends start n after × (after.left ≡ 0) × StopsInRow First Stops (map overlap_view xs) n
-    row_stops Stops (m, unit, end, s) = (
+    row_held : (Stops : math.Overlap → ℕ → Type 0) (m : ℕ) → Spends here m after → Stops (overlap_view x) m
+        → (n : ℕ) × Spends start n after × StopsInRow First Stops (map overlap_view xs) n
+    row_held Stops m unit s = (
       far.0 + m,
       spends_both start here after far.0 m far.1 unit,
-      end,
       record {
         before = map overlap_view (take i xs);
         row = overlap_view x;
@@ -78,3 +59,11 @@ module _ (First : math.Overlap → certificates.PairEntry → ℕ → Type 0) wh
         up_to = refl;
       },
     )
+
+    pub row_ends : (whole : math.Overlap → ℕ) → Spends here (whole (overlap_view x)) after → HasNone First (overlap_view x)
+        → (n : ℕ) × Spends start n after × EndsAtRow First whole (map overlap_view xs) n
+    row_ends whole unit none = row_held (λ o m. HasNone First o × (m ≡ whole o)) (whole (overlap_view x)) unit (none, refl)
+
+    pub row_stops : (Stops : math.Overlap → ℕ → Type 0) → (m : ℕ) × Spends here m after × (after.left ≡ 0) × Stops (overlap_view x) m
+        → (n : ℕ) × Spends start n after × (after.left ≡ 0) × StopsInRow First Stops (map overlap_view xs) n
+    row_stops Stops (m, unit, end, s) = let (n, spends, there) = row_held Stops m unit s in (n, spends, end, there)

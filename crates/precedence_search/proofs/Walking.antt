@@ -92,8 +92,8 @@ module _ (sys : System) where
   taken : (k d : ℕ) (p : Prefix) (n : ℕ) → Walked k d p n → IsTaken p
   taken = paths.holds_along extensions (IsDeadPrefix sys) (PrefixGives sys) top (start sys) IsTaken taken_start taken_further
 
-  pub begin : HasComeTo sys [] 0
-  begin = (heads sys, (refl, refl, refl))
+  pub begin : (order : Precedence) → order ≡ [] → HasComeTo sys order 0
+  begin order e = subst (λ (z : Precedence). HasComeTo sys z 0) (sym e) (heads sys, (refl, refl, refl))
 
   -- which symbols have no place
   module _ (order : Precedence) (ps : List ℕ) (a : HasItsPlaces (heads sys) order ps) where

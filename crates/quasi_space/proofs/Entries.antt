@@ -6,9 +6,8 @@ use Rattle.certificates.specs.Prelude.{PairEvidence, infeasible_pair, PairEntry}
 use Rattle.valid_certificates.specs.Kinds.{quasi}
 use Rattle.valid_certificates.specs.PairEvidence.{IsPairJudged}
 use Rattle.valid_certificates.specs.Entries.{AreSettled, triple_of}
-use Rattle.first_found.specs.Items.{NoneGives}
-use Rattle.first_found.specs.Rows.{HasNone, AreFirsts, EndsAtRow, StopsInRow}
-use Rattle.first_found.proofs.Items.{not_both, first_within, first_once, stopped_within}
+use Rattle.first_found.specs.Rows.{AreFirsts, EndsAtRow, StopsInRow}
+use Rattle.first_found.proofs.Items.{first_within, first_once, stopped_within}
 use Rattle.first_found.proofs.Rows.{firsts_once, firsts_within, none_of_rows, ends_within, ends_none, rows_stopped_within}
 use Rattle.search_spaces.specs.Entries.{entry_for}
 use Rattle.search_spaces.proofs.Entries.{tries_once}
@@ -32,10 +31,6 @@ module _ (sys : System) where
 
   stops_within : (o : Overlap) (n : ℕ) → StopsAtQuasi sys o n → n < items_cost sys o
   stops_within o n s = stopped_within (GivesQuasi sys o) quasi_item_cost (quasi_items sys o) n s
-
-  -- an overlap whose items give nothing has no entry
-  pub no_quasi_entry : (o : Overlap) → NoneGives (GivesQuasi sys o) (quasi_items sys o) → HasNone (IsQuasiEntry sys) o
-  no_quasi_entry o none x n (e, f, p) = not_both (GivesQuasi sys o) quasi_item_cost (quasi_items sys o) e n none f
 
   pub entries_settle : (os : List Overlap) (es : List PairEntry) (n : ℕ) → AreFirsts (IsQuasiEntry sys) os es n → AreSettled quasi sys os es
   entries_settle [] [] n h = tt

@@ -1,4 +1,3 @@
-pub mod Evidence
 pub mod Turning
 pub mod Assigning
 pub mod Full

@@ -1,8 +1,9 @@
 -- The first refusal among the identifiers of a query is the one that is found part by part.
-use Rattle.std.proofs.Common.{◌≡◌, ℕ, suc, ◌+◌, Bool, true, false, if◌then◌else◌, List, [], ◌∷◌, ◌++◌, length, Option, None, refl, sym, ap, ap₂, subst, ◌∙◌, arith, append_assoc, append-nil}
+use Rattle.std.proofs.Common.{◌≡◌, ℕ, suc, ◌+◌, Bool, true, false, if◌then◌else◌, List, [], ◌∷◌, ◌++◌, length, Option, Some, None, refl, sym, ap, ap₂, subst, ◌∙◌, arith, append_assoc, append-nil}
 use Rattle.std.specs.Option.{option_or}
 use Rattle.file_text.specs.Syntax.{Phrase, Phrases, word, call, none, more, count, ConditionTree}
 use Rattle.cops_names.specs.NameLists.{is_among, with_name}
+use Rattle.cops_names.specs.NameTable.{number_of}
 use Rattle.cops_read.specs.Meaning.{with_symbol, with_symbols, with_all_symbols, with_variables, with_all_variables, sides}
 use Rattle.cops_read.specs.Uses.{Spot, spots, spots_of_all, Side, side_of, Use, Event, use_of, bar_at, uses_from, term_events, condition_events}
 use Rattle.cops_read.specs.Refusals.{variables_used, first_or}
@@ -12,7 +13,10 @@ use Rattle.cops_read.proofs.Events.{uses_after, variables_after, spots_length}
 use Rattle.query_text.specs.Grammar.{QueryTree, conditions_of}
 use Rattle.query_text.specs.Meaning.{QueryCause, cause_at, first_refusal, variables_of, refusal_of}
 use Rattle.query_text.proofs.Facts.{clear}
-use Rattle.query_terms.proofs.Identifiers.{has_symbol}
+
+-- a table that has the symbol stays
+has_symbol : (table : List (List ℕ × ℕ)) (name : List ℕ) (n f : ℕ) → number_of table name ≡ Some f → with_symbol table name n ≡ table
+has_symbol table name n f e = rw e refl
 
 abbrev Refused : Type 0
 Refused = Option (QueryCause × ℕ)

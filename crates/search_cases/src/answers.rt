@@ -7,7 +7,7 @@ ghost use Rattle.std.specs.Prelude.{IsTrue, map};
 ghost use Rattle.certificates.specs.Sizes.{DoConditionsFit};
 ghost use Rattle.term_core.specs.RuleView.{condition_view};
 
-use crate::questions::{Question, question_of};
+use crate::questions::Question;
 use cc_count::Budget;
 use cert_model::{Derivation, Step};
 use cops_read::Names;
@@ -24,14 +24,7 @@ const LONGEST: usize = 20;
 const WIDEST: usize = 60;
 
 /// The answer to the question of a line.
-pub fn of_line(alloc: Global, line: &str) -> Result<String, AllocError> {
-    match question_of(alloc, line)? {
-        Some(question) => of_question(alloc, &question),
-        None => String::from_str(alloc, "no question"),
-    }
-}
-
-fn of_question(alloc: Global, question: &Question) -> Result<String, AllocError> {
+pub fn of_question(alloc: Global, question: &Question) -> Result<String, AllocError> {
     let mut budget = Budget::new(question.budget);
     let mut work = Work::new();
     let mut out = String::new(alloc);

@@ -16,6 +16,7 @@ mod solving;
 mod texts;
 mod told;
 
+use questions::question_of;
 use std::alloc::{AllocError, Global};
 use std::{fs, io};
 
@@ -28,12 +29,22 @@ enum Table {
     Query,
 }
 
+// The answer to the question of a line of `lists.txt`.
+fn of_list(alloc: Global, line: &str) -> Result<String, AllocError> {
+    let conditions = line.strip_prefix("first ");
+    let Some(question) = question_of(alloc, conditions.unwrap_or(line))? else {
+        return String::from_str(alloc, "no question");
+    };
+    if conditions.is_some() {
+        solving::of_question(alloc, &question)
+    } else {
+        answers::of_question(alloc, &question)
+    }
+}
+
 fn told_of(alloc: Global, table: Table, line: &str) -> Result<String, AllocError> {
     match table {
-        Table::List => match line.strip_prefix("first ") {
-            Some(conditions) => solving::of_line(alloc, conditions),
-            None => answers::of_line(alloc, line),
-        },
+        Table::List => of_list(alloc, line),
         Table::Steps => made::of_line(alloc, line),
         Table::Certificate => searched::of_line(alloc, line),
         Table::Query => asked::of_line(alloc, line),

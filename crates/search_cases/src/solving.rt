@@ -1,6 +1,6 @@
 //! What is told of the first solution of conditions.
 use crate::answers::{do_fit, put_derivation, put_term};
-use crate::questions::{Question, question_of};
+use crate::questions::Question;
 use cc_count::Budget;
 use flatterm::Work;
 use reach::{ReachStop, Solution, first_solution};
@@ -13,14 +13,7 @@ const VARIABLES: u32 = 3;
 
 /// The first solution of the hypotheses of a line's question, taken as conditions: the values of variables by number, and a
 /// derivation for each condition.
-pub fn of_line(alloc: Global, line: &str) -> Result<String, AllocError> {
-    match question_of(alloc, line)? {
-        Some(question) => of_question(alloc, &question),
-        None => String::from_str(alloc, "no question"),
-    }
-}
-
-fn of_question(alloc: Global, question: &Question) -> Result<String, AllocError> {
+pub fn of_question(alloc: Global, question: &Question) -> Result<String, AllocError> {
     let mut budget = Budget::new(question.budget);
     let mut out = String::new(alloc);
     match solution_for(alloc, question, &mut budget) {

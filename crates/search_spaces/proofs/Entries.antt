@@ -5,9 +5,8 @@ use Rattle.rewriting.proofs.Once.{same_some}
 use Rattle.unifier_run.specs.Overlaps.{Overlap}
 use Rattle.certificates.specs.Prelude.{InfeasibilityEvidence, by_automaton, PairEvidence, infeasible_pair, PairEntry, hypothesis_at}
 use Rattle.valid_certificates.specs.Kinds.{Kind}
-use Rattle.first_found.specs.Items.{NoneGives, one}
-use Rattle.first_found.specs.Rows.{HasNone}
-use Rattle.first_found.proofs.Items.{not_both, first_within, first_once, stopped_before, stopped_within}
+use Rattle.first_found.specs.Items.{one}
+use Rattle.first_found.proofs.Items.{first_within, first_once, stopped_before, stopped_within}
 use Rattle.search_spaces.specs.Grown.{GrowsTo}
 use Rattle.search_spaces.specs.Refuting.{Refuting, try_caps, try_growth, Tries}
 use Rattle.search_spaces.specs.PairItems.{PairItem, try_evidence, try_refuting, Offers, GivesEvidence}
@@ -34,9 +33,6 @@ module _ (kind : Kind) (sys : System) (items : Overlap → List PairItem) (o : O
 
   pub entry_within : (x : PairEntry) (n : ℕ) → IsFirstEntry kind sys items o x n → n ≤ overlap_cost items o
   entry_within x n (e, f, p) = first_within (GivesEvidence kind sys o) one (items o) e n f
-
-  pub no_entry : NoneGives (GivesEvidence kind sys o) (items o) → HasNone (IsFirstEntry kind sys items) o
-  no_entry none x n (e, f, p) = not_both (GivesEvidence kind sys o) one (items o) e n none f
 
   pub stops_before : (x : PairEntry) (n m : ℕ) → StopsAtOverlap kind sys items o n → IsFirstEntry kind sys items o x m → n < m
   stops_before x n m s (e, f, p) = stopped_before (GivesEvidence kind sys o) one (items o) e n m s f

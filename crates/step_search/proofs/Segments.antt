@@ -1,13 +1,15 @@
 -- Walks over parts of a list of tries, one after the other.
-use Rattle.std.proofs.Common.{ℕ, ◌≡◌, ◌+◌, ◌≤◌, refl, sym, ap, ◌∙◌, subst, List, [], ◌∷◌, ◌++◌, Some, None, Result, Ok, Err, IsErr, arith, append_assoc}
+use Rattle.std.proofs.Common.{ℕ, ◌≡◌, ◌+◌, ◌≤◌, refl, sym, ap, ◌∙◌, subst, List, [], ◌∷◌, ◌++◌, Some, None, Result, Ok, Err, IsErr, arith}
 use Rattle.std.proofs.lemmas.Bool.{false≢true}
 use Rattle.rewriting.specs.Rules.{System}
 use Rattle.cc_count.specs.Counts.{Counts, Spends}
 use Rattle.cc_count.proofs.Spending.{spends_none, spends_both}
-use Rattle.first_found.specs.Items.{NoneGives, cost_of, one}
-use Rattle.first_found.proofs.Items.{cost_append, none_append}
+use Rattle.first_found.specs.Items.{NoneGives, cost_of, IsFirst, IsStopped, one}
+use Rattle.first_found.proofs.Items.{cost_append, none_append, first_left, first_right, stopped_left, stopped_right}
+use Rattle.cert_model.specs.CertificateView.{simp_view}
 use Rattle.term_core.specs.declared.terms.NoMemory.{NoMemory}
 use Rattle.simplified_spaces.specs.Tries.{Try, GivesStep}
+use Rattle.simplify.specs.Changes.{after}
 use Rattle.step_search.specs.Answers.{TryAnswers, WalkAnswers}
 use Rattle.step_search.specs.declared.tries.Made.{Made}
 use Rattle.cc_count.specs.declared.Sought.{Sought}
@@ -43,15 +45,7 @@ module _ (sys : System) (t : Try) (start end : Counts) where
 
 -- a walk over some tries behind those that gave nothing
 module _ {sys : System} {done : List Try} {start here : Counts} (so_far : SoFar sys done start here) where
-  -- so many units for a part of the middle
-  whole_cost : (before : List Try) → cost_of one (done ++ before) ≡ cost_of one done + cost_of one before
-  whole_cost before = cost_append one done before
-
   module _ (end : Counts) (all mid rest : List Try) (split : all ≡ done ++ (mid ++ rest)) where
-    split_in : (before behind : List Try) (t : Try) → mid ≡ before ++ t ∷ behind → all ≡ (done ++ before) ++ t ∷ (behind ++ rest)
-    split_in before behind t e =
-        split ∙ ap (λ z. done ++ (z ++ rest)) e ∙ ap (λ z. done ++ z) (append_assoc before (t ∷ behind) rest) ∙ sym (append_assoc done before (t ∷ (behind ++ rest)))
-
     both_paid : (n : ℕ) → Spends here n end → Spends start (cost_of one done + n) end
     both_paid n paid = spends_both start here end (cost_of one done) n so_far.paid paid
 
@@ -61,15 +55,9 @@ module _ {sys : System} {done : List Try} {start here : Counts} (so_far : SoFar 
       (
         cost_of one done + n,
         both_paid n paid,
-        record {
-          before = done ++ f.before;
-          item = f.item;
-          behind = f.behind ++ rest;
-          split = split_in f.before f.behind f.item f.split;
-          none = none_append (GivesStep sys) done f.before so_far.none f.none;
-          gives = f.gives;
-          up_to = let sum = whole_cost f.before in let e = f.up_to in omega (arith, sum, e);
-        },
+        subst (λ z. IsFirst one (GivesStep sys) z (simp_view m.step, after sys m.change) (cost_of one done + n)) (sym split)
+            (first_right (GivesStep sys) one done (mid ++ rest) (simp_view m.step, after sys m.change) n so_far.none
+            (first_left (GivesStep sys) one mid rest (simp_view m.step, after sys m.change) n f)),
       ),
     )
     part_ends Nothing other h = absurd (other refl)
@@ -77,14 +65,8 @@ module _ {sys : System} {done : List Try} {start here : Counts} (so_far : SoFar 
       cost_of one done + n,
       both_paid n paid,
       none,
-      record {
-        before = done ++ f.before;
-        item = f.item;
-        behind = f.behind ++ rest;
-        split = split_in f.before f.behind f.item f.split;
-        none = none_append (GivesStep sys) done f.before so_far.none f.none;
-        short = let sum = whole_cost f.before in let e = f.short in omega (arith, sum, e);
-      },
+      subst (λ z. IsStopped one (GivesStep sys) z (cost_of one done + n)) (sym split)
+          (stopped_right (GivesStep sys) one done (mid ++ rest) n so_far.none (stopped_left (GivesStep sys) one mid rest n f)),
     )
 
     pub part_fails : (r : Result (Sought Made) NoMemory) → IsErr r → (n : ℕ) × Spends here n end × (n ≤ cost_of one mid) → WalkAnswers sys all start end r
@@ -103,7 +85,7 @@ module _ {sys : System} {done : List Try} {start here : Counts} (so_far : SoFar 
         nothing_more (paid, none) =
             record {
               none = none_append (GivesStep sys) done mid so_far.none none;
-              paid = subst (λ z. Spends start z end) (sym (whole_cost mid)) (both_paid (cost_of one mid) paid);
+              paid = subst (λ z. Spends start z end) (sym (cost_append one done mid)) (both_paid (cost_of one mid) paid);
             }
 
   -- all of them gave nothing

@@ -80,23 +80,30 @@ fn first_lacking(
     }
 }
 
+// A rule, and which states include which, where its right side is a variable.
+#[derive(Clone, Copy)]
+struct Asked<'a> {
+    inclusion: &'a NumberRelation,
+    rule: &'a Rule,
+}
+
 // The first arrival of the left side, by the choices of a batch, at which the right side is not kept. It may be known
 // where that is kept.
 fn first_open_in(
     alloc: Global,
     index: &AutomatonIndex<'_>,
-    inclusion: &NumberRelation,
-    rule: &Rule,
+    asked: Asked<'_>,
     names: &[u32],
     batch: &Batch<'_>,
     known: Option<&NumberRelation>,
 ) -> Result<Option<Arrival>, NoMemory>
-    requires fits { math.Fits (view rule.now.left) }
-    requires names { names.now ≡ variable_occurrences (view rule.now.left) }
+    requires fits { math.Fits (view asked.rule.now.left) }
+    requires names { names.now ≡ variable_occurrences (view asked.rule.now.left) }
     requires length { occurrences_of batch.now ≡ length names.now }
-    requires known { IfSome known (λ r. AreWhere batch.now (IsKeptBy inclusion.now index.now names.now (view rule.now.right)) r.now) }
-    ensures { IfOk result (FailureInAnswers index.now (view rule.now.left) (IsKeptBy inclusion.now index.now names.now (view rule.now.right)) batch.now) }
+    requires known { IfSome known (λ r. AreWhere batch.now (IsKeptBy asked.inclusion.now index.now names.now (view asked.rule.now.right)) r.now) }
+    ensures { IfOk result (FailureInAnswers index.now (view asked.entry.rule.now.left) (IsKeptBy asked.entry.inclusion.now index.now names.now (view asked.entry.rule.now.right)) batch.now) }
 {
+    let Asked { inclusion, rule } = asked;
     let left = reached_by_occurrences(alloc, index, batch, &rule.left)?;
     // A left side may arrive nowhere with a front that is possible.
     if left.is_empty() {
@@ -112,23 +119,25 @@ fn first_open_in(
 }
 
 // The first arrival of the left side at which the right side is not kept.
-fn first_open(
+fn first_open<'a>(
     alloc: Global,
     index: &AutomatonIndex<'_>,
-    inclusion: &NumberRelation,
-    rule: &Rule,
+    inclusion: &'a NumberRelation,
+    rule: &'a Rule,
     choices: &Choices,
 ) -> Result<Option<Arrival>, NoMemory>
     requires fits { math.Fits (view rule.now.left) }
     requires choices { AreChoices index.now (view rule.now.left) choices.now }
     ensures { IfOk result (FailureAnswers index.now (view rule.now.left) (IsKeptBy inclusion.now index.now (variable_occurrences (view rule.now.left)) (view rule.now.right))) }
 {
-    let names = occurrences(alloc, &rule.left)?;
-    let always = kept_always(alloc, index, inclusion, choices, &names, &rule.right)?;
+    let held = occurrences(alloc, &rule.left)?;
+    let names: &[u32] = &held;
+    let asked = Asked { inclusion, rule };
+    let always = kept_always(alloc, index, inclusion, choices, names, &rule.right)?;
     let known = always.as_ref();
     for front in choices.fronts() {
         let batch = choices.batch(alloc, front)?;
-        let open = first_open_in(alloc, index, inclusion, rule, &names, &batch, known)?;
+        let open = first_open_in(alloc, index, asked, names, &batch, known)?;
         if open.is_some() {
             return Ok(open);
         }

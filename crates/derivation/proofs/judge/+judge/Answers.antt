@@ -188,7 +188,8 @@ condition_met-returns t c =
     let end = view c.in_ok-end.end.term in
     let led = subst (λ z. Derives sys hyps from z end) (steps_seen c.args.d.now c.deref.result.now c.deref.ensures.value) c.in_ok-end.ensures.0 in
     judged_map (λ after. IsLeastMatch b after cond.right end) (λ path reason. (path ≡ []) × (reason ≡ condition_fails) × HasNoMatch b cond.right end) (Fulfils sys hyps d b cond)
-    (Misses sys hyps d b cond) c.values_after.result (fulfilled sys hyps d b cond from c.in_ok-from.ensures.0 end led) (differs sys hyps d b cond from c.in_ok-from.ensures.0 end led) c.values_after.ensures
+    (Misses sys hyps d b cond) c.values_after.result (fulfilled sys hyps d b cond from c.in_ok-from.ensures.0 end led)
+    (differs sys hyps d b cond from c.in_ok-from.ensures.0 end led) c.values_after.ensures
 
 pub values_met-returns-in-Err : goal.values_met-returns-in-Err
 values_met-returns-in-Err t c =

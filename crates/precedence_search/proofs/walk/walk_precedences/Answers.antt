@@ -1,4 +1,4 @@
-use Rattle.std.proofs.Common.{◌≡◌, ◌+◌, ◌-◌, List, [], true, false, map, length, ap, ◌∙◌, sym, subst, arith}
+use Rattle.std.proofs.Common.{◌≡◌, ◌+◌, ◌-◌, inl, List, [], true, false, map, length, ap, ◌∙◌, sym, subst, arith}
 use Rattle.std.proofs.lemmas.List.{length-map}
 use Rattle.interpretations.proofs.Bound.{few_heads}
 use Rattle.rewriting.specs.Unraveling.{Head}
@@ -6,7 +6,9 @@ use Rattle.term_core.specs.Prelude.{head_view, rule_view}
 use Rattle.cc_count.specs.Counts.{Counts}
 use Rattle.lpo.specs.Places.{ArePlaces}
 use Rattle.lpo.proofs.HeadOrder.{sorted_heads}
-use Rattle.precedence_search.proofs.Visits.{alive_before, at_start, fewer_left, first_good, goes, none_good, paid_down, paid_on, smaller, sound_of, still_kept, stopped, unspent}
+use Rattle.cc_count.proofs.Paid.{at_start, goes_free, unspent, stops, goes_on, spent_one, ends}
+use Rattle.precedence_search.proofs.Visits.{alive_before, fewer_left, goes, smaller, sound_of}
+use Rattle.precedence_search.proofs.Walking.{begin, found_there, stops_there}
 use Rattle.precedence_search.proofs.walk.walk_precedences.Goals as goal
 
 pub visits-init : goal.visits-init
@@ -18,7 +20,7 @@ visits-init c =
     let same = ap length heads_are in
     record {
       in_place = subst (λ (z : List Head). ArePlaces (map head_view c.deref-heads.result.now) z (length z) c.in_ok-places.places.items) (sym empty) c.in_ok-places.ensures;
-      paid = at_start c.args.sys.now c.args.budget.now (map head_view c.new.result.items) empty;
+      paid = at_start c.args.budget.now (begin c.args.sys.now (map head_view c.new.result.items) empty);
       sorted = sorted_heads c.args.sys.now (map head_view c.deref-heads.result.now) heads_are;
       few = omega (arith, few, many, same);
       sound = sound_of c.args.sys.now c.args.unraveled.now.system (map head_view c.deref-heads.result.now) (map rule_view c.rules-rules.result.now)
@@ -41,8 +43,8 @@ visits-preserved-in_ok-go_down-in-Alive c =
     record {
       in_place = c.in_ok-go_down-in-Alive.ensures.in_place;
       paid =
-          paid_down c.visits.invariant.paid seen.2 seen.0 (map head_view c.go_down.new.walk.prefix.items)
-          (c.in_ok-go_down-in-Alive.ensures.down c.args.sys.now c.visits.invariant.sound.of.heads_are);
+          goes_free c.visits.invariant.paid seen.2
+          (λ n here. (c.in_ok-go_down-in-Alive.ensures.down c.args.sys.now c.visits.invariant.sound.of.heads_are).1 n here seen.0);
       sorted = c.visits.invariant.sorted;
       few = c.visits.invariant.few;
       sound = c.visits.invariant.sound;
@@ -72,9 +74,9 @@ visits-preserved c =
     record {
       in_place = c.in_ok-go_on-in-Barren.ensures.in_place;
       paid =
-          paid_on c.visits.invariant.paid seen.1 seen.0 (map head_view c.go_on.new.walk.prefix.items)
+          goes_on c.visits.invariant.paid seen.1
           (goes c.args.sys.now (map head_view c.visits.walk.prefix.items) (map head_view c.go_on.new.walk.prefix.items) c.in_ok-go_on-in-Barren.field-0 true c.if-not-branch.false
-          (λ n done. c.in_ok-go_on-in-Barren.ensures.goes c.args.sys.now n c.visits.invariant.sound.of.heads_are done));
+          (λ n done. c.in_ok-go_on-in-Barren.ensures.goes c.args.sys.now n c.visits.invariant.sound.of.heads_are done) seen.0);
       sorted = c.visits.invariant.sorted;
       few = c.visits.invariant.few;
       sound = c.visits.invariant.sound;
@@ -90,31 +92,32 @@ visits-smaller c =
 pub returns-then-not-branch-clause-answer : goal.returns-then-not-branch-clause-answer
 returns-then-not-branch-clause-answer c =
     let seen = c.in-Barren.ensures c.args.sys.now c.visits.invariant.sound (alive_before c.visits.invariant.paid) in
-    none_good c.visits.invariant.paid seen.1 seen.0
-    (goes c.args.sys.now (map head_view c.visits.walk.prefix.items) (map head_view c.go_on.new.walk.prefix.items) c.in_ok-go_on-in-Barren.field-0 false c.if-not-branch.true
-    (λ n done. c.in_ok-go_on-in-Barren.ensures.goes c.args.sys.now n c.visits.invariant.sound.of.heads_are done))
+    ends c.visits.invariant.paid seen.1
+    (λ n here. inl (goes c.args.sys.now (map head_view c.visits.walk.prefix.items) (map head_view c.go_on.new.walk.prefix.items) c.in_ok-go_on-in-Barren.field-0 false c.if-not-branch.true
+    (λ n done. c.in_ok-go_on-in-Barren.ensures.goes c.args.sys.now n c.visits.invariant.sound.of.heads_are done) seen.0 n here))
 
 pub returns-then-not-branch-clause-kept : goal.returns-then-not-branch-clause-kept
 returns-then-not-branch-clause-kept c =
-    let seen = c.in-Barren.ensures c.args.sys.now c.visits.invariant.sound (alive_before c.visits.invariant.paid) in still_kept c.visits.invariant.paid seen.1
+    let seen = c.in-Barren.ensures c.args.sys.now c.visits.invariant.sound (alive_before c.visits.invariant.paid) in spent_one c.visits.invariant.paid seen.1
 
 pub returns-in_err-go_on-in-Barren-clause-kept : goal.returns-in_err-go_on-in-Barren-clause-kept
 returns-in_err-go_on-in-Barren-clause-kept c =
-    let seen = c.in-Barren.ensures c.args.sys.now c.visits.invariant.sound (alive_before c.visits.invariant.paid) in still_kept c.visits.invariant.paid seen.1
+    let seen = c.in-Barren.ensures c.args.sys.now c.visits.invariant.sound (alive_before c.visits.invariant.paid) in spent_one c.visits.invariant.paid seen.1
 
 -- at a good one, and where no unit is left
 pub returns-in-Good-clause-answer : goal.returns-in-Good-clause-answer
 returns-in-Good-clause-answer c =
     let seen = c.in-Good.ensures c.args.sys.now c.visits.invariant.sound (alive_before c.visits.invariant.paid) in
-    first_good c.visits.invariant.paid seen.2 c.requires.fits seen.0 seen.1
+    ends c.visits.invariant.paid seen.2 (λ n here. found_there c.args.sys.now (map head_view c.visits.walk.prefix.items) n here seen.0 (c.requires.fits, seen.1))
 
 pub returns-in-Good-clause-kept : goal.returns-in-Good-clause-kept
 returns-in-Good-clause-kept c =
-    let seen = c.in-Good.ensures c.args.sys.now c.visits.invariant.sound (alive_before c.visits.invariant.paid) in still_kept c.visits.invariant.paid seen.2
+    let seen = c.in-Good.ensures c.args.sys.now c.visits.invariant.sound (alive_before c.visits.invariant.paid) in spent_one c.visits.invariant.paid seen.2
 
 pub returns-in-Unpaid-clause-answer : goal.returns-in-Unpaid-clause-answer
 returns-in-Unpaid-clause-answer c =
-    let seen = c.in-Unpaid.ensures c.args.sys.now c.visits.invariant.sound (alive_before c.visits.invariant.paid) in stopped c.visits.invariant.paid seen.2 seen.0 seen.1
+    let seen = c.in-Unpaid.ensures c.args.sys.now c.visits.invariant.sound (alive_before c.visits.invariant.paid) in
+    stops c.visits.invariant.paid seen.2 seen.1 (λ n here. stops_there c.args.sys.now (map head_view c.visits.walk.prefix.items) n here seen.0)
 
 pub returns-in-Unpaid-clause-kept : goal.returns-in-Unpaid-clause-kept
 returns-in-Unpaid-clause-kept c =

@@ -37,8 +37,8 @@ returns-in_default c =
     record {
       answer = subst (λ m. WalkAnswers quasi_item_cost (GivesQuasi c.args.sys.now (overlap_view c.args.overlap.now)) (map try_refuting (growths m)) c.args.budget.now
           c.try_way.new.budget (Ok c.in_ok-end.end)) all
-          (ends c.growths.invariant.walking c.try_way.new.budget (try_refuting (try_growth (i + 1)) ∷ []) (map try_refuting (growths_behind (i + 1) n)) (ap (map try_refuting) (next_behind i n c.growths-test.true))
-          c.in_ok-end.end c.in_default.not-Nothing c.in_ok-end.ensures.answer);
+          (ends c.growths.invariant.walking c.try_way.new.budget (try_refuting (try_growth (i + 1)) ∷ []) (map try_refuting (growths_behind (i + 1) n))
+          (ap (map try_refuting) (next_behind i n c.growths-test.true)) c.in_ok-end.end c.in_default.not-Nothing c.in_ok-end.ensures.answer);
       kept = kept_on c.args.budget.now c.growths.budget c.try_way.new.budget c.growths.invariant.kept c.in_ok-end.ensures.kept;
       knows = c.in_ok-end.ensures.knows;
     }
@@ -50,8 +50,8 @@ growths-preserved c =
     let below = c.growths-test.true in
     record {
       within = omega (arith, below);
-      walking = goes_on c.growths.invariant.walking c.try_way.new.budget (try_refuting (try_growth (i + 1)) ∷ []) (map try_refuting (growths_behind (i + 1) n)) (ap (map try_refuting) (next_behind i n c.growths-test.true))
-          c.in_ok-end.end c.in-Nothing.is c.in_ok-end.ensures.answer;
+      walking = goes_on c.growths.invariant.walking c.try_way.new.budget (try_refuting (try_growth (i + 1)) ∷ []) (map try_refuting (growths_behind (i + 1) n))
+          (ap (map try_refuting) (next_behind i n c.growths-test.true)) c.in_ok-end.end c.in-Nothing.is c.in_ok-end.ensures.answer;
       kept = kept_on c.args.budget.now c.growths.budget c.try_way.new.budget c.growths.invariant.kept c.in_ok-end.ensures.kept;
       knows = c.in_ok-end.ensures.knows;
     }

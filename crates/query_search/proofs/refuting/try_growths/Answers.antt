@@ -14,12 +14,12 @@ pub returns-in_default : goal.returns-in_default
 returns-in_default c =
     let n = length c.args.conds.now in
     let k = c.growths.before in
-    ends c.growths.invariant c.try_evidence.new.budget (try_refuting (try_growth (k + 1)) ∷ []) (map try_refuting (growths_behind (k + 1) n)) (ap (map try_refuting) (next_behind k n c.growths-test.true))
-    (reply_view c.in_ok-end.end) (not_nothing c.in_ok-end.end c.in_default.not-Exhausted) c.in_ok-end.ensures
+    ends c.growths.invariant c.try_evidence.new.budget (try_refuting (try_growth (k + 1)) ∷ []) (map try_refuting (growths_behind (k + 1) n))
+    (ap (map try_refuting) (next_behind k n c.growths-test.true)) (reply_view c.in_ok-end.end) (not_nothing c.in_ok-end.end c.in_default.not-Exhausted) c.in_ok-end.ensures
 
 pub growths-preserved : goal.growths-preserved
 growths-preserved c =
     let n = length c.args.conds.now in
     let k = c.growths.before in
-    goes_on c.growths.invariant c.try_evidence.new.budget (try_refuting (try_growth (k + 1)) ∷ []) (map try_refuting (growths_behind (k + 1) n)) (ap (map try_refuting) (next_behind k n c.growths-test.true))
-    (reply_view c.in_ok-end.end) (ap reply_view c.in-Exhausted.is) c.in_ok-end.ensures
+    goes_on c.growths.invariant c.try_evidence.new.budget (try_refuting (try_growth (k + 1)) ∷ []) (map try_refuting (growths_behind (k + 1) n))
+    (ap (map try_refuting) (next_behind k n c.growths-test.true)) (reply_view c.in_ok-end.end) (ap reply_view c.in-Exhausted.is) c.in_ok-end.ensures
