@@ -86,29 +86,3 @@ module _ (names : NameTable) (end : ℕ) (v : Version) (symbol : Item) (b : List
   pub symbol_run : (f : Naming → List Mark) (to : List Item) (r : List ℕ) (sa sb : Shared) → (f (name_of names) ≡ [] → ⊥) → Run names end (pairs_from v 1 ∷ []) f to b r sa sb
       → Run names end (symbol ∷ []) f to b r sa sb
   symbol_run f to r sa sb some x = record { walks = λ le items. walk_same (f (name_of names)) items _ some (x.walks le items); found = x.found; shares = x.shares }
-
--- what is read from the first overlap on is read from a symbol's line on
-pub symbol_where : {P : Place} {names : NameTable} {end : ℕ} {f : Naming → List Mark} {to : List Item} {s t : Reading} (v : Version) (n : ℕ) (i low behind : Item)
-    → SymbolAt v n i low behind → (s.refused ≡ None → BeginsEntry s.left.now) → (f (name_of names) ≡ [] → ⊥) → P (i ∷ []) s.left.now
-    → ReadsWhere P names end (pairs_from v 1 ∷ []) f to s t → ReadsWhere P names end (i ∷ []) f to s t
-symbol_where {P} {names} {end} {f} {to} {s} {t} v n i low behind at h some p x =
-    let same = λ (q : s.refused ≡ None). symbol_same v n i low behind at s.left.now (h q) in
-    record {
-      front = x.front;
-      on = goes_as _ _ (IsStoppedWhere P names end (pairs_from v 1 ∷ []) s.left.now s.shares) (IsStoppedWhere P names end (i ∷ []) s.left.now s.shares) s.refused t.refused
-          (λ q none. symbol_run names end v i s.left.now (same q) f to t.left.now s.shares t.shares some) (λ q o. symbol_stopped names end v i s.left.now (same q) P s.shares o p) x.on;
-    }
-
--- and behind a measure
-pub measure_where : {P : Place} {names : NameTable} {end : ℕ} {f : Naming → List Mark} {to : List Item} {s t : Reading} (v : Version) (m : MeasureCertificate) → HasMeasure v m
-    → (s.refused ≡ None → BeginsEntry s.left.now) → (f (name_of names) ≡ [] → ⊥) → P (behind_measure v m ∷ []) s.left.now → ReadsWhere P names end (pairs_from v 1 ∷ []) f to s t
-    → ReadsWhere P names end (behind_measure v m ∷ []) f to s t
-measure_where first_version m has h some p x = symbol_where first_version (entries_of m) _ _ _ (entry_at first_version (entries_of m)) h some p x
-measure_where second_version (linear_measure es) has h some p x = symbol_where second_version (suc (length es)) _ _ _ (entry_at second_version (suc (length es))) h some p x
-measure_where second_version (precedence_measure order) has h some p x = symbol_where second_version (suc (length order)) _ _ _ (head_at (suc (length order))) h some p x
-
--- ---- in the first version
-
-pub last_some_two : (ms : List Mark) (m n : Mark) → ms ++ m ∷ n ∷ [] ≡ [] → ⊥
-last_some_two [] m n e = cc
-last_some_two (k ∷ ms) m n e = cc

@@ -13,8 +13,7 @@ use Rattle.cert_laws.proofs.Paths.{first_sound, found_there}
 use Rattle.cert_laws.specs.FoundNames.{tagged, AreFound, AreWithoutStates}
 use Rattle.cert_openings.proofs.Back.{read_meant}
 use Rattle.cert_openings.specs.Laws.{IsReadTo}
-use Rattle.cert_reading.proofs.Stopping.{ran}
-use Rattle.cert_reading.specs.Whole.{CanShare, ReadsCertificate}
+use Rattle.cert_reading.specs.Shared.{CanShare}
 use Rattle.cert_sharing.proofs.PassShares.{Shows, IsCounted, AreShared, MeantFront, front_meant, text_meant, meant_automata}
 use Rattle.cert_sharing.proofs.SpeltShares.{front_marks, same_version}
 use Rattle.cert_sharing.specs.Fronts.{uses_with, AreLeft}
@@ -149,13 +148,3 @@ found_by v c names all given bytes s t fresh share p q r =
       subst (IsVersionText (version_of u) names bytes) (sym (k.same (λ f. refl) (shows v names all q) r.found))
           (subst (λ (b : List ℕ). IsVersionText (version_of u) names b k.certificate) (sym (walks_text names ms _ _ w ∙ append-nil (marks_text ms))) k.text),
     )
-
--- a text that is read to its end is that of the certificate
-pub whole_read : (names : NameTable) (bytes : List ℕ) (c : Certificate) (s t : Reading) → s.left.now ≡ bytes → s.shares ≡ nothing_shared → s.refused ≡ None → t.refused ≡ None
-    → t.left.now ≡ [] → ReadsCertificate names (length bytes) c s t → IsCertificateText names bytes c
-whole_read names bytes c s t begins fresh none still ends h =
-    let r = ran none still h.read in
-    let k = h.plain still in
-    found_by h.version c names h.shared h.given bytes s.shares t.shares fresh h.can_share k.0 k.1
-    (subst (λ (b : List ℕ). Run names (length bytes) (opening ∷ []) (λ u. certificate_marks u (uses_with h.version names h.shared) h.shared h.given c) [] b [] s.shares t.shares) begins
-    (subst (λ (b : List ℕ). Run names (length bytes) (opening ∷ []) (λ u. certificate_marks u (uses_with h.version names h.shared) h.shared h.given c) [] s.left.now b s.shares t.shares) ends r))

@@ -34,9 +34,6 @@ entries_first u n e es = ap (λ (ms : List Mark). ms ++ entries_marks u (suc n) 
 heads_first : (u : Naming) (n : ℕ) (h : Head) (hs : List Head) → heads_marks u n (h ∷ hs) ≡ heads_marks u n (h ∷ []) ++ heads_marks u (suc n) hs
 heads_first u n h hs = ap (λ (ms : List Mark). ms ++ heads_marks u (suc n) hs) (sym (append-nil _))
 
-pairs_first : (u : Naming) (w : Uses) (n : ℕ) (p : PairEntry) (ps : List PairEntry) → pairs_marks u w n (p ∷ ps) ≡ pairs_marks u w n (p ∷ []) ++ pairs_marks u w (suc n) ps
-pairs_first u w n p ps = ap (λ (ms : List Mark). ms ++ pairs_marks u w (suc n) ps) (sym (append-nil (pair_line_by u w n p)))
-
 redexes_first : (u : Naming) (w : Uses) (n : ℕ) (r : Redex) (rs : List Redex) → redexes_marks u w n (r ∷ rs) ≡ redexes_marks u w n (r ∷ []) ++ redexes_marks u w (suc n) rs
 redexes_first u w n r rs = ap (λ (ms : List Mark). ms ++ redexes_marks u w (suc n) rs) (sym (append-nil (redex_line_by u w n r)))
 
@@ -48,10 +45,6 @@ pub heads_push : {A : Type 0} (f : A → Head) (u : Naming) (n m : ℕ) (done : 
     → heads_marks u n (map f done) ++ heads_marks u m (f a ∷ []) ≡ heads_marks u n (map f (done ++ a ∷ []))
 heads_push f u n m done a e = push f (heads_marks u) (λ k. refl) (heads_first u) n m done a e
 
-pub pairs_push : {A : Type 0} (f : A → PairEntry) (u : Naming) (w : Uses) (n m : ℕ) (done : List A) (a : A) → m ≡ n + length done
-    → pairs_marks u w n (map f done) ++ pairs_marks u w m (f a ∷ []) ≡ pairs_marks u w n (map f (done ++ a ∷ []))
-pairs_push f u w n m done a e = push f (pairs_marks u w) (λ k. refl) (pairs_first u w) n m done a e
-
 pub redexes_push : {A : Type 0} (f : A → Redex) (u : Naming) (w : Uses) (n m : ℕ) (done : List A) (a : A) → m ≡ n + length done
     → redexes_marks u w n (map f done) ++ redexes_marks u w m (f a ∷ []) ≡ redexes_marks u w n (map f (done ++ a ∷ []))
 redexes_push f u w n m done a e = push f (redexes_marks u w) (λ k. refl) (redexes_first u w) n m done a e
@@ -59,10 +52,6 @@ redexes_push f u w n m done a e = push f (redexes_marks u w) (λ k. refl) (redex
 pub pairs_use : (v : Version) (all : List Automaton) (ps : List PairEntry) (p : PairEntry) → PairsUse v all ps → EvidenceUses v all p.evidence → PairsUse v all (ps ++ p ∷ [])
 pairs_use v all [] p h k = (k, tt)
 pairs_use v all (x ∷ ps) p h k = (h.0, pairs_use v all ps p h.1 k)
-
-pub plain_pairs : {A : Type 0} (v : Version) (all : List Automaton) (f : A → PairEntry) (done after : List A) (a : A) → after ≡ done ++ a ∷ [] → PairsUse v all (map f done)
-    → EvidenceUses v all (f a).evidence → PairsUse v all (map f after)
-plain_pairs v all f done after a e h k = subst (PairsUse v all) (sym (seen_push f done after a e)) (pairs_use v all (map f done) (f a) h k)
 
 pub plain_redexes : {A : Type 0} (v : Version) (all : List Automaton) (f : A → Redex) (done after : List A) (a : A) → after ≡ done ++ a ∷ [] → RedexesUse v all (map f done)
     → HasUsed v all (f a).evidence → RedexesUse v all (map f after)

@@ -25,7 +25,7 @@ pub use Rattle.cert_model.specs.EvidenceView.{automaton_view, transition_view, i
 pub use Rattle.cert_openings.proofs.Entries.{pick_stands}
 pub use Rattle.cert_openings.specs.Openings.{BeginsEntry, Opening, certificate_for}
 pub use Rattle.cert_reading.specs.Arguments.{argument_end, behind_argument}
-pub use Rattle.cert_reading.specs.Headings.{item_by, entries_of, behind_measure, first_marks, kind_mark, behind_kind, IsOfKind, behind_version}
+pub use Rattle.cert_reading.specs.Headings.{item_by, entries_of, behind_measure, first_marks, kind_mark, behind_version}
 pub use Rattle.cert_reading.specs.Lines.{line_marks}
 pub use Rattle.cert_reading.specs.Measures.{SymbolAt}
 pub use Rattle.cert_reading.specs.Plain.{HasUsed, EvidenceUses, PairsUse, RedexesUse, StepsUse, IsUsed, ApartUses, IsPlainBy}

@@ -38,10 +38,6 @@ pub known_still : {names : NameTable} {end : ℕ} {from to : List Item} {f : Nam
     → AreStill (f (name_of names)) → AreShared v names all end s → AreShared v names all end t
 known_still {names} {f = f} v all x still h = known_behind v all x [] (counts_still (f (name_of names)) still) h
 
-pub still_where : {P : Place} {names : NameTable} {end : ℕ} {from to : List Item} {f : Naming → List Mark} {s t : Reading} (v : Version) (all : List Automaton)
-    → ReadsWhere P names end from f to s t → AreStill (f (name_of names)) → AreShared v names all end s → AreShared v names all end t
-still_where {names = names} {f = f} v all x still h = known_where v all x [] (counts_still (f (name_of names)) still) h
-
 -- the front of a line of overlaps or redexes uses no automaton
 pub front_counts : (m : Mark) (first : ℕ) (p : List ℕ) (second : ℕ) → IsStill (demands_of m) → Counts (m ∷ line_marks first p second) []
 front_counts m first p second h = counts_still (m ∷ line_marks first p second) (h, (tt, (tt, (tt, (places_still p 0, (tt, (tt, (tt, tt))))))))

@@ -38,16 +38,3 @@ abbrev pub behind_measure : Version → MeasureCertificate → Item
 behind_measure first_version m = entries_from first_version (entries_of m)
 behind_measure second_version (linear_measure es) = entries_from second_version (suc (length es))
 behind_measure second_version (precedence_measure order) = heads_from (suc (length order))
-
--- a certificate of this kind, and its marks behind the line of its kind
-abbrev pub IsOfKind : Kind → Certificate → Type 0
-IsOfKind kind (ortho_certificate ps) = kind ≡ Ortho
-IsOfKind kind (quasi_certificate m ps) = kind ≡ Quasi
-IsOfKind kind (peak_certificate p) = kind ≡ Peak
-IsOfKind kind (simplified_certificate steps c) = ⊥
-
-abbrev pub behind_kind : Naming → Uses → Certificate → List Mark
-behind_kind u w (ortho_certificate ps) = pairs_marks u w 1 ps
-behind_kind u w (quasi_certificate m ps) = measure_marks u m ++ pairs_marks u w 1 ps
-behind_kind u w (peak_certificate p) = peak_marks u w p
-behind_kind u w (simplified_certificate steps c) = []

@@ -6,7 +6,7 @@ pub use Rattle.cert_grammar.specs.Prelude.{nothing_shared, redexes_marks, apart_
 pub use Rattle.cert_model.specs.CertificateView.{simp_view, head_view, linear_entry_view, measure_view, certificate_view, redex_view, apart_view, peak_view, pair_entry_view}
 pub use Rattle.cert_model.specs.EvidenceView.{automaton_view, transition_view, inf_evidence_view, pair_evidence_view}
 pub use Rattle.cert_openings.specs.Openings.{BeginsEntry}
-pub use Rattle.cert_reading.specs.Headings.{behind_measure, version_mark, behind_version, first_marks, kind_mark, item_by, behind_kind, IsOfKind}
+pub use Rattle.cert_reading.specs.Headings.{behind_measure, version_mark, behind_version, first_marks, kind_mark, item_by}
 pub use Rattle.cert_reading.specs.Plain.{StepsUse, IsUsed, HasUsed, EvidenceUses, IsPlainBy, RedexesUse, ApartUses, PairsUse}
 pub use Rattle.cert_reading.specs.Stops.{ReadsWhere, WithinOpening, BeforeEntries, Anywhere, WithinEntry}
 pub use Rattle.cert_reading.specs.Uses.{AreShared, version_by, automata_by, uses_by, use_between, use_item, AreKnown}
