@@ -1,11 +1,11 @@
 -- What is read along the marks of a certificate is its text: marks that pass, with symbols that are found, mean the certificate itself.
-use Rattle.cert_reading.proofs.Prelude.{◌≡◌, ◌+◌, ℕ, zero, suc, Bool, true, List, [], ◌∷◌, ◌++◌, length, drop, take, Option, None, refl, sym, ap, ◌∙◌, subst, arith, drop_at, append-nil}
+use Rattle.cert_reading.proofs.Prelude.{◌≡◌, ◌+◌, ℕ, zero, suc, Bool, true, List, [], ◌∷◌, ◌++◌, length, drop, take, Option, refl, sym, ap, ◌∙◌, subst, arith, drop_at, append-nil}
 use Rattle.cert_reading.proofs.Prelude.{Automaton, InfeasibilityEvidence, by_caps, by_automaton, PairEvidence, infeasible_pair, PairEntry, Redex, Apartness, by_normal_forms, by_rigid_caps}
 use Rattle.cert_reading.proofs.Prelude.{Simplification, dropped, inlined, Certificate, ortho_certificate, quasi_certificate, peak_certificate, simplified_certificate, NameTable, name_of}
 use Rattle.cert_reading.proofs.Prelude.{Version, first_version, second_version, version_of, IsOfVersion, used_by, used_by_evidence, used_by_pairs, used_by_redexes, used_by_apart}
 use Rattle.cert_reading.proofs.Prelude.{used_by_steps, automata_of, number_in, shared_by, AreAutomata, Naming, Mark, marks_text, automata_marks, certificate_marks, HaveNames, Pass, Shared}
 use Rattle.cert_reading.proofs.Prelude.{nothing_shared, behind_marks, PassShares, opening, IsVersionText, IsCertificateText, Lead, name_lead, leads, is_there, mark_of, taken, Left, pick}
-use Rattle.cert_reading.proofs.Prelude.{pick_number, Opening, certificate_for, pick_stands, with_begun, Reading, Walks, Run, walks_text, walks_pass, ArePlainAutomata, IsUsed, HasUsed}
+use Rattle.cert_reading.proofs.Prelude.{pick_number, Opening, certificate_for, pick_stands, with_begun, Walks, Run, walks_text, walks_pass, ArePlainAutomata, IsUsed, HasUsed}
 use Rattle.cert_reading.proofs.Prelude.{EvidenceUses, PairsUse, RedexesUse, ApartUses, StepsUse, IsPlainBy}
 use Rattle.cert_grammar.proofs.ScanWords.{name_is}
 use Rattle.cert_laws.proofs.PassEvidence.{AllOf}

@@ -1,5 +1,5 @@
 -- The marks of a body behind the line of its kind.
-use Rattle.cert_reading.proofs.Prelude.{◌≡◌, Bool, true, false, [], ◌∷◌, Option, Some, None, codes, ap, Certificate, simplified_certificate, Uses, IsUnsimplified, Naming, fixed, body_marks}
+use Rattle.cert_reading.proofs.Prelude.{Bool, true, false, [], ◌∷◌, Option, Some, None}
 use Rattle.cert_reading.proofs.Prelude.{AreStill, Kind, Ortho, Quasi, Peak, first_marks, kind_mark}
 
 -- its word asks nothing of shared automata

@@ -3,7 +3,6 @@ pub mod Opening
 pub mod EntryItems
 pub mod Chosen
 pub mod AutomatonMarks
-pub mod AutomataMarks
 pub mod UseReads
 pub mod DerivationMarks
 pub mod TermMarks

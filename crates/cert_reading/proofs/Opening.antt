@@ -4,7 +4,7 @@ use Rattle.cert_reading.proofs.Prelude.{arith, eqb-true, NameTable, Version, fir
 use Rattle.cert_reading.proofs.Prelude.{shared_line, body, between, line, any_number, pairs_from, entries_from, heads_from, measured_name, measured_condition, head_name, coefficients_behind}
 use Rattle.cert_reading.proofs.Prelude.{is_there, first_there, behind_automata, Shared, BeginsEntry, CertError, Reading, told, Choice, Run, IsStuckAt, front_same, went, stopped, Front}
 use Rattle.cert_reading.proofs.Prelude.{keyword_run, one_stop, stuck_stops, Place, ReadsWhere, IsBehind, AreBehind, BeginsList, BeforeEntries, WithinOpening, item_by, SymbolAt, Kind, Ortho}
-use Rattle.cert_reading.proofs.Prelude.{Quasi, Peak, Reads, Naming, Mark}
+use Rattle.cert_reading.proofs.Prelude.{Quasi, Peak, Reads, Naming, Mark, LinearEntry, linear_measure, behind_measure, length}
 use Rattle.cert_reading.proofs.Stopping.{word_where, low_unopened, pair_later}
 use Rattle.cert_words.specs.declared.error.CertError.TheVariants.{CertSyntax}
 
@@ -93,6 +93,10 @@ first_lines = record { bytes = codes "YES\n"; items = heading (Some true) ∷ []
 
 abbrev pub versions : Option Bool → List Choice
 versions given = record { bytes = codes "concon 1\n"; items = body first_version given ∷ [] } ∷ record { bytes = codes "concon 2\n"; items = shared_line given ∷ [] } ∷ []
+
+pub linear_behind : (v : Version) (es : List LinearEntry) → behind_measure v (linear_measure es) ≡ entries_from v (suc (length es))
+linear_behind first_version es = refl
+linear_behind second_version es = refl
 
 abbrev pub linear_line : Version → Choice
 linear_line v = record { bytes = codes "linear\n"; items = entries_from v 1 ∷ [] }

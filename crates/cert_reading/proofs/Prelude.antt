@@ -1,10 +1,10 @@
 -- The names from below that lemmas and answers cite, passed on from one place. Declares nothing.
 pub use Rattle.std.proofs.Common.{◌≡◌, ◌+◌, ℕ, suc, List, [], ◌∷◌, ◌++◌, length, map, codes, refl, sym, ap, ◌∙◌, arith, subst, append_assoc, ◌<◌, None, ◌≤◌, ◌-◌, inl, inr, ◌==◌, zero, Bool}
-pub use Rattle.std.proofs.Common.{true, false, Option, Some, IfSome, IsTrue, eqb-true, ap₂, drop, take, max, is_some, slice_get, ◌*◌, if◌then◌else◌}
+pub use Rattle.std.proofs.Common.{true, false, Option, Some, IfSome, IsTrue, eqb-true, ap₂, drop, take, max, is_some, slice_get, ◌*◌, if◌then◌else◌, nat_eq}
 pub use Rattle.std.proofs.lemmas.List.{append-nil, length-map, length_push, drop_at}
 pub use Rattle.cert_grammar.proofs.Views.{seen_push, first_pushed}
 pub use Rattle.cert_grammar.specs.Prelude.{largest, Version, Uses, Naming, Mark, fixed, word, numbers, pairs, redexes, in_range, is_few, number, coefficients_marks, entries_marks}
-pub use Rattle.cert_grammar.specs.Prelude.{heads_marks, simplifications_marks, infeasibility_marks, evidence_marks, pairs_marks, redexes_marks, Item, first_version, second_version}
+pub use Rattle.cert_grammar.specs.Prelude.{measured_marks, heads_marks, simplifications_marks, infeasibility_marks, evidence_marks, pairs_marks, redexes_marks, Item, first_version, second_version}
 pub use Rattle.cert_grammar.specs.Prelude.{fits_answer, is_answer, syntax, Lead, keyword, pair_or_end, heading, shared_line, body, between, line, any_number, pairs_from, entries_from}
 pub use Rattle.cert_grammar.specs.Prelude.{heads_from, measured_name, measured_condition, head_name, coefficients_behind, is_there, first_there, behind_automata, Shared, has_arity, symbol}
 pub use Rattle.cert_grammar.specs.Prelude.{behind, is_node, term_marks, arguments_marks, further_marks, Frame, node, term_closed, with_next, name_of, shared_automata, marks_text, number_for}

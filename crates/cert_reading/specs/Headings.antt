@@ -1,7 +1,7 @@
 -- The words with which certificates of each kind begin.
-use Rattle.std.specs.Prelude.{ℕ, suc, ◌≡◌, length, Bool, true, false, Option, List, [], ◌∷◌, ◌++◌, codes}
-use Rattle.certificates.specs.Certificates.{MeasureCertificate, linear_measure, precedence_measure, Certificate, ortho_certificate, quasi_certificate, peak_certificate, simplified_certificate}
-use Rattle.cert_grammar.specs.Prelude.{Version, first_version, second_version, Uses, Naming, Mark, fixed, word, fits_answer, answer_marks, pairs_marks, measure_marks, peak_marks, Item}
+use Rattle.std.specs.Prelude.{ℕ, suc, length, Bool, true, false, Option, List, [], ◌∷◌, ◌++◌, codes}
+use Rattle.certificates.specs.Certificates.{MeasureCertificate, linear_measure, precedence_measure}
+use Rattle.cert_grammar.specs.Prelude.{Version, first_version, second_version, Mark, fixed, word, fits_answer, answer_marks, Item}
 use Rattle.cert_grammar.specs.Prelude.{shared_line, body, pairs_from, entries_from, heads_from, measure, start_line}
 use Rattle.cert_reading.specs.declared.headings.Kind.{Kind}
 use Rattle.cert_reading.specs.declared.headings.Kind.TheVariants.{Ortho, Quasi, Peak}

@@ -10,7 +10,7 @@ use crate::lines::between_numbers;
 use crate::uses::Uses;
 use cert_grammar::MOST_PAIRS;
 use cert_model::PairEntry;
-use cert_words::{CertCount, Lead, Reading, choose, counted_or};
+use cert_words::{CertCount, Reading, counted_or, text};
 use cops_names::Names;
 use std::alloc::Global;
 
@@ -31,7 +31,7 @@ pub fn next_pair(
     ensures few { IfSome result (λ p. at.new.refused ≡ None → n ≤ MOST_PAIRS) }
 {
     if !counted_or(end, at, b"pair", CertCount::Pairs, n, b"end") {
-        choose(end, at, &[Lead::Text(b"\n")]);
+        text(end, at, b"\n");
         return None;
     }
     let (inner, pos, outer) = between_numbers(alloc, end, at);
