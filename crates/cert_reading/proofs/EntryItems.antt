@@ -33,12 +33,8 @@ module _ (names : NameTable) (end : ℕ) (v : Version) (symbol : Item) (b : List
   step_same items = by (first_there (pair_or_end v 1) b) refl
     where
       by : (x : Option Lead) → first_there (pair_or_end v 1) b ≡ x → step names (left_at end (symbol ∷ items) b) ≡ step names (left_at end (pairs_from v 1 ∷ items) b)
-      by None e =
-          ap (λ (y : Option Lead). step_lead names (left_at end (symbol ∷ items) b) y (symbol) items) (same.0 ∙ e) ∙ ap (λ (m : ℕ). refuses syntax ((end - length b) + m)) same.1
-          ∙ sym (ap (λ (y : Option Lead). step_lead names (left_at end (pairs_from v 1 ∷ items) b) y (pairs_from v 1) items) e)
-      by (Some a) e =
-          ap (λ (y : Option Lead). step_lead names (left_at end (symbol ∷ items) b) y (symbol) items) (same.0 ∙ e)
-          ∙ sym (ap (λ (y : Option Lead). step_lead names (left_at end (pairs_from v 1 ∷ items) b) y (pairs_from v 1) items) e)
+      by None e = rw (same.0, e, same.1) refl
+      by (Some a) e = rw (same.0, e) refl
 
   after_same : (items : List Item) (z : Shared) (o : Option Lead) (x : Step) → after_step (left_at end (symbol ∷ items) b) z o x ≡ after_step (left_at end (pairs_from v 1 ∷ items) b) z o x
   after_same items z o accepts = refl

@@ -111,28 +111,6 @@ when_false false f e p = let q : false ≡ true = f p in cc
 pub none_refused : (s : Reading) (P : CertError → Type 0) → s.refused ≡ None → IfSome s.refused P
 none_refused s P e = subst (λ (o : Option CertError). IfSome o P) (sym e) tt
 
--- the word of a kind, behind an answer
-pub kind_read : (P : Place) (names : NameTable) (end : ℕ) (i : Item) (given : Option Bool) (kind : Bool) (w : List ℕ) {v : List ℕ} (rest : List ℕ) (new : List Item) (s t : Reading)
-    (met : Bool) → P (i ∷ []) s.left.now → s.refused ≡ None → Front s.left.now i (keyword w (fits_answer kind given ∷ []) new) v rest
-    → met ≡ is_answer kind given → (met ≡ true → (t.left.now ≡ rest) × (t.refused ≡ s.refused) × (t.shares ≡ s.shares))
-    → (met ≡ false → (t.left.now ≡ s.left.now) × (t.refused ≡ Some (CertSyntax 0)) × (t.shares ≡ s.shares)) → ReadsWhere P names end (i ∷ []) (λ u. word w (fits_answer kind given ∷ []) ∷ []) new s t
-kind_read P names end i given kind w rest new s t met place none f m goes refused = by met refl
-  where
-    out : met ≡ false → IsStuckAt names end i s.left.now s.shares (Some (syntax, 0))
-    out q = one_stop names end f s.shares (Some (syntax, 0)) (rw (sym m ∙ q) refl)
-
-    by : (b : Bool) → met ≡ b → ReadsWhere P names end (i ∷ []) (λ u. word w (fits_answer kind given ∷ []) ∷ []) new s t
-    by true q =
-        let run : Run names end (i ∷ []) (λ u. word w (fits_answer kind given ∷ []) ∷ []) new s.left.now rest s.shares s.shares = keyword_run f (λ at. rw (sym m ∙ q) refl) tt in
-        word_where (λ x. place) (λ n. none_refused t (λ e. IsStuckAt names end i s.left.now s.shares (told e)) ((goes q).1 ∙ none))
-        (went none ((goes q).1 ∙ none) (front_same s.shares.texts t.shares.texts (ap (λ (z : Shared). z.texts) (goes q).2))
-        (subst (Run names end (i ∷ []) (λ u. word w (fits_answer kind given ∷ []) ∷ []) new s.left.now t.left.now s.shares) (sym (goes q).2)
-        (subst (λ (r : List ℕ). Run names end (i ∷ []) (λ u. word w (fits_answer kind given ∷ []) ∷ []) new s.left.now r s.shares s.shares) (sym (goes q).0) run)))
-    by false q =
-        word_where (λ x. place) (λ n. subst (λ (o : Option CertError). IfSome o (λ e. IsStuckAt names end i s.left.now s.shares (told e))) (sym (refused q).1) (out q))
-        (stopped (CertSyntax 0) none (refused q).1 (front_same s.shares.texts t.shares.texts (ap (λ (z : Shared). z.texts) (refused q).2))
-        (stuck_stops names end i s.left.now s.shares (Some (syntax, 0)) (out q)))
-
 -- ---- where no overlap and no last line may begin
 
 pub none_begins : (v : Version) (n : ℕ) (bytes : List ℕ) → (BeginsEntry bytes → ⊥) → first_there (pair_or_end v n) bytes ≡ None

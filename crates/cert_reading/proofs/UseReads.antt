@@ -3,7 +3,7 @@ use Rattle.cert_reading.proofs.Prelude.{◌≡◌, ◌≤◌, ◌-◌, ℕ, List
 use Rattle.cert_reading.proofs.Prelude.{first_version, second_version, Naming, Mark, fixed, demands_of, use_mark, texts_of, number_in, AllNew, Shared, Item, texts_length, pick, pick_number}
 use Rattle.cert_reading.proofs.Prelude.{IsStill, places_still, Counts, counts_still, counts_both, counts_put, counts_use, pick_stands, Reading, left_at, Run, Reads, read_run, open_before}
 use Rattle.cert_reading.proofs.Prelude.{walks_shorter, IsKnown, line_marks, AreShared, Place, ReadsWhere, AreStill}
-use Rattle.cert_reading.proofs.Stopping.{open_before_where, ran}
+use Rattle.cert_reading.proofs.Stopping.{open_before_where, ran, reads_anywhere}
 use Rattle.rewriting.proofs.Once.{same_some}
 
 -- marks behind which the same automata are known
@@ -21,17 +21,15 @@ known_on : (names : NameTable) (end : ℕ) (from to : List Item) (f : Naming →
 known_on names end from to f b r s t all ns c h x = (run_shorter names end from to f b r s t h.0 x, (h.1.0, run_texts names end from to f b r s t ns c h.0 x ∙ h.1.1))
 
 -- what is known is known behind marks that end no automaton
-pub known_behind : {names : NameTable} {end : ℕ} {from to : List Item} {f : Naming → List Mark} {s t : Reading} (v : Version) (all : List Automaton) → Reads names end from f to s t
-    → (ns : List ℕ) → Counts (f (name_of names)) ns → AreShared v names all end s → AreShared v names all end t
-known_behind first_version all x ns c h = tt
-known_behind {names} {end} {from} {to} {f} {s} {t} second_version all x ns c h = λ none. known_on names end from to f s.left.now t.left.now s.shares t.shares all ns c
-    (h (open_before x none)) (read_run none x)
-
 pub known_where : {P : Place} {names : NameTable} {end : ℕ} {from to : List Item} {f : Naming → List Mark} {s t : Reading} (v : Version) (all : List Automaton)
     → ReadsWhere P names end from f to s t → (ns : List ℕ) → Counts (f (name_of names)) ns → AreShared v names all end s → AreShared v names all end t
 known_where first_version all x ns c h = tt
 known_where {P} {names} {end} {from} {to} {f} {s} {t} second_version all x ns c h = λ none.
     known_on names end from to f s.left.now t.left.now s.shares t.shares all ns c (h (open_before_where x none)) (ran (open_before_where x none) none x)
+
+pub known_behind : {names : NameTable} {end : ℕ} {from to : List Item} {f : Naming → List Mark} {s t : Reading} (v : Version) (all : List Automaton) → Reads names end from f to s t
+    → (ns : List ℕ) → Counts (f (name_of names)) ns → AreShared v names all end s → AreShared v names all end t
+known_behind v all x ns c h = known_where v all (reads_anywhere x) ns c h
 
 -- the same of marks that ask nothing of shared automata
 pub known_still : {names : NameTable} {end : ℕ} {from to : List Item} {f : Naming → List Mark} {s t : Reading} (v : Version) (all : List Automaton) → Reads names end from f to s t
