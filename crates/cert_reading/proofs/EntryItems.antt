@@ -1,8 +1,8 @@
 -- Behind the entries of a measure, where an overlap or the last line begins, the text goes on as behind nothing.
 use Rattle.cert_grammar.specs.Prelude.{Step}
-use Rattle.cert_reading.proofs.Prelude.{◌≡◌, inl, inr, ◌+◌, ◌-◌, ℕ, List, [], ◌∷◌, length, codes, max, arith, Option, Some, None, refl, sym, ap, ◌∙◌, subst, NameTable, name_of}
-use Rattle.cert_reading.proofs.Prelude.{CertificateCause, syntax, Naming, Mark, Item, Lead, keyword, leads, pair_or_end, pairs_from, space, between, any_number, Version}
-use Rattle.cert_reading.proofs.Prelude.{is_few, entries, first_there, longest, Left, accepts, refuses, goes_on, step, step_lead, Shared, behind_marks, PassShares}
+use Rattle.cert_reading.proofs.Prelude.{◌≡◌, inl, inr, ℕ, List, [], ◌∷◌, codes, max, arith, Option, Some, None, refl, sym, ap, ◌∙◌, subst, NameTable, name_of}
+use Rattle.cert_reading.proofs.Prelude.{CertificateCause, Naming, Mark, Item, Lead, keyword, leads, pair_or_end, pairs_from, space, between, any_number, Version}
+use Rattle.cert_reading.proofs.Prelude.{is_few, entries, first_there, longest, Left, accepts, refuses, goes_on, step, Shared, behind_marks, PassShares}
 use Rattle.cert_reading.proofs.Prelude.{after_step, shared_step, with_begun, BeginsEntry, left_at, Walks, Run, RefusesAt}
 use Rattle.cert_reading.proofs.Prelude.{SymbolAt, Place, StopsWhere, IsStoppedWhere}
 

@@ -1,12 +1,11 @@
 -- The words of an opening, which are refused where they stand.
-use Rattle.cert_reading.proofs.Prelude.{◌≡◌, inl, inr, ◌<◌, ◌==◌, ℕ, zero, suc, Bool, true, false, List, [], ◌∷◌, ◌++◌, Option, Some, None, codes, IfSome, IsTrue, refl, sym, ap, ◌∙◌, subst}
-use Rattle.cert_reading.proofs.Prelude.{arith, eqb-true, NameTable, Version, first_version, second_version, fits_answer, is_answer, syntax, word, Item, Lead, keyword, pair_or_end, heading}
+use Rattle.cert_reading.proofs.Prelude.{◌≡◌, inl, inr, ◌<◌, ◌==◌, ℕ, zero, suc, Bool, true, false, List, [], ◌∷◌, ◌++◌, Option, Some, None, codes, IfSome, IsTrue, refl, sym, subst}
+use Rattle.cert_reading.proofs.Prelude.{arith, eqb-true, NameTable, Version, first_version, second_version, Item, Lead, pair_or_end, heading}
 use Rattle.cert_reading.proofs.Prelude.{shared_line, body, between, line, any_number, pairs_from, entries_from, heads_from, measured_name, measured_condition, head_name, coefficients_behind}
-use Rattle.cert_reading.proofs.Prelude.{is_there, first_there, behind_automata, Shared, BeginsEntry, CertError, Reading, told, Choice, Run, IsStuckAt, front_same, went, stopped, Front}
-use Rattle.cert_reading.proofs.Prelude.{keyword_run, one_stop, stuck_stops, Place, ReadsWhere, IsBehind, AreBehind, BeginsList, BeforeEntries, WithinOpening, item_by, SymbolAt, Kind, Ortho}
+use Rattle.cert_reading.proofs.Prelude.{is_there, first_there, behind_automata, BeginsEntry, CertError, Reading, told, Choice, IsStuckAt}
+use Rattle.cert_reading.proofs.Prelude.{ReadsWhere, IsBehind, AreBehind, BeginsList, BeforeEntries, WithinOpening, item_by, SymbolAt, Kind, Ortho}
 use Rattle.cert_reading.proofs.Prelude.{Quasi, Peak, Reads, Naming, Mark, LinearEntry, linear_measure, behind_measure, length}
 use Rattle.cert_reading.proofs.Stopping.{word_where, low_unopened, pair_later}
-use Rattle.cert_words.specs.declared.error.CertError.TheVariants.{CertSyntax}
 
 -- ---- places within an opening
 
