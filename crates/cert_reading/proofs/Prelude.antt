@@ -4,18 +4,17 @@ pub use Rattle.std.proofs.Common.{false, Option, Some, IfSome, IsTrue, eqb-true,
 pub use Rattle.std.proofs.lemmas.List.{append-nil, length-map, length_push, drop_at}
 pub use Rattle.cert_grammar.proofs.Views.{seen_push, first_pushed}
 pub use Rattle.cert_grammar.specs.Prelude.{largest, Version, Uses, Naming, Mark, fixed, word, numbers, pairs, redexes, in_range, is_few, number, coefficients_marks, entries_marks, measured_marks}
-pub use Rattle.cert_grammar.specs.Prelude.{heads_marks, simplifications_marks, infeasibility_marks, redexes_marks, Item, first_version, second_version, fits_answer, is_answer, syntax, Lead}
-pub use Rattle.cert_grammar.specs.Prelude.{keyword, pair_or_end, heading, shared_line, body, between, line, any_number, pairs_from, entries_from, heads_from, measured_name, measured_condition}
-pub use Rattle.cert_grammar.specs.Prelude.{head_name, coefficients_behind, is_there, first_there, behind_automata, Shared, has_arity, symbol, behind, is_node, term_marks, arguments_marks}
-pub use Rattle.cert_grammar.specs.Prelude.{further_marks, Frame, node, term_closed, with_next, name_of, shared_automata, marks_text, number_for, automata_marks, texts_of, AllNew, AreAutomata}
-pub use Rattle.cert_grammar.specs.Prelude.{behind_marks, PassShares, state, version_of, IsOfVersion, used_by, used_by_evidence, used_by_pairs, used_by_redexes, used_by_apart, used_by_steps}
-pub use Rattle.cert_grammar.specs.Prelude.{automata_of, number_in, shared_by, certificate_marks, HaveNames, Pass, nothing_shared, opening, IsVersionText, IsCertificateText, name_lead, leads}
-pub use Rattle.cert_grammar.specs.Prelude.{mark_of, taken, Left, CertificateCause, space, entries, longest, accepts, refuses, goes_on, step, step_lead, after_step, shared_step, automaton_marks}
-pub use Rattle.cert_grammar.specs.Prelude.{steps_mark, steps_marks, step_marks, derivations_marks, head_marks, accepting_marks, further_states_marks, states_marks, transitions_marks}
-pub use Rattle.cert_grammar.specs.Prelude.{derivations_left, text, evidence, infeasibility, demands_of, use_mark, shared_use, automata_left, automaton_end, shared_count, apart, derivation_marks}
-pub use Rattle.cert_grammar.specs.Prelude.{closing, apart_marks, start_line, redexes_from, coefficient, measure, too_many, rule_mark, derivations, steps_left, steps_of, is_number, states_behind}
-pub use Rattle.cert_grammar.specs.Prelude.{further_states, transitions_of, states, transitions, by_number, simplification_count, simplifications_of, simplified, next_argument, symbol_end}
-pub use Rattle.cert_grammar.specs.Prelude.{name_behind, term_behind, simplifications_left}
+pub use Rattle.cert_grammar.specs.Prelude.{heads_marks, simplifications_marks, infeasibility_marks, redexes_marks, Item, first_version, second_version, fits_answer, syntax, Lead, keyword}
+pub use Rattle.cert_grammar.specs.Prelude.{pair_or_end, heading, shared_line, body, between, line, any_number, pairs_from, entries_from, heads_from, measured_name, measured_condition, head_name}
+pub use Rattle.cert_grammar.specs.Prelude.{coefficients_behind, is_there, first_there, behind_automata, Shared, has_arity, symbol, behind, is_node, term_marks, arguments_marks, further_marks}
+pub use Rattle.cert_grammar.specs.Prelude.{Frame, node, term_closed, with_next, name_of, shared_automata, marks_text, number_for, automata_marks, texts_of, AllNew, AreAutomata, behind_marks}
+pub use Rattle.cert_grammar.specs.Prelude.{PassShares, state, version_of, IsOfVersion, used_by, used_by_evidence, used_by_pairs, used_by_redexes, used_by_steps, automata_of, number_in, shared_by}
+pub use Rattle.cert_grammar.specs.Prelude.{certificate_marks, HaveNames, Pass, nothing_shared, opening, IsVersionText, IsCertificateText, name_lead, leads, mark_of, taken, Left, CertificateCause}
+pub use Rattle.cert_grammar.specs.Prelude.{space, entries, longest, accepts, refuses, goes_on, step, after_step, shared_step, automaton_marks, steps_mark, steps_marks, step_marks}
+pub use Rattle.cert_grammar.specs.Prelude.{derivations_marks, head_marks, accepting_marks, further_states_marks, states_marks, transitions_marks, derivations_left, text, evidence, infeasibility}
+pub use Rattle.cert_grammar.specs.Prelude.{demands_of, use_mark, shared_use, automata_left, automaton_end, shared_count, apart, derivation_marks, closing, apart_marks, start_line, redexes_from}
+pub use Rattle.cert_grammar.specs.Prelude.{coefficient, measure, too_many, rule_mark, derivations, steps_left, steps_of, is_number, states_behind, further_states, transitions_of, states}
+pub use Rattle.cert_grammar.specs.Prelude.{transitions, by_number, simplification_count, simplifications_of, simplified, next_argument, symbol_end, name_behind, term_behind, simplifications_left}
 pub use Rattle.cert_grammar.specs.WordMarks.{numeral}
 pub use Rattle.cert_model.proofs.DerivationViews.{derivation_of_steps, step_of_rule, step_of_hypothesis}
 pub use Rattle.cert_model.specs.CertificateView.{apart_view, redex_view, linear_entry_view, head_view, pair_entry_view, simp_view}
@@ -27,7 +26,7 @@ pub use Rattle.cert_reading.specs.Arguments.{argument_end, behind_argument}
 pub use Rattle.cert_reading.specs.Headings.{item_by, behind_measure, first_marks, kind_mark}
 pub use Rattle.cert_reading.specs.Lines.{line_marks}
 pub use Rattle.cert_reading.specs.Measures.{SymbolAt}
-pub use Rattle.cert_reading.specs.Plain.{HasUsed, EvidenceUses, PairsUse, RedexesUse, StepsUse, IsUsed, ApartUses, IsPlainBy}
+pub use Rattle.cert_reading.specs.Plain.{EvidenceUses, PairsUse, RedexesUse, StepsUse, IsUsed, IsPlainBy}
 pub use Rattle.cert_reading.specs.Shared.{shared_marks, ArePlainAutomata, IsKnown, sealed_marks}
 pub use Rattle.cert_reading.specs.Stops.{Place, ReadsWhere, IsBehind, AreBehind, BeginsList, BeforeEntries, WithinOpening, StopsWhere, IsStoppedWhere, ReadsOnWhere, Anywhere, lowest, WithinEntry}
 pub use Rattle.cert_reading.specs.Uses.{AreShared, use_between, use_item, version_by, automata_by, uses_by, AreKnown}
@@ -38,19 +37,17 @@ pub use Rattle.cert_sharing.proofs.FirstUses.{pick, pick_number, texts_length}
 pub use Rattle.cert_sharing.proofs.UseMarks.{AreStill, still_marks, pass_split, behind_both, marked_texts, automata_behind, automata_new, automaton_behind, IsStill, places_still, Counts}
 pub use Rattle.cert_sharing.proofs.UseMarks.{counts_still, counts_both, counts_put, counts_use, still_both, term_still, derivation_still, numbers_of, counts_redexes, counts_pairs, counts_steps}
 pub use Rattle.cert_words.proofs.NodeReads.{suc_is, node_leads, refused_node, any_frame, frames, frames_deep}
-pub use Rattle.cert_words.proofs.Stepping.{Front, keyword_run, one_stop, stuck_stops, some_now, none_now, one, two, stuck_among, counted_there, counted_out, go, stop, arity_met, text_run, three}
-pub use Rattle.cert_words.proofs.Stepping.{front_of}
-pub use Rattle.cert_words.proofs.Walking.{then_reads, as_marks, then_nothing, as_reads, front_same, went, stopped, open_before, goes_as, already, walks_then, walks_shorter, stops_then, goes_then}
-pub use Rattle.cert_words.proofs.Walking.{goes_open, not_both, run_then, framed_run, as_run, front_then, read_run, framed}
+pub use Rattle.cert_words.proofs.Stepping.{keyword_run, one_stop, some_now, none_now, one, two, stuck_among, counted_there, counted_out, go, stop, arity_met, text_run, three, front_of}
+pub use Rattle.cert_words.proofs.Walking.{then_reads, as_marks, then_nothing, as_reads, open_before, goes_as, already, walks_then, walks_shorter, stops_then, goes_then, goes_open, not_both}
+pub use Rattle.cert_words.proofs.Walking.{run_then, framed_run, as_run, front_then, read_run, framed}
 pub use Rattle.cert_words.proofs.Whole.{walks_pass, walks_text}
 pub use Rattle.cert_words.specs.Choices.{Choice, Chosen, lead_of}
 pub use Rattle.cert_words.specs.Walks.{Reads, Run, IsStuckAt, Walks, AreWithoutStates, left_at, RefusesAt, BeginsAnew, IsStuckBehind, IsStopped, ReadsOn}
 pub use Rattle.cert_words.specs.Words.{told}
 pub use Rattle.cert_words.specs.declared.error.CertError.{CertError}
 pub use Rattle.cert_words.specs.declared.reading.Reading.{Reading}
-pub use Rattle.certificates.specs.Prelude.{PairEntry, LinearEntry, Redex, Simplification, dropped, inlined, Automaton, InfeasibilityEvidence, by_caps, by_automaton, PairEvidence, infeasible_pair}
-pub use Rattle.certificates.specs.Prelude.{Apartness, by_normal_forms, by_rigid_caps, Certificate, ortho_certificate, quasi_certificate, peak_certificate, simplified_certificate, linear_measure}
-pub use Rattle.certificates.specs.Prelude.{derivation_of, derivations_of, derivation_count, step_count}
+pub use Rattle.certificates.specs.Prelude.{PairEntry, LinearEntry, Simplification, dropped, inlined, Automaton, Certificate, ortho_certificate, quasi_certificate, peak_certificate}
+pub use Rattle.certificates.specs.Prelude.{simplified_certificate, linear_measure, derivation_of, derivations_of, derivation_count, step_count}
 pub use Rattle.cops_names.specs.NameTable.{NameTable, arity_at}
 pub use Rattle.rewriting.specs.Prelude.{Term, app, nil, terms_of, count, size, size_all}
 pub use Rattle.term_core.proofs.Views.{view-Var, view-Fun}
