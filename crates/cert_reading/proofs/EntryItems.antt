@@ -48,14 +48,11 @@ module _ (names : NameTable) (end : ℕ) (v : Version) (symbol : Item) (b : List
       ∙ ap (after_step (left_at end (symbol ∷ items) b) z (first_there (pair_or_end v 1) b)) (step_same items) ∙ after_same items z (first_there (pair_or_end v 1) b)
       (step names (left_at end (pairs_from v 1 ∷ items) b))
 
-  first_item : (items : List Item) (i : Item) (others : List Item) → pairs_from v 1 ∷ items ≡ i ∷ others → i ≡ pairs_from v 1
-  first_item items i others e = cc
-
   walk_same : (ms : List Mark) (items : List Item) (k : Left) → (ms ≡ [] → ⊥) → Walks names ms (left_at end (pairs_from v 1 ∷ items) b) k → Walks names ms (left_at end (symbol ∷ items) b) k
   walk_same [] items k some w = absurd (some refl)
   walk_same (m ∷ ms) items k some w =
       let s = w.1 in
-      let first = same.0 ∙ ap (λ (i : Item). first_there (leads i) b) (sym (first_item items s.item s.others s.items)) ∙ s.first in
+      let first : first_there (leads symbol) b ≡ Some s.lead = (let e : s.item ≡ pairs_from v 1 = (let is = s.items in cc) in same.0 ∙ (rw e at s.first)) in
       (w.0, record { item = symbol; others = items; items = refl; lead = s.lead; first = first; mark = s.mark; goes = step_same items ∙ s.goes }, w.2)
 
   stop_same : (P : Place) (ms : List Mark) (i : Item) (more : List Item) (rest : List ℕ) (sa : Shared) (e : CertificateCause × ℕ) → P (symbol ∷ []) b

@@ -1,10 +1,11 @@
 -- The words of an opening, which are refused where they stand.
-use Rattle.cert_reading.proofs.Prelude.{◌≡◌, inl, inr, ◌<◌, ◌==◌, ℕ, zero, suc, Bool, true, false, List, [], ◌∷◌, ◌++◌, Option, Some, None, codes, IfSome, IsTrue, refl, sym, subst}
+use Rattle.cert_reading.proofs.Prelude.{◌≡◌, inl, inr, ◌<◌, ◌==◌, ℕ, zero, suc, Bool, true, false, List, [], ◌∷◌, ◌++◌, Option, Some, None, codes, IfSome, refl, sym, subst}
 use Rattle.cert_reading.proofs.Prelude.{arith, eqb-true, NameTable, Version, first_version, second_version, Item, Lead, pair_or_end, heading}
 use Rattle.cert_reading.proofs.Prelude.{shared_line, body, between, line, any_number, pairs_from, entries_from, heads_from, measured_name, measured_condition, head_name, coefficients_behind}
 use Rattle.cert_reading.proofs.Prelude.{is_there, first_there, behind_automata, BeginsEntry, CertError, Reading, told, Choice, IsStuckAt}
 use Rattle.cert_reading.proofs.Prelude.{ReadsWhere, IsBehind, AreBehind, BeginsList, BeforeEntries, WithinOpening, item_by, SymbolAt, Kind, Ortho}
-use Rattle.cert_reading.proofs.Prelude.{Quasi, Peak, Reads, Naming, Mark, LinearEntry, linear_measure, behind_measure, length}
+use Rattle.cert_reading.proofs.Prelude.{Quasi, Peak, Reads, Naming, Mark, length}
+use Rattle.cert_reading.proofs.Prelude.{Chosen, already, length, ◌≤◌}
 use Rattle.cert_reading.proofs.Stopping.{word_where, low_unopened, pair_later}
 
 -- ---- places within an opening
@@ -86,6 +87,13 @@ head_at n = record {
 
 -- ---- the words
 
+-- what is chosen past the last text
+pub past : (names : NameTable) (end : ℕ) (i : Item) (cs : List Choice) (r : ℕ) (s t : Reading) (to : List Item) (marks : Naming → List Mark) → length cs ≤ r
+    → Chosen names end i cs r s t → Reads names end (i ∷ []) marks to s t
+past names end i [] r s t to marks h x = already x.0 x.1 x.2
+past names end i (c ∷ cs) zero s t to marks h x = absurd (omega (arith, h))
+past names end i (c ∷ cs) (suc r) s t to marks h x = past names end i cs r s t to marks (omega (arith, h)) x
+
 abbrev pub first_lines : List Choice
 first_lines = record { bytes = codes "YES\n"; items = heading (Some true) ∷ [] } ∷ record { bytes = codes "NO\n"; items = heading (Some false) ∷ [] }
     ∷ record { bytes = codes "concon 1\n"; items = body first_version None ∷ [] } ∷ record { bytes = codes "concon 2\n"; items = shared_line None ∷ [] } ∷ []
@@ -93,19 +101,11 @@ first_lines = record { bytes = codes "YES\n"; items = heading (Some true) ∷ []
 abbrev pub versions : Option Bool → List Choice
 versions given = record { bytes = codes "concon 1\n"; items = body first_version given ∷ [] } ∷ record { bytes = codes "concon 2\n"; items = shared_line given ∷ [] } ∷ []
 
-pub linear_behind : (v : Version) (es : List LinearEntry) → behind_measure v (linear_measure es) ≡ entries_from v (suc (length es))
-linear_behind first_version es = refl
-linear_behind second_version es = refl
-
 abbrev pub linear_line : Version → Choice
 linear_line v = record { bytes = codes "linear\n"; items = entries_from v 1 ∷ [] }
 
 abbrev pub order_line : Choice
 order_line = record { bytes = codes "lpo\n"; items = heads_from 1 ∷ [] }
-
-pub when_false : {P : Type 0} (t : Bool) → (P → IsTrue t) → t ≡ false → P → ⊥
-when_false true f e p = cc
-when_false false f e p = let q : false ≡ true = f p in cc
 
 pub none_refused : (s : Reading) (P : CertError → Type 0) → s.refused ≡ None → IfSome s.refused P
 none_refused s P e = subst (λ (o : Option CertError). IfSome o P) (sym e) tt

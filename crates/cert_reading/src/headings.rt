@@ -1,6 +1,6 @@
 //! The lines before the body of a certificate.
 
-ghost use Rattle.std.specs.Prelude.{◌≡◌, ◌++◌, ◌↔◌, ℕ, List, [], ◌∷◌, None, Some, Option, Bool, codes, map, IsTrue, IfSome, IfNone};
+ghost use Rattle.std.specs.Prelude.{◌≡◌, ◌++◌, ℕ, true, false, List, [], ◌∷◌, None, Some, Option, Bool, codes, map, IfSome, IfNone};
 ghost use Rattle.cert_reading.specs.Prelude.{NameTable, BeginsEntry, Version, is_answer, fixed, word, fits_answer, Item, body_leads, first_there, ReadsWhere, WithinOpening, BeforeEntries, version_mark};
 ghost use Rattle.cert_reading.specs.Prelude.{behind_version, first_marks, kind_mark, item_by};
 ghost use Rattle.cert_grammar.specs.Versions as versions;
@@ -140,7 +140,8 @@ pub fn simplified_word(end: usize, at: &mut Reading, given: Option<bool>) -> Opt
 
 /// Whether an overlap or the last line may begin here.
 pub fn begins_entry(bytes: &[u8]) -> bool
-    ensures { IsTrue result ↔ BeginsEntry bytes.now }
+    ensures begins { result ≡ true → BeginsEntry bytes.now }
+    ensures other { result ≡ false → BeginsEntry bytes.now → ⊥ }
 {
     matches!(bytes, [b'p' | b'e', ..])
 }

@@ -1,9 +1,6 @@
-use Rattle.cert_reading.proofs.Lemmas.{low_unopened, then_where, low_where, read_on, when_false}
+use Rattle.cert_reading.proofs.Lemmas.{low_unopened, then_where, low_where, read_on}
 use Rattle.cert_reading.proofs.Prelude.{[], ◌∷◌, refl, between, any_number, measured_name, measured_condition, then_reads, open_before, space, framed}
 use Rattle.cert_reading.proofs.measures.head.Goals as goal
-
-pub symbol_word-requires-clause-other : goal.symbol_word-requires-clause-other
-symbol_word-requires-clause-other c = when_false c.begins_entry.result c.begins_entry.ensures.1 c.if-begins_entry.false
 
 pub returns-then-symbol_word-clause-head : goal.returns-then-symbol_word-clause-head
 returns-then-symbol_word-clause-head c = λ v i low behind s.
