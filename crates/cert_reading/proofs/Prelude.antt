@@ -1,6 +1,6 @@
 -- The names from below that lemmas and answers cite, passed on from one place. Declares nothing.
 pub use Rattle.std.proofs.Common.{◌≡◌, ◌+◌, ℕ, suc, List, [], ◌∷◌, ◌++◌, length, map, codes, refl, sym, ap, ◌∙◌, arith, subst, append_assoc, ◌<◌, None, ◌≤◌, ◌-◌, inl, inr, ◌==◌, zero, Bool, true}
-pub use Rattle.std.proofs.Common.{false, Option, Some, IfSome, IsTrue, eqb-true, ap₂, drop, take, max, is_some, slice_get, ◌*◌, if◌then◌else◌, nat_eq}
+pub use Rattle.std.proofs.Common.{false, Option, Some, IfSome, eqb-true, ap₂, drop, take, max, is_some, slice_get, ◌*◌, if◌then◌else◌, nat_eq}
 pub use Rattle.std.proofs.lemmas.List.{append-nil, length-map, length_push, drop_at}
 pub use Rattle.cert_grammar.proofs.Views.{seen_push, first_pushed}
 pub use Rattle.cert_grammar.specs.Prelude.{largest, Version, Uses, Naming, Mark, fixed, word, numbers, pairs, redexes, in_range, is_few, number, coefficients_marks, entries_marks, measured_marks}
@@ -23,7 +23,7 @@ pub use Rattle.cert_model.specs.EvidenceView.{automaton_view, transition_view, i
 pub use Rattle.cert_openings.proofs.Entries.{pick_stands}
 pub use Rattle.cert_openings.specs.Openings.{BeginsEntry, Opening, certificate_for}
 pub use Rattle.cert_reading.specs.Arguments.{argument_end, behind_argument}
-pub use Rattle.cert_reading.specs.Headings.{item_by, behind_measure, first_marks, kind_mark}
+pub use Rattle.cert_reading.specs.Headings.{item_by, first_marks, kind_mark}
 pub use Rattle.cert_reading.specs.Lines.{line_marks}
 pub use Rattle.cert_reading.specs.Measures.{SymbolAt}
 pub use Rattle.cert_reading.specs.Plain.{EvidenceUses, PairsUse, RedexesUse, StepsUse, IsUsed, IsPlainBy}
@@ -46,8 +46,8 @@ pub use Rattle.cert_words.specs.Walks.{Reads, Run, IsStuckAt, Walks, AreWithoutS
 pub use Rattle.cert_words.specs.Words.{told}
 pub use Rattle.cert_words.specs.declared.error.CertError.{CertError}
 pub use Rattle.cert_words.specs.declared.reading.Reading.{Reading}
-pub use Rattle.certificates.specs.Prelude.{PairEntry, LinearEntry, Simplification, dropped, inlined, Automaton, Certificate, ortho_certificate, quasi_certificate, peak_certificate}
-pub use Rattle.certificates.specs.Prelude.{simplified_certificate, linear_measure, derivation_of, derivations_of, derivation_count, step_count}
+pub use Rattle.certificates.specs.Prelude.{PairEntry, Simplification, dropped, inlined, Automaton, Certificate, ortho_certificate, quasi_certificate, peak_certificate, simplified_certificate}
+pub use Rattle.certificates.specs.Prelude.{derivation_of, derivations_of, derivation_count, step_count}
 pub use Rattle.cops_names.specs.NameTable.{NameTable, arity_at}
 pub use Rattle.rewriting.specs.Prelude.{Term, app, nil, terms_of, count, size, size_all}
 pub use Rattle.term_core.proofs.Views.{view-Var, view-Fun}
