@@ -1,5 +1,5 @@
 -- What is read along the marks of a certificate is its text: marks that pass, with symbols that are found, mean the certificate itself.
-use Rattle.cert_reading.proofs.Prelude.{◌≡◌, ◌+◌, ℕ, zero, suc, Bool, true, List, [], ◌∷◌, ◌++◌, length, drop, take, Option, refl, sym, ap, ◌∙◌, subst, arith, drop_at, append-nil}
+use Rattle.cert_reading.proofs.Prelude.{◌≡◌, ◌+◌, ℕ, Bool, true, List, [], ◌∷◌, ◌++◌, length, drop, take, Option, refl, sym, ap, ◌∙◌, subst, arith, drop_at, append-nil}
 use Rattle.cert_reading.proofs.Prelude.{Automaton, PairEntry}
 use Rattle.cert_reading.proofs.Prelude.{Certificate, ortho_certificate, quasi_certificate, peak_certificate, simplified_certificate, NameTable, name_of}
 use Rattle.cert_reading.proofs.Prelude.{Version, first_version, second_version, version_of, IsOfVersion}
@@ -7,6 +7,7 @@ use Rattle.cert_reading.proofs.Prelude.{used_by_steps, automata_of, number_in, s
 use Rattle.cert_reading.proofs.Prelude.{nothing_shared, behind_marks, PassShares, opening, IsVersionText, IsCertificateText, Lead, name_lead, leads, is_there, mark_of, taken, Left, pick}
 use Rattle.cert_reading.proofs.Prelude.{pick_number, Opening, certificate_for, pick_stands, with_begun, Walks, Run, walks_text, walks_pass, ArePlainAutomata, IsUsed}
 use Rattle.cert_reading.proofs.Prelude.{IsPlainBy}
+use Rattle.std.proofs.Math.Seq.{drop-nil}
 use Rattle.cert_grammar.proofs.ScanWords.{name_is}
 use Rattle.cert_laws.proofs.PassEvidence.{AllOf}
 use Rattle.cert_reading.proofs.ListMarks.{all_both}
@@ -69,11 +70,7 @@ automata_within bs names p h =
 
 left_is : (v : Version) (names : NameTable) (c : Certificate) (all left : List Automaton) (s : Shared) → CanShare v all → AreLeft v names c left
     → IsCounted (version_of (uses_with v names all)) names c (shared_by names c ++ left) s → AreShared (uses_with v names all) all (shared_by names c ++ left) → left ≡ drop s.used all
-left_is first_version names c all left s none l k e = l ∙ sym (ap (drop s.used) none ∙ drop_nothing s.used)
-  where
-    drop_nothing : (n : ℕ) → drop {A = Automaton} n [] ≡ []
-    drop_nothing zero = refl
-    drop_nothing (suc n) = refl
+left_is first_version names c all left s none l k e = l ∙ sym (ap (drop s.used) none ∙ drop-nil s.used)
 left_is second_version names c all left s none l k e = sym (ap (drop s.used) e ∙ drop_at (shared_by names c) left s.used (sym k.0))
 
 pub front_found : (v : Version) (all : List Automaton) (names : NameTable) (bytes left : List ℕ) (given : Option Bool) (o : Opening) (es : List PairEntry) (at used : ℕ)

@@ -48,14 +48,14 @@ grown_so item marks done {after} b g e same = (
 )
 
 module _ {names : NameTable} {end : ℕ} {from : List Item} {s t u : Reading} {B : Type 0} (item : ℕ → Item) (marks : Naming → List B → List Mark) (done : List B) {after : List B} (b : B)
-    {g : Naming → List Mark} (grown : u.refused ≡ None → after ≡ done ++ b ∷ []) (same : (x : Naming) → marks x done ++ g x ≡ marks x (done ++ b ∷ [])) where
+    {g : Naming → List Mark} (grown : u.refused ≡ None → after ≡ done ++ b ∷ []) (same : u.refused ≡ None → (x : Naming) → marks x done ++ g x ≡ marks x (done ++ b ∷ [])) where
   pub next_reads : Reads names end from (λ x. marks x done) (item (length done) ∷ []) s t → Reads names end (item (length done) ∷ []) g (item (suc (length done)) ∷ []) t u
       → Reads names end from (λ x. marks x after) (item (length after) ∷ []) s u
-  next_reads before part = as_reads (λ none. grown_so item marks done b g (grown none) same) (then_reads before part)
+  next_reads before part = as_reads (λ none. grown_so item marks done b g (grown none) (same none)) (then_reads before part)
 
   pub next_where : {P : Place} → ReadsWhere P names end from (λ x. marks x done) (item (length done) ∷ []) s t
       → ReadsWhere P names end (item (length done) ∷ []) g (item (suc (length done)) ∷ []) t u → ReadsWhere P names end from (λ x. marks x after) (item (length after) ∷ []) s u
-  next_where before part = as_where (λ none. grown_so item marks done b g (grown none) same) (then_where before part)
+  next_where before part = as_where (λ none. grown_so item marks done b g (grown none) (same none)) (then_where before part)
 
 -- how many more there can be, if nothing is refused
 abbrev pub room : ℕ → ℕ → Option CertError → ℕ

@@ -27,7 +27,7 @@ pub use Rattle.cert_reading.specs.Headings.{item_by, first_marks, kind_mark}
 pub use Rattle.cert_reading.specs.Lines.{line_marks}
 pub use Rattle.cert_reading.specs.Measures.{SymbolAt}
 pub use Rattle.cert_reading.specs.Plain.{EvidenceUses, PairsUse, RedexesUse, StepsUse, IsUsed, IsPlainBy}
-pub use Rattle.cert_reading.specs.Shared.{shared_marks, ArePlainAutomata, IsKnown, sealed_marks}
+pub use Rattle.cert_reading.specs.Shared.{shared_marks, ArePlainAutomata, sealed_marks}
 pub use Rattle.cert_reading.specs.Stops.{Place, ReadsWhere, IsBehind, AreBehind, BeginsList, BeforeEntries, WithinOpening, StopsWhere, IsStoppedWhere, ReadsOnWhere, Anywhere, lowest, WithinEntry}
 pub use Rattle.cert_reading.specs.Uses.{AreShared, use_between, use_item, version_by, automata_by, uses_by, AreKnown}
 pub use Rattle.cert_reading.specs.declared.headings.Kind.{Kind}

@@ -48,7 +48,7 @@ redexes-preserved c =
     let was = λ (none : c.put.new.at.refused ≡ None). open_before (c.put.ensures.read names c.args.end []) none in
     record {
       read = next_reads (λ k. redexes_from v (suc k)) (λ u. redexes_marks u w 1) done r seen
-          (λ u. push (redexes_marks u w) (λ k r. word (codes "redex") (is_few redexes k ∷ []) ∷ (line_marks r.which r.position r.rule ++ infeasibility_marks u w r.evidence)) (λ k. refl) (λ k r rs. refl) 1 (suc (length done)) done _ (omega arith)) c.redexes.invariant.read (rw is at line);
+          (λ none u. push (redexes_marks u w) (λ k r. word (codes "redex") (is_few redexes k ∷ []) ∷ (line_marks r.which r.position r.rule ++ infeasibility_marks u w r.evidence)) (λ k. refl) (λ k r rs. refl) 1 (suc (length done)) done _ (omega arith)) c.redexes.invariant.read (rw is at line);
       plain = λ none. rw (seen none) (more_of (RedexesUse v all) (λ x xs ys. all_behind (IsUsed v all) (used_by x.evidence) (used_by_redexes xs) (used_by_redexes ys)) done _ (rw append-nil (c.infeasibility-evidence.ensures.plain (was none)))
           (c.redexes.invariant.plain (open_before line none)));
       known = known_behind v all (as_marks (λ none u. sym (append-nil _)) line) (numbers_of w (used_by_redexes (r ∷ []))) (counts_redexes (r ∷ []) (name_of names) w n) c.redexes.invariant.known;
