@@ -1,6 +1,7 @@
 -- Lists with one item more.
 use Rattle.cert_reading.proofs.Prelude.{◌≡◌, List, [], ◌∷◌, ◌++◌, codes, refl, sym, ap, append-nil, PairEntry, Simplification, dropped, inlined, Automaton, Version, Uses, Naming}
-use Rattle.cert_reading.proofs.Prelude.{IsUsed, used_by, used_by_evidence, used_by_pairs, used_by_steps, Mark, fixed, number, simplifications_marks, infeasibility_marks, EvidenceUses, PairsUse, StepsUse}
+use Rattle.cert_reading.proofs.Prelude.{IsUsed, used_by, used_by_evidence, used_by_pairs, used_by_steps, Mark, fixed, number, simplifications_marks, infeasibility_marks, EvidenceUses, PairsUse}
+use Rattle.cert_reading.proofs.Prelude.{StepsUse}
 use Rattle.cert_laws.proofs.PassEvidence.{AllOf, all_of}
 
 -- what is true of each item of a list is true with one more
@@ -21,7 +22,8 @@ pairs_use v all ps p h k = more_of (PairsUse v all) (λ x xs ys. all_behind (IsU
 
 -- steps that simplify the system
 pub steps_first : (u : Naming) (w : Uses) (s : Simplification) (ss : List Simplification) → simplifications_marks u w (s ∷ ss) ≡ simplifications_marks u w (s ∷ []) ++ simplifications_marks u w ss
-steps_first u w (dropped rule e) ss = ap (λ (ms : List Mark). ms ++ simplifications_marks u w ss) (sym (append-nil (fixed (codes "drop ") ∷ number rule ∷ fixed (codes " ") ∷ infeasibility_marks u w e)))
+steps_first u w (dropped rule e) ss =
+    ap (λ (ms : List Mark). ms ++ simplifications_marks u w ss) (sym (append-nil (fixed (codes "drop ") ∷ number rule ∷ fixed (codes " ") ∷ infeasibility_marks u w e)))
 steps_first u w (inlined rule condition) ss = refl
 
 pub steps_more : (v : Version) (all : List Automaton) (s : Simplification) (xs ys : List Simplification) → (StepsUse v all xs → StepsUse v all ys) → StepsUse v all (s ∷ xs) → StepsUse v all (s ∷ ys)

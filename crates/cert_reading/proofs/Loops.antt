@@ -41,7 +41,8 @@ module _ {names : NameTable} {end : ℕ} {from : List Item} {f : Naming → List
 -- ---- a part that is numbered
 
 grown_so : {B : Type 0} (item : ℕ → Item) (marks : Naming → List B → List Mark) (done : List B) {after : List B} (b : B) (g : Naming → List Mark) → after ≡ done ++ b ∷ []
-    → ((x : Naming) → marks x done ++ g x ≡ marks x (done ++ b ∷ [])) → (◌≡◌ {A = List Item} (item (suc (length done)) ∷ []) (item (length after) ∷ [])) × ((x : Naming) → marks x done ++ g x ≡ marks x after)
+    → ((x : Naming) → marks x done ++ g x ≡ marks x (done ++ b ∷ []))
+    → (◌≡◌ {A = List Item} (item (suc (length done)) ∷ []) (item (length after) ∷ [])) × ((x : Naming) → marks x done ++ g x ≡ marks x after)
 grown_so item marks done {after} b g e same = (
   let long = length_grown done b e in let more : suc (length done) ≡ length after = omega (arith, long) in ap (λ (j : ℕ). item j ∷ []) more,
   λ x. same x ∙ ap (marks x) (sym e),

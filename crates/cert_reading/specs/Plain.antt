@@ -1,7 +1,8 @@
 -- What the marks of values do not show: transitions from variables have no states, and an automaton that is used by its number
 -- is the one with that number.
 use Rattle.std.specs.Prelude.{◌≡◌, ◌≤◌, ◌-◌, ℕ, List, length, slice_get, Some}
-use Rattle.certificates.specs.Prelude.{Automaton, InfeasibilityEvidence, PairEvidence, PairEntry, Redex, Apartness, Simplification, Certificate, ortho_certificate, quasi_certificate, peak_certificate, simplified_certificate}
+use Rattle.certificates.specs.Prelude.{Automaton, InfeasibilityEvidence, PairEvidence, PairEntry, Redex, Apartness, Simplification, Certificate, ortho_certificate, quasi_certificate}
+use Rattle.certificates.specs.Prelude.{peak_certificate, simplified_certificate}
 use Rattle.cert_grammar.specs.Versions.{Version, HasMeasure, CanSimplify, first_version, second_version, used_by, used_by_evidence, used_by_pairs, used_by_redexes, used_by_apart, used_by_steps}
 use Rattle.cert_laws.proofs.PassEvidence.{AllOf}
 use Rattle.cert_words.specs.Walks.{AreWithoutStates}

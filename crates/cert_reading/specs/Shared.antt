@@ -2,7 +2,8 @@
 use Rattle.std.specs.Prelude.{◌≡◌, suc, List, [], ◌∷◌, ◌++◌, length, codes}
 use Rattle.certificates.specs.Evidence.{Automaton}
 use Rattle.cops_names.specs.NameTable.{NameTable}
-use Rattle.cert_grammar.specs.Prelude.{Version, first_version, second_version, largest, Naming, states, transitions, shared_automata, automaton_ends, in_range, is_few, shares, Mark, fixed, word, closed, number_for}
+use Rattle.cert_grammar.specs.Prelude.{Version, first_version, second_version, largest, Naming, states, transitions, shared_automata, automaton_ends, in_range, is_few, shares, Mark, fixed, word}
+use Rattle.cert_grammar.specs.Prelude.{closed, number_for}
 use Rattle.cert_grammar.specs.Prelude.{accepting_marks, transitions_marks, automaton_marks, automata_marks, texts_of, AllNew, Shared}
 use Rattle.cert_grammar.specs.WordMarks.{numeral}
 use Rattle.cert_laws.proofs.PassEvidence.{AllOf}

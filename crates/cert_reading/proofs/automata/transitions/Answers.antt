@@ -1,5 +1,6 @@
 use Rattle.cert_reading.proofs.Lemmas.{more_of, pushed, refused_reads, counted_more, one_more, none_left}
-use Rattle.cert_reading.proofs.Prelude.{[], ◌∷◌, codes, fixed, state, head_marks, ◌≡◌, ◌+◌, ◌++◌, refl, sym, ap, append-nil, List, Mark, map, None, seen_push, open_before, ◌-◌, transition_view, transitions_of, transitions_marks, AreWithoutStates}
+use Rattle.cert_reading.proofs.Prelude.{[], ◌∷◌, codes, fixed, state, head_marks, ◌≡◌, ◌+◌, ◌++◌, refl, sym, ap, append-nil, List, Mark, map, None, seen_push, open_before, ◌-◌, transition_view}
+use Rattle.cert_reading.proofs.Prelude.{transitions_of, transitions_marks, AreWithoutStates}
 use Rattle.cert_reading.proofs.automata.transitions.Goals as goal
 
 pub returns-then-is_some-clause-read : goal.returns-then-is_some-clause-read
@@ -19,7 +20,8 @@ transitions-preserved c =
           (sym (append-nil (head_marks u b t.symbol t.arguments ++ (fixed (codes " ") ∷ state b t.target ∷ fixed (codes "\n") ∷ []))))) (map transition_view items)
           (transition_view c.transition-next.result))) c.transitions.invariant.read (c.transition-next.ensures.read k) put;
       counted = λ none. counted_more transition_view items _ (c.put.ensures.grown none) (c.transitions.invariant.counted (was none));
-      plain = λ none. rw (seen none) (more_of AreWithoutStates (λ x xs ys g p. (p.0, g p.1)) (map transition_view items) _ (c.transition-next.ensures.plain, tt) (c.transitions.invariant.plain (was none)));
+      plain = λ none. rw (seen none) (more_of AreWithoutStates (λ x xs ys g p. (p.0, g p.1)) (map transition_view items) _
+          (c.transition-next.ensures.plain, tt) (c.transitions.invariant.plain (was none)));
     }
 
 pub returns-clause-read : goal.returns-clause-read

@@ -1,5 +1,6 @@
 use Rattle.cert_reading.proofs.Lemmas.{past, read_on, known_still}
-use Rattle.cert_reading.proofs.Prelude.{◌≡◌, List, codes, map, Version, first_version, second_version, space, line, derivations_left, leads, Choice, lead_of, [], ◌∷◌, refl, arith, any_number, then_reads, evidence, use_between, use_item, framed, version_by, automata_by}
+use Rattle.cert_reading.proofs.Prelude.{◌≡◌, List, codes, map, Version, first_version, second_version, space, line, derivations_left, leads, Choice, lead_of, [], ◌∷◌, refl, arith, any_number}
+use Rattle.cert_reading.proofs.Prelude.{then_reads, evidence, use_between, use_item, framed, version_by, automata_by}
 use Rattle.cert_reading.proofs.evidence.evidence.Goals as goal
 
 abbrev kinds : Version → List Choice

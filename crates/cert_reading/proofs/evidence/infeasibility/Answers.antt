@@ -1,5 +1,6 @@
 use Rattle.cert_reading.proofs.Lemmas.{read_on, known_still}
-use Rattle.cert_reading.proofs.Prelude.{◌≡◌, codes, Version, first_version, second_version, text, leads, [], ◌∷◌, refl, any_number, then_reads, infeasibility, use_between, use_item, framed, version_by, automata_by}
+use Rattle.cert_reading.proofs.Prelude.{◌≡◌, codes, Version, first_version, second_version, text, leads, [], ◌∷◌, refl, any_number, then_reads, infeasibility, use_between, use_item, framed}
+use Rattle.cert_reading.proofs.Prelude.{version_by, automata_by}
 use Rattle.cert_reading.proofs.evidence.infeasibility.Goals as goal
 
 are_infeasible : (v : Version) → leads (infeasibility v) ≡ text (codes "tcap\n") [] ∷ text (codes "auto ") (any_number (use_between v) ∷ use_item v ∷ []) ∷ []

@@ -1,5 +1,6 @@
 use Rattle.cert_reading.proofs.Lemmas.{low_unopened, entry_at, then_where, then_nothing_where, low_where, length_grown, next_where, push, room_less}
-use Rattle.cert_reading.proofs.Prelude.{measured_marks, ◌++◌, coefficients_marks, fixed, codes, ◌≡◌, ◌+◌, suc, [], ◌∷◌, length, map, refl, arith, seen_push, entries_from, entries_marks, coefficients_behind, open_before, then_nothing, length-map, linear_entry_view}
+use Rattle.cert_reading.proofs.Prelude.{measured_marks, ◌++◌, coefficients_marks, fixed, codes, ◌≡◌, ◌+◌, suc, [], ◌∷◌, length, map, refl, arith, seen_push, entries_from, entries_marks}
+use Rattle.cert_reading.proofs.Prelude.{coefficients_behind, open_before, then_nothing, length-map, linear_entry_view}
 use Rattle.cert_reading.proofs.measures.entries.Goals as goal
 
 pub entries-smaller : goal.entries-smaller
@@ -19,7 +20,8 @@ entries-preserved c = λ v.
     let line = then_where (c.in-Some.ensures.head v (entries_from v n) low (coefficients_behind 0) (entry_at v n)) (low_where low (low_unopened v low (entry_at v n).later)
     (then_nothing (c.coefficients-coeffs.ensures c.args.names.now) (c.put.ensures.read c.args.names.now c.args.end []))) in
     next_where (λ k. entries_from v (suc k)) (λ u. entries_marks u 1) done _ (λ none. seen_push linear_entry_view items _ _ (c.put.ensures.grown none))
-    (λ none u. push (entries_marks u) (λ k e. measured_marks u k e.head ++ (coefficients_marks 1 e.coefficients ++ (fixed (codes "\n") ∷ []))) (λ k. refl) (λ k e es. refl) 1 (suc (length done)) done _ (omega arith)) (c.entries.invariant v) (rw is at line)
+    (λ none u. push (entries_marks u) (λ k e. measured_marks u k e.head ++ (coefficients_marks 1 e.coefficients ++ (fixed (codes "\n") ∷ [])))
+    (λ k. refl) (λ k e es. refl) 1 (suc (length done)) done _ (omega arith)) (c.entries.invariant v) (rw is at line)
 
 pub returns-clause-read : goal.returns-clause-read
 returns-clause-read c = λ v.

@@ -1,5 +1,6 @@
 use Rattle.cert_reading.proofs.Lemmas.{word_where, other_place, linear_line, order_line}
-use Rattle.cert_reading.proofs.Prelude.{eqb-true, nat_eq, false, ◌≡◌, ℕ, zero, suc, List, [], ◌∷◌, codes, refl, NameTable, first_version, second_version, fixed, measure, entries_from, Reading, Choice, Chosen, Reads, already}
+use Rattle.cert_reading.proofs.Prelude.{eqb-true, nat_eq, false, ◌≡◌, ℕ, zero, suc, List, [], ◌∷◌, codes, refl, NameTable, first_version, second_version, fixed, measure, entries_from, Reading}
+use Rattle.cert_reading.proofs.Prelude.{Choice, Chosen, Reads, already}
 use Rattle.cert_reading.proofs.measures.measure_line.Goals as goal
 
 abbrev kinds : List Choice
@@ -18,7 +19,8 @@ returns-in-InFull-clause-linear c = λ q names. rw c.in-InFull.is (word_where (�
 
 pub returns-in-ByNumber-clause-linear : goal.returns-in-ByNumber-clause-linear
 returns-in-ByNumber-clause-linear c = λ q names. rw c.in-ByNumber.is (word_where (λ s. other_place (measure second_version) _ tt second_version)
-    (λ none. c.choose.ensures.here none names (measure second_version) kinds refl refl) (first_of_two names c.args.end _ _ _ q (c.choose.ensures.chosen names (measure second_version) kinds refl refl)))
+    (λ none. c.choose.ensures.here none names (measure second_version) kinds refl refl)
+    (first_of_two names c.args.end _ _ _ q (c.choose.ensures.chosen names (measure second_version) kinds refl refl)))
 
 pub returns-in-ByNumber-clause-order : goal.returns-in-ByNumber-clause-order
 returns-in-ByNumber-clause-order c = λ q names. word_where (λ s. other_place (measure second_version) _ tt second_version)

@@ -1,5 +1,6 @@
 use Rattle.cert_reading.proofs.Lemmas.{low_unopened, head_at, then_where, then_nothing_where, low_where, length_grown, next_where, push, room_less}
-use Rattle.cert_reading.proofs.Prelude.{measured_marks, ◌++◌, fixed, codes, ◌≡◌, ◌+◌, suc, [], ◌∷◌, length, map, refl, arith, seen_push, heads_from, heads_marks, between, line, open_before, then_nothing, length-map, head_view, second_version}
+use Rattle.cert_reading.proofs.Prelude.{measured_marks, ◌++◌, fixed, codes, ◌≡◌, ◌+◌, suc, [], ◌∷◌, length, map, refl, arith, seen_push, heads_from, heads_marks, between, line, open_before}
+use Rattle.cert_reading.proofs.Prelude.{then_nothing, length-map, head_view, second_version}
 use Rattle.cert_reading.proofs.measures.precedence.Goals as goal
 
 pub order-smaller : goal.order-smaller
@@ -19,7 +20,8 @@ order-preserved c =
     let line = then_where (c.in-Some.ensures.head second_version (heads_from n) low (between line) (head_at n)) (low_where low (low_unopened second_version low (head_at n).later)
     (then_nothing (c.text.ensures.read c.args.names.now (between line) [] refl) (c.put.ensures.read c.args.names.now c.args.end []))) in
     next_where (λ k. heads_from (suc k)) (λ u. heads_marks u 1) done _ (λ none. seen_push head_view items _ _ (c.put.ensures.grown none))
-    (λ none u. push (heads_marks u) (λ k h. measured_marks u k h ++ (fixed (codes "\n") ∷ [])) (λ k. refl) (λ k h hs. refl) 1 (suc (length done)) done _ (omega arith)) c.order.invariant (rw is at line)
+    (λ none u. push (heads_marks u) (λ k h. measured_marks u k h ++ (fixed (codes "\n") ∷ [])) (λ k. refl) (λ k h hs. refl) 1 (suc (length done)) done _ (omega arith))
+    c.order.invariant (rw is at line)
 
 pub returns-clause-read : goal.returns-clause-read
 returns-clause-read c =

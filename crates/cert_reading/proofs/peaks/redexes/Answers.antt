@@ -1,6 +1,8 @@
 use Rattle.cert_reading.proofs.Lemmas.{all_behind, at_front, front_counts, known_behind, length_grown, more_of, next_reads, push, refused_reads, room_less}
-use Rattle.cert_reading.proofs.Prelude.{between, line, ◌≡◌, ◌+◌, ◌++◌, suc, [], ◌∷◌, length, map, refl, sym, codes, arith, None, append-nil, length-map, seen_push, then_reads, then_nothing, framed, as_marks}
-use Rattle.cert_reading.proofs.Prelude.{open_before, none_now, name_of, word, redexes, is_few, infeasibility, redexes_from, redexes_marks, line_marks, infeasibility_marks, version_by, automata_by, uses_by, redex_view}
+use Rattle.cert_reading.proofs.Prelude.{between, line, ◌≡◌, ◌+◌, ◌++◌, suc, [], ◌∷◌, length, map, refl, sym, codes, arith, None, append-nil, length-map, seen_push, then_reads, then_nothing}
+use Rattle.cert_reading.proofs.Prelude.{framed, as_marks}
+use Rattle.cert_reading.proofs.Prelude.{open_before, none_now, name_of, word, redexes, is_few, infeasibility, redexes_from, redexes_marks, line_marks, infeasibility_marks, version_by, automata_by}
+use Rattle.cert_reading.proofs.Prelude.{uses_by, redex_view}
 use Rattle.cert_reading.proofs.Prelude.{IsUsed, used_by, RedexesUse, numbers_of, used_by_redexes, counts_redexes}
 use Rattle.cert_reading.proofs.peaks.redexes.Goals as goal
 
@@ -48,8 +50,11 @@ redexes-preserved c =
     let was = λ (none : c.put.new.at.refused ≡ None). open_before (c.put.ensures.read names c.args.end []) none in
     record {
       read = next_reads (λ k. redexes_from v (suc k)) (λ u. redexes_marks u w 1) done r seen
-          (λ none u. push (redexes_marks u w) (λ k r. word (codes "redex") (is_few redexes k ∷ []) ∷ (line_marks r.which r.position r.rule ++ infeasibility_marks u w r.evidence)) (λ k. refl) (λ k r rs. refl) 1 (suc (length done)) done _ (omega arith)) c.redexes.invariant.read (rw is at line);
-      plain = λ none. rw (seen none) (more_of (RedexesUse v all) (λ x xs ys. all_behind (IsUsed v all) (used_by x.evidence) (used_by_redexes xs) (used_by_redexes ys)) done _ (rw append-nil (c.infeasibility-evidence.ensures.plain (was none)))
+          (λ none u. push (redexes_marks u w)
+          (λ k r. word (codes "redex") (is_few redexes k ∷ []) ∷ (line_marks r.which r.position r.rule ++ infeasibility_marks u w r.evidence))
+          (λ k. refl) (λ k r rs. refl) 1 (suc (length done)) done _ (omega arith)) c.redexes.invariant.read (rw is at line);
+      plain = λ none. rw (seen none) (more_of (RedexesUse v all) (λ x xs ys. all_behind (IsUsed v all) (used_by x.evidence) (used_by_redexes xs) (used_by_redexes ys)) done _
+          (rw append-nil (c.infeasibility-evidence.ensures.plain (was none)))
           (c.redexes.invariant.plain (open_before line none)));
       known = known_behind v all (as_marks (λ none u. sym (append-nil _)) line) (numbers_of w (used_by_redexes (r ∷ []))) (counts_redexes (r ∷ []) (name_of names) w n) c.redexes.invariant.known;
     }

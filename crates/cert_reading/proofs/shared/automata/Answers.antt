@@ -1,4 +1,5 @@
-use Rattle.cert_reading.proofs.Lemmas.{more_of, pushed, open_before_where, low_where, other_below, automata_other, refused_where, counted_more, left_next, left_end, then_where, as_where, as_marks_where}
+use Rattle.cert_reading.proofs.Lemmas.{more_of, pushed, open_before_where, low_where, other_below, automata_other, refused_where, counted_more, left_next, left_end, then_where, as_where}
+use Rattle.cert_reading.proofs.Lemmas.{as_marks_where}
 use Rattle.cert_reading.proofs.Lemmas.{then_nothing_where}
 use Rattle.cert_reading.proofs.Prelude.{refl, sealed_marks, seen_push, map, automata_marks, ArePlainAutomata, ◌≡◌, ◌+◌, ℕ, [], ◌∷◌, None, behind_automata, open_before, ◌-◌, automaton_view}
 use Rattle.cert_reading.proofs.shared.automata.Goals as goal
@@ -18,7 +19,8 @@ automata-preserved c =
           (then_where (as_where (λ none. (left_next (λ (m : ℕ). behind_automata m given ∷ []) c.args.count c.automata.counter c.automata-test.true, λ u. refl)) (c.automata.invariant.read given))
           (then_nothing_where (c.shared_automaton-next.ensures.read k given) (low_where (behind_automata k given) (other_below (behind_automata k given) (automata_other k given)) put)));
       counted = λ none. counted_more automaton_view items _ (c.put.ensures.grown none) (c.automata.invariant.counted (was none));
-      plain = λ none. rw (seen none) (more_of ArePlainAutomata (λ x xs ys g p. (p.0, g p.1)) (map automaton_view items) _ (c.shared_automaton-next.ensures.plain (open_before put none), tt) (c.automata.invariant.plain (was none)));
+      plain = λ none. rw (seen none) (more_of ArePlainAutomata (λ x xs ys g p. (p.0, g p.1)) (map automaton_view items) _
+          (c.shared_automaton-next.ensures.plain (open_before put none), tt) (c.automata.invariant.plain (was none)));
     }
 
 pub returns-clause-read : goal.returns-clause-read

@@ -1,5 +1,6 @@
 use Rattle.cert_reading.proofs.Lemmas.{more_of, pushed, steps_first, steps_more, refused_reads, known_still, counted_more, one_more, none_left}
-use Rattle.cert_reading.proofs.Prelude.{[], ◌∷◌, ◌≡◌, ◌+◌, refl, seen_push, simplifications_marks, StepsUse, map, None, second_version, open_before, number_in, ◌-◌, automaton_view, simp_view, by_number, simplifications_of}
+use Rattle.cert_reading.proofs.Prelude.{[], ◌∷◌, ◌≡◌, ◌+◌, refl, seen_push, simplifications_marks, StepsUse, map, None, second_version, open_before, number_in, ◌-◌, automaton_view, simp_view}
+use Rattle.cert_reading.proofs.Prelude.{by_number, simplifications_of}
 use Rattle.cert_reading.proofs.simplifications.all_simplifications.Goals as goal
 
 pub returns-then-is_some-clause-read : goal.returns-then-is_some-clause-read
@@ -20,7 +21,8 @@ steps-preserved c =
           (λ none u. rw (seen none) (pushed (simplifications_marks u w) (λ x. simplifications_marks u w (x ∷ [])) refl (steps_first u w) (map simp_view items) _)) c.steps.invariant.read
           (c.simplification-next.ensures.read k) put;
       counted = λ none. counted_more simp_view items _ (c.put.ensures.grown none) (c.steps.invariant.counted (was none));
-      plain = λ none. rw (seen none) (more_of (StepsUse second_version all) (steps_more second_version all) (map simp_view items) _ (c.simplification-next.ensures.plain (open_before put none)) (c.steps.invariant.plain (was none)));
+      plain = λ none. rw (seen none) (more_of (StepsUse second_version all) (steps_more second_version all) (map simp_view items) _
+          (c.simplification-next.ensures.plain (open_before put none)) (c.steps.invariant.plain (was none)));
       known = known_still second_version all put tt c.simplification-next.ensures.known;
     }
 
