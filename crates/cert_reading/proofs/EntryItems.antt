@@ -1,11 +1,10 @@
 -- Behind the entries of a measure, where an overlap or the last line begins, the text goes on as behind nothing.
 use Rattle.cert_grammar.specs.Prelude.{Step}
-use Rattle.cert_reading.proofs.Prelude.{◌≡◌, inl, inr, ◌+◌, ◌-◌, ℕ, suc, List, [], ◌∷◌, ◌++◌, length, codes, max, arith, Option, Some, None, refl, sym, ap, ◌∙◌, subst, NameTable, name_of}
-use Rattle.cert_reading.proofs.Prelude.{CertificateCause, syntax, Naming, Mark, Item, Lead, keyword, leads, pair_or_end, pairs_from, space, between, any_number, Version, first_version}
-use Rattle.cert_reading.proofs.Prelude.{second_version, HasMeasure, is_few, entries, first_there, longest, Left, accepts, refuses, goes_on, step, step_lead, Shared, behind_marks, PassShares}
-use Rattle.cert_reading.proofs.Prelude.{after_step, shared_step, MeasureCertificate, linear_measure, precedence_measure, with_begun, BeginsEntry, Reading, left_at, Walks, Run, RefusesAt}
-use Rattle.cert_reading.proofs.Prelude.{goes_as, entries_of, behind_measure, SymbolAt, Place, StopsWhere, IsStoppedWhere, ReadsWhere}
-use Rattle.cert_reading.proofs.Opening.{entry_at, head_at}
+use Rattle.cert_reading.proofs.Prelude.{◌≡◌, inl, inr, ℕ, List, [], ◌∷◌, codes, max, arith, Option, Some, None, refl, sym, ap, ◌∙◌, subst, NameTable, name_of}
+use Rattle.cert_reading.proofs.Prelude.{CertificateCause, Naming, Mark, Item, Lead, keyword, leads, pair_or_end, pairs_from, space, between, any_number, Version}
+use Rattle.cert_reading.proofs.Prelude.{is_few, entries, first_there, longest, Left, accepts, refuses, goes_on, step, Shared, behind_marks, PassShares}
+use Rattle.cert_reading.proofs.Prelude.{after_step, shared_step, with_begun, BeginsEntry, left_at, Walks, Run, RefusesAt}
+use Rattle.cert_reading.proofs.Prelude.{SymbolAt, Place, StopsWhere, IsStoppedWhere}
 
 zero_most : (x : ℕ) → max 0 (max 0 x) ≡ x
 zero_most x = omega arith
@@ -34,12 +33,8 @@ module _ (names : NameTable) (end : ℕ) (v : Version) (symbol : Item) (b : List
   step_same items = by (first_there (pair_or_end v 1) b) refl
     where
       by : (x : Option Lead) → first_there (pair_or_end v 1) b ≡ x → step names (left_at end (symbol ∷ items) b) ≡ step names (left_at end (pairs_from v 1 ∷ items) b)
-      by None e =
-          ap (λ (y : Option Lead). step_lead names (left_at end (symbol ∷ items) b) y (symbol) items) (same.0 ∙ e) ∙ ap (λ (m : ℕ). refuses syntax ((end - length b) + m)) same.1
-          ∙ sym (ap (λ (y : Option Lead). step_lead names (left_at end (pairs_from v 1 ∷ items) b) y (pairs_from v 1) items) e)
-      by (Some a) e =
-          ap (λ (y : Option Lead). step_lead names (left_at end (symbol ∷ items) b) y (symbol) items) (same.0 ∙ e)
-          ∙ sym (ap (λ (y : Option Lead). step_lead names (left_at end (pairs_from v 1 ∷ items) b) y (pairs_from v 1) items) e)
+      by None e = rw (same.0, e, same.1) refl
+      by (Some a) e = rw (same.0, e) refl
 
   after_same : (items : List Item) (z : Shared) (o : Option Lead) (x : Step) → after_step (left_at end (symbol ∷ items) b) z o x ≡ after_step (left_at end (pairs_from v 1 ∷ items) b) z o x
   after_same items z o accepts = refl
@@ -53,14 +48,11 @@ module _ (names : NameTable) (end : ℕ) (v : Version) (symbol : Item) (b : List
       ∙ ap (after_step (left_at end (symbol ∷ items) b) z (first_there (pair_or_end v 1) b)) (step_same items) ∙ after_same items z (first_there (pair_or_end v 1) b)
       (step names (left_at end (pairs_from v 1 ∷ items) b))
 
-  first_item : (items : List Item) (i : Item) (others : List Item) → pairs_from v 1 ∷ items ≡ i ∷ others → i ≡ pairs_from v 1
-  first_item items i others e = cc
-
   walk_same : (ms : List Mark) (items : List Item) (k : Left) → (ms ≡ [] → ⊥) → Walks names ms (left_at end (pairs_from v 1 ∷ items) b) k → Walks names ms (left_at end (symbol ∷ items) b) k
   walk_same [] items k some w = absurd (some refl)
   walk_same (m ∷ ms) items k some w =
       let s = w.1 in
-      let first = same.0 ∙ ap (λ (i : Item). first_there (leads i) b) (sym (first_item items s.item s.others s.items)) ∙ s.first in
+      let first : first_there (leads symbol) b ≡ Some s.lead = (let e : s.item ≡ pairs_from v 1 = (let is = s.items in cc) in same.0 ∙ (rw e at s.first)) in
       (w.0, record { item = symbol; others = items; items = refl; lead = s.lead; first = first; mark = s.mark; goes = step_same items ∙ s.goes }, w.2)
 
   stop_same : (P : Place) (ms : List Mark) (i : Item) (more : List Item) (rest : List ℕ) (sa : Shared) (e : CertificateCause × ℕ) → P (symbol ∷ []) b
@@ -86,29 +78,3 @@ module _ (names : NameTable) (end : ℕ) (v : Version) (symbol : Item) (b : List
   pub symbol_run : (f : Naming → List Mark) (to : List Item) (r : List ℕ) (sa sb : Shared) → (f (name_of names) ≡ [] → ⊥) → Run names end (pairs_from v 1 ∷ []) f to b r sa sb
       → Run names end (symbol ∷ []) f to b r sa sb
   symbol_run f to r sa sb some x = record { walks = λ le items. walk_same (f (name_of names)) items _ some (x.walks le items); found = x.found; shares = x.shares }
-
--- what is read from the first overlap on is read from a symbol's line on
-pub symbol_where : {P : Place} {names : NameTable} {end : ℕ} {f : Naming → List Mark} {to : List Item} {s t : Reading} (v : Version) (n : ℕ) (i low behind : Item)
-    → SymbolAt v n i low behind → (s.refused ≡ None → BeginsEntry s.left.now) → (f (name_of names) ≡ [] → ⊥) → P (i ∷ []) s.left.now
-    → ReadsWhere P names end (pairs_from v 1 ∷ []) f to s t → ReadsWhere P names end (i ∷ []) f to s t
-symbol_where {P} {names} {end} {f} {to} {s} {t} v n i low behind at h some p x =
-    let same = λ (q : s.refused ≡ None). symbol_same v n i low behind at s.left.now (h q) in
-    record {
-      front = x.front;
-      on = goes_as _ _ (IsStoppedWhere P names end (pairs_from v 1 ∷ []) s.left.now s.shares) (IsStoppedWhere P names end (i ∷ []) s.left.now s.shares) s.refused t.refused
-          (λ q none. symbol_run names end v i s.left.now (same q) f to t.left.now s.shares t.shares some) (λ q o. symbol_stopped names end v i s.left.now (same q) P s.shares o p) x.on;
-    }
-
--- and behind a measure
-pub measure_where : {P : Place} {names : NameTable} {end : ℕ} {f : Naming → List Mark} {to : List Item} {s t : Reading} (v : Version) (m : MeasureCertificate) → HasMeasure v m
-    → (s.refused ≡ None → BeginsEntry s.left.now) → (f (name_of names) ≡ [] → ⊥) → P (behind_measure v m ∷ []) s.left.now → ReadsWhere P names end (pairs_from v 1 ∷ []) f to s t
-    → ReadsWhere P names end (behind_measure v m ∷ []) f to s t
-measure_where first_version m has h some p x = symbol_where first_version (entries_of m) _ _ _ (entry_at first_version (entries_of m)) h some p x
-measure_where second_version (linear_measure es) has h some p x = symbol_where second_version (suc (length es)) _ _ _ (entry_at second_version (suc (length es))) h some p x
-measure_where second_version (precedence_measure order) has h some p x = symbol_where second_version (suc (length order)) _ _ _ (head_at (suc (length order))) h some p x
-
--- ---- in the first version
-
-pub last_some_two : (ms : List Mark) (m n : Mark) → ms ++ m ∷ n ∷ [] ≡ [] → ⊥
-last_some_two [] m n e = cc
-last_some_two (k ∷ ms) m n e = cc

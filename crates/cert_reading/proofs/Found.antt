@@ -1,20 +1,21 @@
 -- What is read along the marks of a certificate is its text: marks that pass, with symbols that are found, mean the certificate itself.
-use Rattle.cert_reading.proofs.Prelude.{◌≡◌, ◌+◌, ℕ, zero, suc, Bool, true, List, [], ◌∷◌, ◌++◌, length, drop, take, Option, None, refl, sym, ap, ◌∙◌, subst, arith, drop_at, append-nil}
-use Rattle.cert_reading.proofs.Prelude.{Automaton, InfeasibilityEvidence, by_caps, by_automaton, PairEvidence, infeasible_pair, PairEntry, Redex, Apartness, by_normal_forms, by_rigid_caps}
-use Rattle.cert_reading.proofs.Prelude.{Simplification, dropped, inlined, Certificate, ortho_certificate, quasi_certificate, peak_certificate, simplified_certificate, NameTable, name_of}
-use Rattle.cert_reading.proofs.Prelude.{Version, first_version, second_version, version_of, IsOfVersion, used_by, used_by_evidence, used_by_pairs, used_by_redexes, used_by_apart}
+use Rattle.cert_reading.proofs.Prelude.{◌≡◌, ◌+◌, ℕ, Bool, true, List, [], ◌∷◌, ◌++◌, length, drop, take, Option, refl, sym, ap, ◌∙◌, subst, arith, drop_at, append-nil}
+use Rattle.cert_reading.proofs.Prelude.{Automaton, PairEntry}
+use Rattle.cert_reading.proofs.Prelude.{Certificate, ortho_certificate, quasi_certificate, peak_certificate, simplified_certificate, NameTable, name_of}
+use Rattle.cert_reading.proofs.Prelude.{Version, first_version, second_version, version_of, IsOfVersion}
 use Rattle.cert_reading.proofs.Prelude.{used_by_steps, automata_of, number_in, shared_by, AreAutomata, Naming, Mark, marks_text, automata_marks, certificate_marks, HaveNames, Pass, Shared}
 use Rattle.cert_reading.proofs.Prelude.{nothing_shared, behind_marks, PassShares, opening, IsVersionText, IsCertificateText, Lead, name_lead, leads, is_there, mark_of, taken, Left, pick}
-use Rattle.cert_reading.proofs.Prelude.{pick_number, Opening, certificate_for, pick_stands, with_begun, Reading, Walks, Run, walks_text, walks_pass, ArePlainAutomata, IsUsed, HasUsed}
-use Rattle.cert_reading.proofs.Prelude.{EvidenceUses, PairsUse, RedexesUse, ApartUses, StepsUse, IsPlainBy}
+use Rattle.cert_reading.proofs.Prelude.{pick_number, Opening, certificate_for, pick_stands, with_begun, Walks, Run, walks_text, walks_pass, ArePlainAutomata, IsUsed}
+use Rattle.cert_reading.proofs.Prelude.{IsPlainBy}
+use Rattle.std.proofs.Math.Seq.{drop-nil}
 use Rattle.cert_grammar.proofs.ScanWords.{name_is}
 use Rattle.cert_laws.proofs.PassEvidence.{AllOf}
+use Rattle.cert_reading.proofs.ListMarks.{all_both}
 use Rattle.cert_laws.proofs.Paths.{first_sound, found_there}
-use Rattle.cert_laws.specs.FoundNames.{tagged, AreFound, AreWithoutStates}
+use Rattle.cert_laws.specs.FoundNames.{tagged, AreFound}
 use Rattle.cert_openings.proofs.Back.{read_meant}
 use Rattle.cert_openings.specs.Laws.{IsReadTo}
-use Rattle.cert_reading.proofs.Stopping.{ran}
-use Rattle.cert_reading.specs.Whole.{CanShare, ReadsCertificate}
+use Rattle.cert_reading.specs.Shared.{CanShare}
 use Rattle.cert_sharing.proofs.PassShares.{Shows, IsCounted, AreShared, MeantFront, front_meant, text_meant, meant_automata}
 use Rattle.cert_sharing.proofs.SpeltShares.{front_marks, same_version}
 use Rattle.cert_sharing.specs.Fronts.{uses_with, AreLeft}
@@ -38,40 +39,11 @@ pub record Along (names : NameTable) (f : Naming → List Mark) : Type 0 where
 
 -- ---- what is known of automata that are used
 
-join_all : {A : Type 0} (P : A → Type 0) (a b : List A) → AllOf P a → AllOf P b → AllOf P (a ++ b)
-join_all P [] b h k = k
-join_all P (x ∷ a) b h k = (h.0, join_all P a b h.1 k)
-
-of_infeasibility : (v : Version) (all : List Automaton) (e : InfeasibilityEvidence) → HasUsed v all e → AllOf (IsUsed v all) (used_by e)
-of_infeasibility v all by_caps h = tt
-of_infeasibility v all (by_automaton k a) h = (h, tt)
-
-of_evidence : (v : Version) (all : List Automaton) (e : PairEvidence) → EvidenceUses v all e → AllOf (IsUsed v all) (used_by_evidence e)
-of_evidence v all (infeasible_pair e) h = of_infeasibility v all e h
-of_evidence v all _ h = tt
-
-of_pairs : (v : Version) (all : List Automaton) (ps : List PairEntry) → PairsUse v all ps → AllOf (IsUsed v all) (used_by_pairs ps)
-of_pairs v all [] h = tt
-of_pairs v all (p ∷ ps) h = join_all (IsUsed v all) (used_by_evidence p.evidence) (used_by_pairs ps) (of_evidence v all p.evidence h.0) (of_pairs v all ps h.1)
-
-of_redexes : (v : Version) (all : List Automaton) (rs : List Redex) → RedexesUse v all rs → AllOf (IsUsed v all) (used_by_redexes rs)
-of_redexes v all [] h = tt
-of_redexes v all (r ∷ rs) h = join_all (IsUsed v all) (used_by r.evidence) (used_by_redexes rs) (of_infeasibility v all r.evidence h.0) (of_redexes v all rs h.1)
-
-of_apart : (v : Version) (all : List Automaton) (a : Apartness) → ApartUses v all a → AllOf (IsUsed v all) (used_by_apart a)
-of_apart v all (by_normal_forms rs) h = of_redexes v all rs h
-of_apart v all by_rigid_caps h = tt
-
-of_steps : (v : Version) (all : List Automaton) (ss : List Simplification) → StepsUse v all ss → AllOf (IsUsed v all) (used_by_steps ss)
-of_steps v all [] h = tt
-of_steps v all (dropped r e ∷ ss) h = join_all (IsUsed v all) (used_by e) (used_by_steps ss) (of_infeasibility v all e h.0) (of_steps v all ss h.1)
-of_steps v all (inlined r k ∷ ss) h = of_steps v all ss h
-
 pub of_certificate : (v : Version) (all : List Automaton) (c : Certificate) → IsPlainBy v all c → AllOf (IsUsed v all) (automata_of c)
-of_certificate v all (ortho_certificate ps) h = of_pairs v all ps h
-of_certificate v all (quasi_certificate m ps) h = of_pairs v all ps h.1
-of_certificate v all (peak_certificate p) h = of_apart v all p.apart h
-of_certificate v all (simplified_certificate ss c) h = join_all (IsUsed v all) (used_by_steps ss) (automata_of c) (of_steps v all ss h.1) (of_certificate v all c h.2)
+of_certificate v all (ortho_certificate ps) h = h
+of_certificate v all (quasi_certificate m ps) h = h.1
+of_certificate v all (peak_certificate p) h = h
+of_certificate v all (simplified_certificate ss c) h = all_both (IsUsed v all) (used_by_steps ss) (automata_of c) h.1 (of_certificate v all c h.2)
 
 plain_version : (v : Version) (all : List Automaton) (c : Certificate) → IsPlainBy v all c → IsOfVersion v c
 plain_version v all (ortho_certificate ps) p = tt
@@ -79,15 +51,11 @@ plain_version v all (quasi_certificate m ps) p = p.0
 plain_version v all (peak_certificate x) p = tt
 plain_version v all (simplified_certificate ss c) p = p.0
 
-plain_states : (bs : List Automaton) → ArePlainAutomata bs → AllOf (λ b. AreWithoutStates b.transitions) bs
-plain_states [] p = tt
-plain_states (b ∷ bs) p = (p.0, plain_states bs p.1)
-
 -- its number tells an automaton
 shows : (v : Version) (names : NameTable) (all : List Automaton) → ArePlainAutomata all → Shows names (IsUsed v all) (uses_with v names all) all
 shows first_version names all p = λ a h. h
 shows second_version names all p = (
-  plain_states all p,
+  p,
   λ new a h.
       let there : pick all h.0 ≡ a = cc (pick_stands all h.0 h.1 h.2, h.3) in
       subst (λ (b : Automaton). pick all (number_in names all b) ≡ b) there (ap (pick all) (pick_number names all h.0 new h.1 h.2)),
@@ -96,17 +64,13 @@ shows second_version names all p = (
 pub automata_within : (bs : List Automaton) (names : NameTable) → ArePlainAutomata bs → Along names (λ u. automata_marks u bs) → AreAutomata names bs
 automata_within bs names p h =
     let m = meant_automata bs (name_of names) names h.named h.passed in
-    subst (AreAutomata names) (sym (m.same (λ f. refl) (plain_states bs p) h.found)) m.are
+    subst (AreAutomata names) (sym (m.same (λ f. refl) p h.found)) m.are
 
 -- ---- an opening and entries
 
 left_is : (v : Version) (names : NameTable) (c : Certificate) (all left : List Automaton) (s : Shared) → CanShare v all → AreLeft v names c left
     → IsCounted (version_of (uses_with v names all)) names c (shared_by names c ++ left) s → AreShared (uses_with v names all) all (shared_by names c ++ left) → left ≡ drop s.used all
-left_is first_version names c all left s none l k e = l ∙ sym (ap (drop s.used) none ∙ drop_nothing s.used)
-  where
-    drop_nothing : (n : ℕ) → drop {A = Automaton} n [] ≡ []
-    drop_nothing zero = refl
-    drop_nothing (suc n) = refl
+left_is first_version names c all left s none l k e = l ∙ sym (ap (drop s.used) none ∙ drop-nil s.used)
 left_is second_version names c all left s none l k e = sym (ap (drop s.used) e ∙ drop_at (shared_by names c) left s.used (sym k.0))
 
 pub front_found : (v : Version) (all : List Automaton) (names : NameTable) (bytes left : List ℕ) (given : Option Bool) (o : Opening) (es : List PairEntry) (at used : ℕ)
@@ -149,13 +113,3 @@ found_by v c names all given bytes s t fresh share p q r =
       subst (IsVersionText (version_of u) names bytes) (sym (k.same (λ f. refl) (shows v names all q) r.found))
           (subst (λ (b : List ℕ). IsVersionText (version_of u) names b k.certificate) (sym (walks_text names ms _ _ w ∙ append-nil (marks_text ms))) k.text),
     )
-
--- a text that is read to its end is that of the certificate
-pub whole_read : (names : NameTable) (bytes : List ℕ) (c : Certificate) (s t : Reading) → s.left.now ≡ bytes → s.shares ≡ nothing_shared → s.refused ≡ None → t.refused ≡ None
-    → t.left.now ≡ [] → ReadsCertificate names (length bytes) c s t → IsCertificateText names bytes c
-whole_read names bytes c s t begins fresh none still ends h =
-    let r = ran none still h.read in
-    let k = h.plain still in
-    found_by h.version c names h.shared h.given bytes s.shares t.shares fresh h.can_share k.0 k.1
-    (subst (λ (b : List ℕ). Run names (length bytes) (opening ∷ []) (λ u. certificate_marks u (uses_with h.version names h.shared) h.shared h.given c) [] b [] s.shares t.shares) begins
-    (subst (λ (b : List ℕ). Run names (length bytes) (opening ∷ []) (λ u. certificate_marks u (uses_with h.version names h.shared) h.shared h.given c) [] s.left.now b s.shares t.shares) ends r))

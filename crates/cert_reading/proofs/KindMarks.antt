@@ -1,15 +1,6 @@
 -- The marks of a body behind the line of its kind.
-use Rattle.cert_reading.proofs.Prelude.{◌≡◌, Bool, true, false, [], ◌∷◌, Option, Some, None, codes, ap, Certificate, simplified_certificate, Uses, IsUnsimplified, Naming, fixed, body_marks}
-use Rattle.cert_reading.proofs.Prelude.{AreStill, Kind, Ortho, Quasi, Peak, first_marks, kind_mark, behind_kind, IsOfKind}
-
-pub kind_marks : (u : Naming) (w : Uses) (given : Option Bool) (kind : Kind) (c : Certificate) → IsOfKind kind c
-    → kind_mark given kind ∷ fixed (codes "\n") ∷ behind_kind u w c ≡ body_marks u w given c
-kind_marks u w given kind (simplified_certificate ss c) e = absurd e
-kind_marks u w given kind c e = ap (λ (k : Kind). kind_mark given k ∷ fixed (codes "\n") ∷ behind_kind u w c) e
-
-pub kind_unsimplified : (kind : Kind) (c : Certificate) → IsOfKind kind c → IsUnsimplified c
-kind_unsimplified kind (simplified_certificate ss c) e = absurd e
-kind_unsimplified kind _ e = tt
+use Rattle.cert_reading.proofs.Prelude.{Bool, true, false, [], ◌∷◌, Option, Some, None}
+use Rattle.cert_reading.proofs.Prelude.{AreStill, Kind, Ortho, Quasi, Peak, first_marks, kind_mark}
 
 -- its word asks nothing of shared automata
 pub kind_still : (given : Option Bool) (kind : Kind) → AreStill (kind_mark given kind ∷ [])

@@ -1,14 +1,11 @@
 pub mod Stopping
 pub mod Opening
 pub mod EntryItems
-pub mod Chosen
 pub mod AutomatonMarks
-pub mod AutomataMarks
 pub mod UseReads
 pub mod DerivationMarks
 pub mod TermMarks
 pub mod ListMarks
-pub mod EvidenceKinds
 pub mod Found
 pub mod KindMarks
 pub mod SharedKnown

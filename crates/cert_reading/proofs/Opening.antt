@@ -1,12 +1,12 @@
 -- The words of an opening, which are refused where they stand.
-use Rattle.cert_reading.proofs.Prelude.{◌≡◌, inl, inr, ◌<◌, ◌==◌, ℕ, zero, suc, Bool, true, false, List, [], ◌∷◌, ◌++◌, Option, Some, None, codes, IfSome, IsTrue, refl, sym, ap, ◌∙◌, subst}
-use Rattle.cert_reading.proofs.Prelude.{arith, eqb-true, NameTable, Version, first_version, second_version, fits_answer, is_answer, syntax, word, Item, Lead, keyword, pair_or_end, heading}
+use Rattle.cert_reading.proofs.Prelude.{◌≡◌, inl, inr, ◌<◌, ◌==◌, ℕ, zero, suc, Bool, true, false, List, [], ◌∷◌, ◌++◌, Option, Some, None, codes, IfSome, refl, sym, subst}
+use Rattle.cert_reading.proofs.Prelude.{arith, eqb-true, NameTable, Version, first_version, second_version, Item, Lead, pair_or_end, heading}
 use Rattle.cert_reading.proofs.Prelude.{shared_line, body, between, line, any_number, pairs_from, entries_from, heads_from, measured_name, measured_condition, head_name, coefficients_behind}
-use Rattle.cert_reading.proofs.Prelude.{is_there, first_there, behind_automata, Shared, BeginsEntry, CertError, Reading, told, Choice, Run, IsStuckAt, front_same, went, stopped, Front}
-use Rattle.cert_reading.proofs.Prelude.{keyword_run, one_stop, stuck_stops, Place, ReadsWhere, IsBehind, AreBehind, BeginsList, BeforeEntries, WithinOpening, item_by, SymbolAt, Kind, Ortho}
-use Rattle.cert_reading.proofs.Prelude.{Quasi, Peak, Reads, Naming, Mark}
+use Rattle.cert_reading.proofs.Prelude.{is_there, first_there, behind_automata, BeginsEntry, CertError, Reading, told, Choice, IsStuckAt}
+use Rattle.cert_reading.proofs.Prelude.{ReadsWhere, IsBehind, AreBehind, BeginsList, BeforeEntries, WithinOpening, item_by, SymbolAt, Kind, Ortho}
+use Rattle.cert_reading.proofs.Prelude.{Quasi, Peak, Reads, Naming, Mark, length}
+use Rattle.cert_reading.proofs.Prelude.{Chosen, already, length, ◌≤◌}
 use Rattle.cert_reading.proofs.Stopping.{word_where, low_unopened, pair_later}
-use Rattle.cert_words.specs.declared.error.CertError.TheVariants.{CertSyntax}
 
 -- ---- places within an opening
 
@@ -87,6 +87,13 @@ head_at n = record {
 
 -- ---- the words
 
+-- what is chosen past the last text
+pub past : (names : NameTable) (end : ℕ) (i : Item) (cs : List Choice) (r : ℕ) (s t : Reading) (to : List Item) (marks : Naming → List Mark) → length cs ≤ r
+    → Chosen names end i cs r s t → Reads names end (i ∷ []) marks to s t
+past names end i [] r s t to marks h x = already x.0 x.1 x.2
+past names end i (c ∷ cs) zero s t to marks h x = absurd (omega (arith, h))
+past names end i (c ∷ cs) (suc r) s t to marks h x = past names end i cs r s t to marks (omega (arith, h)) x
+
 abbrev pub first_lines : List Choice
 first_lines = record { bytes = codes "YES\n"; items = heading (Some true) ∷ [] } ∷ record { bytes = codes "NO\n"; items = heading (Some false) ∷ [] }
     ∷ record { bytes = codes "concon 1\n"; items = body first_version None ∷ [] } ∷ record { bytes = codes "concon 2\n"; items = shared_line None ∷ [] } ∷ []
@@ -100,34 +107,8 @@ linear_line v = record { bytes = codes "linear\n"; items = entries_from v 1 ∷ 
 abbrev pub order_line : Choice
 order_line = record { bytes = codes "lpo\n"; items = heads_from 1 ∷ [] }
 
-pub when_false : {P : Type 0} (t : Bool) → (P → IsTrue t) → t ≡ false → P → ⊥
-when_false true f e p = cc
-when_false false f e p = let q : false ≡ true = f p in cc
-
 pub none_refused : (s : Reading) (P : CertError → Type 0) → s.refused ≡ None → IfSome s.refused P
 none_refused s P e = subst (λ (o : Option CertError). IfSome o P) (sym e) tt
-
--- the word of a kind, behind an answer
-pub kind_read : (P : Place) (names : NameTable) (end : ℕ) (i : Item) (given : Option Bool) (kind : Bool) (w : List ℕ) {v : List ℕ} (rest : List ℕ) (new : List Item) (s t : Reading)
-    (met : Bool) → P (i ∷ []) s.left.now → s.refused ≡ None → Front s.left.now i (keyword w (fits_answer kind given ∷ []) new) v rest
-    → met ≡ is_answer kind given → (met ≡ true → (t.left.now ≡ rest) × (t.refused ≡ s.refused) × (t.shares ≡ s.shares))
-    → (met ≡ false → (t.left.now ≡ s.left.now) × (t.refused ≡ Some (CertSyntax 0)) × (t.shares ≡ s.shares)) → ReadsWhere P names end (i ∷ []) (λ u. word w (fits_answer kind given ∷ []) ∷ []) new s t
-kind_read P names end i given kind w rest new s t met place none f m goes refused = by met refl
-  where
-    out : met ≡ false → IsStuckAt names end i s.left.now s.shares (Some (syntax, 0))
-    out q = one_stop names end f s.shares (Some (syntax, 0)) (rw (sym m ∙ q) refl)
-
-    by : (b : Bool) → met ≡ b → ReadsWhere P names end (i ∷ []) (λ u. word w (fits_answer kind given ∷ []) ∷ []) new s t
-    by true q =
-        let run : Run names end (i ∷ []) (λ u. word w (fits_answer kind given ∷ []) ∷ []) new s.left.now rest s.shares s.shares = keyword_run f (λ at. rw (sym m ∙ q) refl) tt in
-        word_where (λ x. place) (λ n. none_refused t (λ e. IsStuckAt names end i s.left.now s.shares (told e)) ((goes q).1 ∙ none))
-        (went none ((goes q).1 ∙ none) (front_same s.shares.texts t.shares.texts (ap (λ (z : Shared). z.texts) (goes q).2))
-        (subst (Run names end (i ∷ []) (λ u. word w (fits_answer kind given ∷ []) ∷ []) new s.left.now t.left.now s.shares) (sym (goes q).2)
-        (subst (λ (r : List ℕ). Run names end (i ∷ []) (λ u. word w (fits_answer kind given ∷ []) ∷ []) new s.left.now r s.shares s.shares) (sym (goes q).0) run)))
-    by false q =
-        word_where (λ x. place) (λ n. subst (λ (o : Option CertError). IfSome o (λ e. IsStuckAt names end i s.left.now s.shares (told e))) (sym (refused q).1) (out q))
-        (stopped (CertSyntax 0) none (refused q).1 (front_same s.shares.texts t.shares.texts (ap (λ (z : Shared). z.texts) (refused q).2))
-        (stuck_stops names end i s.left.now s.shares (Some (syntax, 0)) (out q)))
 
 -- ---- where no overlap and no last line may begin
 

@@ -2,45 +2,34 @@
 use Rattle.cert_reading.proofs.Prelude.{◌≡◌, ◌≤◌, ◌-◌, ℕ, List, [], ◌∷◌, ◌++◌, length, codes, slice_get, Some, None, sym, ap, ◌∙◌, arith, Automaton, NameTable, name_of, Version}
 use Rattle.cert_reading.proofs.Prelude.{first_version, second_version, Naming, Mark, fixed, demands_of, use_mark, texts_of, number_in, AllNew, Shared, Item, texts_length, pick, pick_number}
 use Rattle.cert_reading.proofs.Prelude.{IsStill, places_still, Counts, counts_still, counts_both, counts_put, counts_use, pick_stands, Reading, left_at, Run, Reads, read_run, open_before}
-use Rattle.cert_reading.proofs.Prelude.{walks_shorter, IsKnown, line_marks, AreShared, Place, ReadsWhere, AreStill}
-use Rattle.cert_reading.proofs.Stopping.{open_before_where, ran}
+use Rattle.cert_reading.proofs.Prelude.{walks_shorter, line_marks, AreShared, Place, ReadsWhere, AreStill}
+use Rattle.cert_reading.proofs.Stopping.{open_before_where, ran, reads_anywhere}
 use Rattle.rewriting.proofs.Once.{same_some}
-
--- marks behind which the same automata are known
-run_texts : (names : NameTable) (end : ℕ) (from to : List Item) (f : Naming → List Mark) (b r : List ℕ) (s t : Shared) (ns : List ℕ) → Counts (f (name_of names)) ns
-    → length b ≤ end → Run names end from f to b r s t → t.texts ≡ s.texts
-run_texts names end from to f b r s t ns c le x = sym (ap (λ (z : Shared). z.texts) (x.shares le []).1) ∙ ap (λ (z : Shared). z.texts) (c.after s.texts [] s.used s.unfolds_to).1
 
 pub run_shorter : (names : NameTable) (end : ℕ) (from to : List Item) (f : Naming → List Mark) (b r : List ℕ) (s t : Shared) → length b ≤ end → Run names end from f to b r s t → length r ≤ end
 run_shorter names end from to f b r s t le x =
     let less = walks_shorter names (f (name_of names)) (left_at end (from ++ []) b) (left_at end (to ++ []) r) (x.walks le []) in
     omega (arith, le, less)
 
-known_on : (names : NameTable) (end : ℕ) (from to : List Item) (f : Naming → List Mark) (b r : List ℕ) (s t : Shared) (all : List Automaton) (ns : List ℕ)
-    → Counts (f (name_of names)) ns → (length b ≤ end) × IsKnown names all s → Run names end from f to b r s t → (length r ≤ end) × IsKnown names all t
-known_on names end from to f b r s t all ns c h x = (run_shorter names end from to f b r s t h.0 x, (h.1.0, run_texts names end from to f b r s t ns c h.0 x ∙ h.1.1))
-
 -- what is known is known behind marks that end no automaton
-pub known_behind : {names : NameTable} {end : ℕ} {from to : List Item} {f : Naming → List Mark} {s t : Reading} (v : Version) (all : List Automaton) → Reads names end from f to s t
-    → (ns : List ℕ) → Counts (f (name_of names)) ns → AreShared v names all end s → AreShared v names all end t
-known_behind first_version all x ns c h = tt
-known_behind {names} {end} {from} {to} {f} {s} {t} second_version all x ns c h = λ none. known_on names end from to f s.left.now t.left.now s.shares t.shares all ns c
-    (h (open_before x none)) (read_run none x)
-
 pub known_where : {P : Place} {names : NameTable} {end : ℕ} {from to : List Item} {f : Naming → List Mark} {s t : Reading} (v : Version) (all : List Automaton)
     → ReadsWhere P names end from f to s t → (ns : List ℕ) → Counts (f (name_of names)) ns → AreShared v names all end s → AreShared v names all end t
 known_where first_version all x ns c h = tt
 known_where {P} {names} {end} {from} {to} {f} {s} {t} second_version all x ns c h = λ none.
-    known_on names end from to f s.left.now t.left.now s.shares t.shares all ns c (h (open_before_where x none)) (ran (open_before_where x none) none x)
+    let was = open_before_where x none in
+    let known = h was in
+    let r = ran was none x in
+    let texts = sym (ap (λ (z : Shared). z.texts) (r.shares known.0 []).1) ∙ ap (λ (z : Shared). z.texts) (c.after s.shares.texts [] s.shares.used s.shares.unfolds_to).1 in
+    (run_shorter names end from to f s.left.now t.left.now s.shares t.shares known.0 r, (known.1.0, texts ∙ known.1.1))
+
+pub known_behind : {names : NameTable} {end : ℕ} {from to : List Item} {f : Naming → List Mark} {s t : Reading} (v : Version) (all : List Automaton) → Reads names end from f to s t
+    → (ns : List ℕ) → Counts (f (name_of names)) ns → AreShared v names all end s → AreShared v names all end t
+known_behind v all x ns c h = known_where v all (reads_anywhere x) ns c h
 
 -- the same of marks that ask nothing of shared automata
 pub known_still : {names : NameTable} {end : ℕ} {from to : List Item} {f : Naming → List Mark} {s t : Reading} (v : Version) (all : List Automaton) → Reads names end from f to s t
     → AreStill (f (name_of names)) → AreShared v names all end s → AreShared v names all end t
 known_still {names} {f = f} v all x still h = known_behind v all x [] (counts_still (f (name_of names)) still) h
-
-pub still_where : {P : Place} {names : NameTable} {end : ℕ} {from to : List Item} {f : Naming → List Mark} {s t : Reading} (v : Version) (all : List Automaton)
-    → ReadsWhere P names end from f to s t → AreStill (f (name_of names)) → AreShared v names all end s → AreShared v names all end t
-still_where {names = names} {f = f} v all x still h = known_where v all x [] (counts_still (f (name_of names)) still) h
 
 -- the front of a line of overlaps or redexes uses no automaton
 pub front_counts : (m : Mark) (first : ℕ) (p : List ℕ) (second : ℕ) → IsStill (demands_of m) → Counts (m ∷ line_marks first p second) []

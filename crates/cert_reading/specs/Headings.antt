@@ -1,7 +1,7 @@
 -- The words with which certificates of each kind begin.
-use Rattle.std.specs.Prelude.{ℕ, suc, ◌≡◌, length, Bool, true, false, Option, List, [], ◌∷◌, ◌++◌, codes}
-use Rattle.certificates.specs.Certificates.{MeasureCertificate, linear_measure, precedence_measure, Certificate, ortho_certificate, quasi_certificate, peak_certificate, simplified_certificate}
-use Rattle.cert_grammar.specs.Prelude.{Version, first_version, second_version, Uses, Naming, Mark, fixed, word, fits_answer, answer_marks, pairs_marks, measure_marks, peak_marks, Item}
+use Rattle.std.specs.Prelude.{suc, length, Bool, true, false, Option, List, [], ◌∷◌, ◌++◌, codes}
+use Rattle.certificates.specs.Certificates.{MeasureCertificate, linear_measure, precedence_measure}
+use Rattle.cert_grammar.specs.Prelude.{Version, first_version, Mark, fixed, word, fits_answer, answer_marks, Item}
 use Rattle.cert_grammar.specs.Prelude.{shared_line, body, pairs_from, entries_from, heads_from, measure, start_line}
 use Rattle.cert_reading.specs.declared.headings.Kind.{Kind}
 use Rattle.cert_reading.specs.declared.headings.Kind.TheVariants.{Ortho, Quasi, Peak}
@@ -28,26 +28,7 @@ item_by v Ortho = pairs_from v 1
 item_by v Quasi = measure v
 item_by v Peak = start_line v
 
--- the number of the entry behind those of a measure
-abbrev pub entries_of : MeasureCertificate → ℕ
-entries_of (linear_measure es) = suc (length es)
-entries_of (precedence_measure order) = 0
-
 -- what is left behind a measure: its next entry, or an overlap
 abbrev pub behind_measure : Version → MeasureCertificate → Item
-behind_measure first_version m = entries_from first_version (entries_of m)
-behind_measure second_version (linear_measure es) = entries_from second_version (suc (length es))
-behind_measure second_version (precedence_measure order) = heads_from (suc (length order))
-
--- a certificate of this kind, and its marks behind the line of its kind
-abbrev pub IsOfKind : Kind → Certificate → Type 0
-IsOfKind kind (ortho_certificate ps) = kind ≡ Ortho
-IsOfKind kind (quasi_certificate m ps) = kind ≡ Quasi
-IsOfKind kind (peak_certificate p) = kind ≡ Peak
-IsOfKind kind (simplified_certificate steps c) = ⊥
-
-abbrev pub behind_kind : Naming → Uses → Certificate → List Mark
-behind_kind u w (ortho_certificate ps) = pairs_marks u w 1 ps
-behind_kind u w (quasi_certificate m ps) = measure_marks u m ++ pairs_marks u w 1 ps
-behind_kind u w (peak_certificate p) = peak_marks u w p
-behind_kind u w (simplified_certificate steps c) = []
+behind_measure v (linear_measure es) = entries_from v (suc (length es))
+behind_measure v (precedence_measure order) = heads_from (suc (length order))

@@ -6,5 +6,4 @@ pub mod Lines
 pub mod Shared
 pub mod Uses
 pub mod Measures
-pub mod Whole
 pub mod Prelude

@@ -1,11 +1,12 @@
 //! The lines before the body of a certificate.
 
-ghost use Rattle.std.specs.Prelude.{◌≡◌, ◌++◌, ◌↔◌, ℕ, true, false, [], ◌∷◌, None, Some, Option, Bool, codes, IsTrue, IfSome, IfNone};
-ghost use Rattle.cert_reading.specs.Prelude.{NameTable, BeginsEntry, Version, is_answer, fixed, Item, leads, body_leads, first_there, ReadsWhere, WithinOpening, BeforeEntries, version_mark};
+ghost use Rattle.std.specs.Prelude.{◌≡◌, ◌++◌, ℕ, true, false, List, [], ◌∷◌, None, Some, Option, Bool, codes, map, IfSome, IfNone};
+ghost use Rattle.cert_reading.specs.Prelude.{NameTable, BeginsEntry, Version, is_answer, fixed, word, fits_answer, Item, body_leads, first_there, ReadsWhere, WithinOpening, BeforeEntries, version_mark};
 ghost use Rattle.cert_reading.specs.Prelude.{behind_version, first_marks, kind_mark, item_by};
 ghost use Rattle.cert_grammar.specs.Versions as versions;
 ghost use Rattle.cert_grammar.specs.Items as spec;
-ghost use Rattle.cert_words.specs.declared.error.CertError.TheVariants as refused;
+ghost use Rattle.cert_grammar.specs.FirstRefusal.{longest};
+ghost use Rattle.cert_words.specs.Words.{bare, IsLeadRead};
 
 use cert_words::{CertError, Lead, Reading, choose, front, stuck};
 
@@ -69,58 +70,51 @@ fn fits(told: bool, given: Option<bool>) -> bool
     }
 }
 
-// Goes on behind the word, or refuses the answer before it, at its first byte.
-fn judged<'a>(at: &mut Reading<'a>, rest: &'a [u8], met: bool)
-    ensures goes { met ≡ true → (at.new.left.now ≡ rest.now) × (at.new.refused ≡ at.old.refused) × (at.new.shares ≡ at.old.shares) }
-    ensures refused { met ≡ false → (at.new.left.now ≡ at.old.left.now) × (at.new.refused ≡ Some (refused.CertSyntax 0)) × (at.new.shares ≡ at.old.shares) }
+// Goes on behind the word of a kind, or refuses the answer before it, at its first byte.
+fn judged<'a>(at: &mut Reading<'a>, rest: &'a [u8], told: bool, given: Option<bool>)
+    requires { at.old.refused ≡ None }
+    ensures { (names : NameTable) (end : ℕ) (i : Item) (w read : List ℕ) (new : List Item) → BeforeEntries (i ∷ []) at.old.left.now → first_there (spec.leads i) at.old.left.now ≡ Some (spec.keyword w (fits_answer told given ∷ []) new) → IsLeadRead (spec.keyword w [] []) at.old.left.now read rest.now → ReadsWhere BeforeEntries names end (i ∷ []) (λ u. word w (fits_answer told given ∷ []) ∷ []) new at.old at.new }
 {
-    if met {
+    if fits(told, given) {
         at.left = rest;
     } else {
         at.refused = Some(CertError::CertSyntax { at: 0 });
     }
 }
 
-// The kind whose word is there, behind this answer.
-fn kind_there(at: &mut Reading, given: Option<bool>) -> Option<Kind>
-    requires { at.old.refused ≡ None }
-    ensures there { IfSome result (λ k. (names : NameTable) (end : ℕ) (v : Version) (i : Item) → first_there (leads i) at.old.left.now ≡ first_there (body_leads v given) at.old.left.now → BeforeEntries (i ∷ []) at.old.left.now → ReadsWhere BeforeEntries names end (i ∷ []) (λ u. kind_mark given k ∷ []) (spec.between spec.line ∷ item_by v k ∷ []) at.old at.new) }
-    ensures none { IfNone result ((v : Version) → first_there (body_leads v given) at.old.left.now ≡ None) }
-    ensures kept { IfNone result (at.new.shares ≡ at.old.shares) }
+// The kind whose word is there, behind this answer; these leads may stand there.
+fn kind_among(end: usize, at: &mut Reading, given: Option<bool>, leads: &[Lead]) -> Kind
+    ensures { (names : NameTable) (v : Version) (i : Item) → first_there (spec.leads i) at.old.left.now ≡ first_there (body_leads v given) at.old.left.now → longest (spec.leads i) at.old.left.now ≡ longest (map bare leads.now) at.old.left.now → BeforeEntries (i ∷ []) at.old.left.now → ReadsWhere BeforeEntries names end (i ∷ []) (λ u. kind_mark given result ∷ []) (spec.between spec.line ∷ item_by v result ∷ []) at.old at.new }
 {
+    if at.refused.is_some() {
+        return Kind::Ortho;
+    }
     if let Some((_, rest)) = front(Lead::Keyword(b"ortho"), at.left) {
-        judged(at, rest, fits(true, given));
-        return Some(Kind::Ortho);
+        judged(at, rest, true, given);
+        return Kind::Ortho;
     }
     if let Some((_, rest)) = front(Lead::Keyword(b"quasi"), at.left) {
-        judged(at, rest, fits(true, given));
-        return Some(Kind::Quasi);
+        judged(at, rest, true, given);
+        return Kind::Quasi;
     }
     if let Some((_, rest)) = front(Lead::Keyword(b"peak"), at.left) {
-        judged(at, rest, fits(false, given));
-        return Some(Kind::Peak);
+        judged(at, rest, false, given);
+        return Kind::Peak;
     }
-    None
+    at.refused = Some(stuck(leads, at.left, end));
+    Kind::Ortho
 }
 
 /// The kind of the certificate, behind this answer.
 pub fn kind_word(end: usize, at: &mut Reading, given: Option<bool>) -> Kind
     ensures { (names : NameTable) (v : Version) → ReadsWhere BeforeEntries names end (spec.body v given ∷ []) (λ u. kind_mark given result ∷ []) (spec.between spec.line ∷ item_by v result ∷ []) at.old at.new }
 {
-    if at.refused.is_some() {
-        return Kind::Ortho;
-    }
-    let left = at.left;
-    if let Some(kind) = kind_there(at, given) {
-        return kind;
-    }
     let kinds = [
         Lead::Keyword(b"ortho"),
         Lead::Keyword(b"quasi"),
         Lead::Keyword(b"peak"),
     ];
-    at.refused = Some(stuck(&kinds, left, end));
-    Kind::Ortho
+    kind_among(end, at, given, &kinds)
 }
 
 /// The same where steps that simplify the system may come first: none, where they do.
@@ -135,23 +129,19 @@ pub fn simplified_word(end: usize, at: &mut Reading, given: Option<bool>) -> Opt
         at.left = rest;
         return None;
     }
-    let left = at.left;
-    if let Some(kind) = kind_there(at, given) {
-        return Some(kind);
-    }
     let words = [
         Lead::Text(b"simplify "),
         Lead::Keyword(b"ortho"),
         Lead::Keyword(b"quasi"),
         Lead::Keyword(b"peak"),
     ];
-    at.refused = Some(stuck(&words, left, end));
-    Some(Kind::Ortho)
+    Some(kind_among(end, at, given, &words))
 }
 
 /// Whether an overlap or the last line may begin here.
 pub fn begins_entry(bytes: &[u8]) -> bool
-    ensures { IsTrue result ↔ BeginsEntry bytes.now }
+    ensures begins { result ≡ true → BeginsEntry bytes.now }
+    ensures other { result ≡ false → BeginsEntry bytes.now → ⊥ }
 {
     matches!(bytes, [b'p' | b'e', ..])
 }

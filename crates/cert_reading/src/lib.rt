@@ -13,13 +13,11 @@ mod shared;
 mod simplifications;
 mod terms;
 mod uses;
-mod whole;
 
 pub use headings::{Kind, entries_begin, first_line, kind_word, simplified_word};
 pub use measures::measure;
-pub use pairs::{all_pairs, next_pair};
+pub use pairs::next_pair;
 pub use peaks::peak;
 pub use shared::shared_automata;
 pub use simplifications::all_simplifications;
 pub use uses::Uses;
-pub use whole::certificate;

@@ -10,7 +10,7 @@ use crate::lines::between_numbers;
 use crate::uses::Uses;
 use cert_grammar::MOST_PAIRS;
 use cert_model::PairEntry;
-use cert_words::{CertCount, Lead, Reading, choose, counted_or, put};
+use cert_words::{CertCount, Reading, counted_or, text};
 use cops_names::Names;
 use std::alloc::Global;
 
@@ -31,7 +31,7 @@ pub fn next_pair(
     ensures few { IfSome result (λ p. at.new.refused ≡ None → n ≤ MOST_PAIRS) }
 {
     if !counted_or(end, at, b"pair", CertCount::Pairs, n, b"end") {
-        choose(end, at, &[Lead::Text(b"\n")]);
+        text(end, at, b"\n");
         return None;
     }
     let (inner, pos, outer) = between_numbers(alloc, end, at);
@@ -42,26 +42,4 @@ pub fn next_pair(
         outer,
         evidence,
     })
-}
-
-/// The overlaps up to the last line, which is read too.
-pub fn all_pairs(
-    alloc: Global,
-    names: &Names,
-    uses: Uses,
-    end: usize,
-    at: &mut Reading,
-) -> Vec<PairEntry>
-    requires { AreKnown names.now uses end at.old }
-    ensures read { ReadsWhere Anywhere names.now end (spec.pairs_from (version_by uses.entry) 1 ∷ []) (λ u. pairs_marks u (uses_by names.now uses.entry) 1 (map pair_entry_view result.items) ++ closing) [] at.old at.new }
-    ensures plain { at.new.refused ≡ None → PairsUse (version_by uses.entry) (automata_by uses.entry) (map pair_entry_view result.items) }
-{
-    let mut pairs = Vec::new(alloc);
-    'pairs: while let Some(next) = next_pair(alloc, names, uses, end, at, pairs.len() + 1) {
-        put(at, &mut pairs, next);
-        if at.refused.is_some() {
-            return pairs;
-        }
-    }
-    pairs
 }

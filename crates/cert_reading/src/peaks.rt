@@ -10,41 +10,10 @@ use crate::evidence::infeasibility;
 use crate::lines::between_numbers;
 use crate::terms::start_term;
 use crate::uses::Uses;
-use cert_grammar::MOST_REDEXES;
 use cert_model::{NonJoin, Peak, Redex};
-use cert_words::{CertCount, Lead, Reading, choose, counted_or, either, last_word, put, text};
+use cert_words::{CertCount, Reading, counted_or, either, last_word, put, text};
 use cops_names::Names;
 use std::alloc::Global;
-
-// The redex with this number; none at the last line, which is read then.
-fn next_redex(
-    alloc: Global,
-    names: &Names,
-    uses: Uses,
-    end: usize,
-    at: &mut Reading,
-    n: usize,
-) -> Option<Redex>
-    requires { AreKnown names.now uses end at.old }
-    ensures redex { IfSome result (λ r. Reads names.now end (spec.redexes_from (version_by uses.entry) n ∷ []) (λ u. redexes_marks u (uses_by names.now uses.entry) n (redex_view r ∷ [])) (spec.redexes_from (version_by uses.entry) (suc n) ∷ []) at.old at.new) }
-    ensures last { IfNone result (Reads names.now end (spec.redexes_from (version_by uses.entry) n ∷ []) (λ u. closing) [] at.old at.new) }
-    ensures plain { IfSome result (λ r. at.new.refused ≡ None → HasUsed (version_by uses.entry) (automata_by uses.entry) (redex_view r).evidence) }
-    ensures known { IfSome result (λ r. AreKnown names.now uses.entry end at.new) }
-    ensures few { IfSome result (λ r. at.new.refused ≡ None → n ≤ MOST_REDEXES) }
-{
-    if !counted_or(end, at, b"redex", CertCount::Redexes, n, b"end") {
-        choose(end, at, &[Lead::Text(b"\n")]);
-        return None;
-    }
-    let (which, pos, rule) = between_numbers(alloc, end, at);
-    let evidence = infeasibility(alloc, names, uses, end, at);
-    Some(Redex {
-        which,
-        pos,
-        rule,
-        evidence,
-    })
-}
 
 // The redexes up to the last line, which is read too.
 fn redexes(alloc: Global, names: &Names, uses: Uses, end: usize, at: &mut Reading) -> Vec<Redex>
@@ -53,12 +22,28 @@ fn redexes(alloc: Global, names: &Names, uses: Uses, end: usize, at: &mut Readin
     ensures plain { at.new.refused ≡ None → RedexesUse (version_by uses.entry) (automata_by uses.entry) (map redex_view result.items) }
 {
     let mut redexes = Vec::new(alloc);
-    'redexes: while let Some(next) = next_redex(alloc, names, uses, end, at, redexes.len() + 1) {
-        put(at, &mut redexes, next);
+    'redexes: while counted_or(
+        end,
+        at,
+        b"redex",
+        CertCount::Redexes,
+        redexes.len() + 1,
+        b"end",
+    ) {
         if at.refused.is_some() {
             return redexes;
         }
+        let (which, pos, rule) = between_numbers(alloc, end, at);
+        let evidence = infeasibility(alloc, names, uses, end, at);
+        let redex = Redex {
+            which,
+            pos,
+            rule,
+            evidence,
+        };
+        put(at, &mut redexes, redex);
     }
+    text(end, at, b"\n");
     redexes
 }
 

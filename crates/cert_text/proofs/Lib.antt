@@ -9,3 +9,4 @@ pub mod Fronts
 pub mod Openings
 pub mod SameMarks
 pub mod EntryStops
+pub mod WholeTexts

@@ -71,7 +71,8 @@ plain_opening : (v : Version) (shared : List Automaton) (steps : Option (List Si
 plain_opening v shared steps o u h p = subst (IsPlainBy v shared) (behind_is steps o []) (plain_behind v shared steps (certificate_for o []) u h p)
 
 measure_end : (v : Version) (m : MeasureCertificate) → HasMeasure v m → EndsMeasure v (behind_measure v m)
-measure_end first_version m h = (_, refl)
+measure_end first_version (linear_measure es) h = (_, refl)
+measure_end first_version (precedence_measure order) h = absurd h
 measure_end second_version (linear_measure es) h = inl (_, refl)
 measure_end second_version (precedence_measure order) h = inr (_, refl)
 

@@ -2,7 +2,8 @@
 pub use Rattle.std.proofs.Common.{◌≡◌, inl, inr, ◌≤◌, ◌==◌, ℕ, suc, List, [], ◌∷◌, ◌++◌, length, drop, take, Option, Some, None, IfSome, IfNone, refl, sym, ap, ◌∙◌, subst, arith, eqb-true, ◌⊎◌, ◌<◌}
 pub use Rattle.std.proofs.Common.{◌&&◌, Bool, true, codes, false, cond, get_or, append_assoc, zero, not, map, Vec, Global, Box, rules, Result, Ok, Err, IfOk, ◌+◌, ◌-◌, length-append}
 pub use Rattle.std.proofs.lemmas.Bool.{and_parts, cases_lt, false≢true}
-pub use Rattle.std.proofs.lemmas.List.{length_push, append_cancel_left, append-nil, nil_from_length}
+pub use Rattle.std.proofs.lemmas.List.{length-map, length_push, append_cancel_left, append-nil, nil_from_length}
+pub use Rattle.cert_grammar.proofs.Views.{seen_push}
 pub use Rattle.cert_grammar.specs.Prelude.{IsCertificateText, name_of, Version, first_version, second_version, CanSimplify, pairs_marks, closing, CertificateCause, syntax, bad_share, Naming, Mark}
 pub use Rattle.cert_grammar.specs.Prelude.{IsCertificateRefused, Item, pairs_from, entries_from, heads_from, Shared, nothing_shared, Demand, word, mark_text, demands_of, verdict, Pass, between, line}
 pub use Rattle.cert_grammar.specs.Prelude.{Lead, text, check, at_once, keyword, leads, mode_of, first_there, taken, mark_of, items_of, Left, behind_lead, judged, step_lead, share_verdict}
@@ -22,16 +23,15 @@ pub use Rattle.cert_openings.proofs.Opened.{gone, gone_rest, gone_along, Gone}
 pub use Rattle.cert_openings.proofs.OpeningMarks.{read_more}
 pub use Rattle.cert_openings.specs.Laws.{IsReadTo}
 pub use Rattle.cert_openings.specs.Openings.{BeginsEntry, Opening, ortho_opening, quasi_opening, simplified_opening, certificate_for, uses_with, IsRead, IsOpened, lines_text, IsOpeningEnd}
-pub use Rattle.cert_reading.proofs.Found.{walks_named, found_by, front_found, whole_read}
+pub use Rattle.cert_reading.proofs.Found.{walks_named, found_by, front_found}
 pub use Rattle.cert_reading.proofs.Opening.{entry_at, head_at, same_item, kind_item, other_below}
 pub use Rattle.cert_reading.proofs.Stopping.{stop_behind, other_stop, stopped_where, then_where, as_marks_where, low_where, elsewhere, anywhere, reads_anywhere, open_before_where, ran, low_unopened}
 pub use Rattle.cert_reading.proofs.UseReads.{known_where, known_behind}
 pub use Rattle.cert_reading.specs.Headings.{kind_mark, item_by, behind_measure, behind_version, first_marks}
 pub use Rattle.cert_reading.specs.Plain.{EvidenceUses, IsPlainBy, StepsUse, ApartUses}
-pub use Rattle.cert_reading.specs.Shared.{shared_marks, IsKnown, ArePlainAutomata}
+pub use Rattle.cert_reading.specs.Shared.{shared_marks, IsKnown, ArePlainAutomata, CanShare}
 pub use Rattle.cert_reading.specs.Stops.{Anywhere, AreBehind, WithinEntry, IsStoppedWhere, ReadsWhere, lowest, AreAbove, IsBehind, BeginsList, WithinOpening, StopsWhere, Place, BeforeEntries}
 pub use Rattle.cert_reading.specs.Uses.{AreShared, version_by, automata_by}
-pub use Rattle.cert_reading.specs.Whole.{CanShare}
 pub use Rattle.cert_reading.specs.declared.headings.Kind.TheVariants.{Peak}
 pub use Rattle.cert_shares.specs.SharesView.{with_begun}
 pub use Rattle.cert_sharing.proofs.UseMarks.{counts_pairs, alone, pass_split, behind_both, AreStill, counts_still, Counts, counts_both, counts_body, measure_still, behind_states, behind_states_still}

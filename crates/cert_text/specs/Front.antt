@@ -11,10 +11,9 @@ use Rattle.cert_words.specs.declared.reading.Reading.{Reading}
 use Rattle.cert_reading.specs.declared.headings.Kind.{Kind}
 use Rattle.cert_reading.specs.Headings.{kind_mark, item_by}
 use Rattle.cert_reading.specs.Plain.{StepsUse}
-use Rattle.cert_reading.specs.Shared.{ArePlainAutomata}
+use Rattle.cert_reading.specs.Shared.{ArePlainAutomata, CanShare}
 use Rattle.cert_reading.specs.Stops.{ReadsWhere, BeforeEntries}
 use Rattle.cert_reading.specs.Uses.{AreShared}
-use Rattle.cert_reading.specs.Whole.{CanShare}
 use Rattle.cert_text.specs.OpenedText.{OpenedText, behind_steps}
 
 -- the steps before a body, if there are any

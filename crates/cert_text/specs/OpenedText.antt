@@ -1,13 +1,14 @@
 -- What is said of a text that is read up to its entries.
-use Rattle.std.specs.Prelude.{◌≡◌, ◌≤◌, ◌<◌, ℕ, List, Some, map}
-use Rattle.certificates.specs.Certificates.{Simplification, Certificate, peak_certificate, simplified_certificate}
+use Rattle.std.specs.Prelude.{◌≡◌, ◌≤◌, ◌<◌, ℕ, suc, List, [], Some, None, map}
+use Rattle.certificates.specs.Certificates.{PairEntry, Simplification, Certificate, peak_certificate, simplified_certificate}
 use Rattle.cops_names.specs.NameTable.{NameTable}
 use Rattle.cert_model.specs.CertificateView.{measure_view, peak_view, simp_view}
 use Rattle.cert_grammar.specs.Prelude.{IsCertificateText, IsCertificateRefused, CertificateCause}
-use Rattle.cert_openings.specs.Openings.{Opening, ortho_opening, quasi_opening, simplified_opening, IsOpeningEnd, IsOpened}
+use Rattle.cert_openings.specs.Openings.{Opening, ortho_opening, quasi_opening, simplified_opening, certificate_for, IsOpeningEnd, IsOpened}
+use Rattle.cert_words.specs.CertRefusals.{IsRefusedAs}
 use Rattle.cert_words.specs.declared.error.CertError.{CertError}
 use Rattle.cert_words.specs.Words.{told}
-use Rattle.cert_text.specs.Reading.{Reading}
+use Rattle.cert_text.specs.Reading.{Reading, HasRead, IsAll}
 use Rattle.cert_text.specs.declared.opening.Opened.{Opened, Opened-F, fold-Opened}
 use Rattle.cert_text.specs.declared.opening.Opened.TheOpen as opens
 
@@ -48,3 +49,28 @@ IsToldBefore bytes e = (f : CertificateCause) (at : ℕ) → told e ≡ Some (f,
 abbrev pub HasNoEndAtWhole : List ℕ → OpenedText → Type 0
 HasNoEndAtWhole bytes (at_entries o r) = Unit {0}
 HasNoEndAtWhole bytes (whole c) = (end : ℕ) → IsOpeningEnd bytes end → ⊥
+
+-- ---- what is read behind an opening, to the end
+
+-- an opening is read, and no entry
+abbrev pub IsAtFirst : OpenedText → Type 0
+IsAtFirst (at_entries o r) = (p : Opening) × HasRead r p []
+IsAtFirst (whole c) = Unit {0}
+
+-- the certificate with all entries that stand behind the opening
+abbrev pub IsReadWhole : OpenedText → Certificate → Type 0
+IsReadWhole (at_entries o r) c = (es : List PairEntry) × (c ≡ certificate_for o es) × ((p : Opening) → HasRead r p [] → IsAll r p es)
+IsReadWhole (whole d) c = c ≡ d
+
+-- a refusal of the text; behind a whole certificate memory alone is refused
+abbrev pub IsToldOf : OpenedText → CertError → Type 0
+IsToldOf (at_entries o r) e = IsRefusedAs r.names r.bytes e
+IsToldOf (whole c) e = told e ≡ None
+
+-- how deep an opened text is nested
+abbrev depth_case : Opened-F ℕ → ℕ
+depth_case (opens.Simplified steps body) = suc body.value
+depth_case _ = 0
+
+abbrev pub depth : Opened → ℕ
+depth = fold-Opened ℕ depth_case

@@ -13,8 +13,7 @@ use Rattle.cert_openings.specs.Openings.{Opening, certificate_for, uses_with, Be
 use Rattle.cert_openings.specs.Laws.{IsReadTo}
 use Rattle.cert_words.specs.Walks.{Run}
 use Rattle.cert_reading.specs.Plain.{IsPlainBy}
-use Rattle.cert_reading.specs.Shared.{IsKnown, ArePlainAutomata}
-use Rattle.cert_reading.specs.Whole.{CanShare}
+use Rattle.cert_reading.specs.Shared.{IsKnown, ArePlainAutomata, CanShare}
 use Rattle.cert_text.specs.Reading.{Reading}
 use Rattle.cert_text.specs.declared.pairs.Pairs.TheInside.{Inside}
 

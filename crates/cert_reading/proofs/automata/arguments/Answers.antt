@@ -1,5 +1,5 @@
-use Rattle.cert_reading.proofs.Lemmas.{length_grown, begun, begun_push, begun_closed}
-use Rattle.cert_reading.proofs.Prelude.{◌≡◌, ◌<◌, ◌+◌, None, ◌∙◌, suc, refl, sym, ap, length, List, ℕ, [], ◌∷◌, ◌++◌, codes, arith, name_of, is_number, has_arity, fixed, behind}
+use Rattle.cert_reading.proofs.Lemmas.{length_grown, next_reads, begun, begun_push, begun_closed}
+use Rattle.cert_reading.proofs.Prelude.{◌≡◌, ◌<◌, None, ◌∙◌, suc, refl, sym, ap, length, List, ℕ, [], ◌∷◌, ◌++◌, codes, arith, name_of, is_number, has_arity, fixed, behind}
 use Rattle.cert_reading.proofs.Prelude.{states_marks, states_behind, further_states, arity_at, first_pushed, then_reads, as_reads, as_marks, open_before, arity_met}
 use Rattle.cert_reading.proofs.automata.arguments.Goals as goal
 
@@ -23,15 +23,11 @@ arguments-preserved c =
     let there =
     then_reads (c.either.ensures.one c.arguments-test.true names (further_states c.args.states name k) _ _ refl) (then_reads (c.number-next.ensures.read names _ _ refl)
     (c.put-in-arguments.ensures.read names c.args.end (further_states c.args.states name (suc k) ∷ []))) in
-    let more : c.put-in-arguments.new.at.refused ≡ None → length c.put-in-arguments.new.list.items ≡ k + 1 = λ none. length_grown c.arguments.args.items c.number-next.result
-    (c.put-in-arguments.ensures.grown none) in
     let some : c.put-in-arguments.new.at.refused ≡ None → 0 < k = λ none. c.arguments.invariant.some (open_before there none) in
     record {
-      read = as_reads (λ none. (
-        let e = more none in let n : suc k ≡ length c.put-in-arguments.new.list.items = omega (arith, e) in ap (λ (m : ℕ). further_states c.args.states name m ∷ []) n,
-        λ u. cc (begun_push c.args.states c.arguments.args.items c.number-next.result (some none), c.put-in-arguments.ensures.grown none),
-      )) (then_reads c.arguments.invariant.read there);
-      some = λ none. let e = more none in omega (arith, e);
+      read = next_reads (further_states c.args.states name) (λ u. begun c.args.states) c.arguments.args.items c.number-next.result c.put-in-arguments.ensures.grown
+          (λ none u. begun_push c.args.states c.arguments.args.items c.number-next.result (some none)) c.arguments.invariant.read there;
+      some = λ none. let e = length_grown c.arguments.args.items c.number-next.result (c.put-in-arguments.ensures.grown none) in omega (arith, e);
     }
 
 pub returns : goal.returns

@@ -1,8 +1,8 @@
 use Rattle.cert_reading.proofs.Lemmas.{refused_reads, at_front, read_on, length_grown, one_more, none_left}
-use Rattle.cert_reading.proofs.Prelude.{◌+◌, ℕ, suc, [], ◌++◌, map, refl, sym, ap, ◌∙◌, arith, Reads, then_reads, as_marks, open_before, ◌-◌, derivations_of, derivation_view, steps_mark}
+use Rattle.cert_reading.proofs.Prelude.{suc_is, ◌+◌, ℕ, suc, ◌++◌, map, refl, sym, ap, ◌∙◌, arith, then_reads, as_marks, open_before, ◌-◌, derivations_of, derivation_view, steps_mark}
 use Rattle.cert_reading.proofs.Prelude.{steps_marks, step_marks, derivations_marks, derivation_of_steps, derivations_left, framed, rule_mark, derivations, steps_left, steps_of, step_of_rule}
 use Rattle.cert_reading.proofs.Prelude.{step_of_hypothesis}
-use Rattle.cert_reading.proofs.DerivationMarks.{derivations_push, steps_counted, derivations_counted, counted_all, at_next, any_names, steps_push}
+use Rattle.cert_reading.proofs.DerivationMarks.{derivations_push, steps_counted, derivations_counted, counted_all, any_names, steps_push}
 use Rattle.cert_reading.proofs.derivations.+derivation.Goals as goal
 
 pub derivation-returns-then-is_some : goal.derivation-returns-then-is_some
@@ -50,8 +50,7 @@ step-returns-then-either t c = λ names more.
     (then_reads (c.either.ensures.one c.if-either.true names (steps_left level more) _ _ refl) (read_on (c.number-rule.ensures.read names _ _ refl)
     (read_on (c.text.ensures.read names _ _ refl) (read_on (c.position-pos.ensures names _ _ refl) (read_on (c.text-then-either.ensures.read names _ _ refl)
     (read_on (c.number-count.ensures.read names _ _ refl) (read_on (c.text-then-either-2.ensures.read names _ _ refl) (framed (steps_of level more)
-    (at_next (λ (k : ℕ). Reads names c.args.end (derivations k c.number-count.result) (λ u. derivations_marks k ds) [] c.text-then-either-2.new.at c.derivations-conds.new.at) level
-    (c.derivations-conds.ensures.read names))))))))))
+    (rw (← (suc_is level)) at (c.derivations-conds.ensures.read names))))))))))
 
 pub step-returns : goal.step-returns
 step-returns t c = λ names more.

@@ -1,7 +1,20 @@
 use Rattle.cert_reading.proofs.Lemmas.{past, read_on, known_still}
-use Rattle.cert_reading.proofs.Prelude.{[], ◌∷◌, refl, arith, any_number, then_reads, evidence, use_between, use_item, framed, version_by, automata_by}
-use Rattle.cert_reading.proofs.EvidenceKinds.{kinds, are_kinds}
+use Rattle.cert_reading.proofs.Prelude.{◌≡◌, List, codes, map, Version, first_version, second_version, space, line, derivations_left, leads, Choice, lead_of, [], ◌∷◌, refl, arith, any_number}
+use Rattle.cert_reading.proofs.Prelude.{then_reads, evidence, use_between, use_item, framed, version_by, automata_by}
 use Rattle.cert_reading.proofs.evidence.evidence.Goals as goal
+
+abbrev kinds : Version → List Choice
+kinds v =
+    record { bytes = codes "trivial\n"; items = [] }
+    ∷ record { bytes = codes "conflict "; items = any_number space ∷ any_number line ∷ [] }
+    ∷ record { bytes = codes "join\n"; items = derivations_left 1 0 ∷ derivations_left 1 0 ∷ [] }
+    ∷ record { bytes = codes "unfeasible "; items = any_number line ∷ derivations_left 1 0 ∷ derivations_left 1 0 ∷ [] }
+    ∷ record { bytes = codes "tcap\n"; items = [] }
+    ∷ record { bytes = codes "auto "; items = any_number (use_between v) ∷ use_item v ∷ [] } ∷ []
+
+are_kinds : (v : Version) → leads (evidence v) ≡ map lead_of (kinds v)
+are_kinds first_version = refl
+are_kinds second_version = refl
 
 pub returns-in-0-clause-read : goal.returns-in-0-clause-read
 returns-in-0-clause-read c = rw c.in-0.is at (c.choose.ensures.chosen c.args.names.now (evidence (version_by c.args.uses)) (kinds (version_by c.args.uses)) (are_kinds (version_by c.args.uses)) refl)

@@ -1,7 +1,11 @@
 use Rattle.cert_reading.proofs.Lemmas.{read_on, known_still}
-use Rattle.cert_reading.proofs.Prelude.{[], ◌∷◌, refl, any_number, then_reads, infeasibility, use_between, use_item, framed, version_by, automata_by}
-use Rattle.cert_reading.proofs.EvidenceKinds.{are_infeasible}
+use Rattle.cert_reading.proofs.Prelude.{◌≡◌, codes, Version, first_version, second_version, text, leads, [], ◌∷◌, refl, any_number, then_reads, infeasibility, use_between, use_item, framed}
+use Rattle.cert_reading.proofs.Prelude.{version_by, automata_by}
 use Rattle.cert_reading.proofs.evidence.infeasibility.Goals as goal
+
+are_infeasible : (v : Version) → leads (infeasibility v) ≡ text (codes "tcap\n") [] ∷ text (codes "auto ") (any_number (use_between v) ∷ use_item v ∷ []) ∷ []
+are_infeasible first_version = refl
+are_infeasible second_version = refl
 
 pub returns-then-either-clause-read : goal.returns-then-either-clause-read
 returns-then-either-clause-read c =

@@ -1,13 +1,10 @@
+use Rattle.cert_reading.proofs.Lemmas.{then_where}
+use Rattle.cert_reading.proofs.Prelude.{version_by}
 use Rattle.cert_reading.proofs.measures.measure.Goals as goal
 
-pub returns-in-InFull-clause-read : goal.returns-in-InFull-clause-read
-returns-in-InFull-clause-read c = rw c.in-InFull.is c.first_measure.ensures.read
+pub returns-then-measure_line-clause-read : goal.returns-then-measure_line-clause-read
+returns-then-measure_line-clause-read c =
+    rw (c.measure_line.ensures.second c.if-measure_line.true) (then_where (c.measure_line.ensures.order c.if-measure_line.true c.args.names.now) c.precedence-order.ensures.read)
 
-pub returns-in-InFull-clause-first : goal.returns-in-InFull-clause-first
-returns-in-InFull-clause-first c = rw c.in-InFull.is c.first_measure.ensures.first
-
-pub returns-in-ByNumber-clause-read : goal.returns-in-ByNumber-clause-read
-returns-in-ByNumber-clause-read c = rw c.in-ByNumber.is c.second_measure.ensures.read
-
-pub returns-in-ByNumber-clause-first : goal.returns-in-ByNumber-clause-first
-returns-in-ByNumber-clause-first c = rw c.in-ByNumber.is c.second_measure.ensures.second
+pub returns-clause-read : goal.returns-clause-read
+returns-clause-read c = then_where (c.measure_line.ensures.linear c.if-measure_line.false c.args.names.now) (c.entries-entries.ensures.read (version_by c.args.uses))

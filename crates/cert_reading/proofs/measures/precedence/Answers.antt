@@ -1,34 +1,31 @@
-use Rattle.cert_reading.proofs.Lemmas.{low_unopened, head_at, then_where, then_nothing_where, as_where, low_where, refused_where, length_grown, numbered_where, next_where}
-use Rattle.cert_reading.proofs.Prelude.{◌≡◌, ◌+◌, ℕ, suc, [], ◌∷◌, length, map, ap, arith, append-nil, second_version, heads_from, open_before, length-map, none_now, head_view}
-use Rattle.cert_reading.proofs.ListMarks.{heads_push}
+use Rattle.cert_reading.proofs.Lemmas.{low_unopened, head_at, then_where, then_nothing_where, low_where, length_grown, next_where, push, room_less}
+use Rattle.cert_reading.proofs.Prelude.{measured_marks, ◌++◌, fixed, codes, ◌≡◌, ◌+◌, suc, [], ◌∷◌, length, map, refl, arith, seen_push, heads_from, heads_marks, between, line, open_before}
+use Rattle.cert_reading.proofs.Prelude.{then_nothing, length-map, head_view, second_version}
 use Rattle.cert_reading.proofs.measures.precedence.Goals as goal
 
-pub returns-then-is_some-clause-read : goal.returns-then-is_some-clause-read
-returns-then-is_some-clause-read c =
-    let n = c.len.result + 1 in
-    let low = heads_from (suc n) in
-    let is : suc (length c.order.order.items) ≡ n = omega (arith, c.order.order.ok.0, c.len.ensures) in
-    refused_where c.is_some.ensures c.if-is_some.true (then_where (numbered_where (heads_from) is c.order.invariant) (then_nothing_where c.in-Some.ensures.head
-    (low_where low (low_unopened second_version low (head_at n).later) (c.put.ensures.read c.args.names.now c.args.end []))))
-
 pub order-smaller : goal.order-smaller
-order-smaller c =
-    let few = c.in-Some.ensures.few (open_before (c.put.ensures.read c.args.names.now c.args.end []) (none_now c.is_some.ensures c.if-is_some.false)) in
-    omega (arith, c.order.order.ok.0, c.len.ensures, few, length_grown c.order.order.items _ (c.put.ensures.grown (none_now c.is_some.ensures c.if-is_some.false)))
+order-smaller c = room_less 25000 (length c.order.order.items) (length c.put.new.list.items) c.order.at.refused c.put.new.at.refused c.in-Some.ensures.unrefused (λ none.
+    let few = c.in-Some.ensures.few (open_before (c.text.ensures.read c.args.names.now (between line) [] refl) (open_before (c.put.ensures.read c.args.names.now c.args.end []) none)) in (
+      length_grown c.order.order.items _ (c.put.ensures.grown none),
+      omega (arith, c.order.order.ok.0, c.len.ensures, few),
+    ))
 
 pub order-preserved : goal.order-preserved
 order-preserved c =
     let items = c.order.order.items in
+    let done = map head_view items in
     let n = c.len.result + 1 in
     let low = heads_from (suc n) in
-    let is : suc (length items) ≡ n = omega (arith, c.order.order.ok.0, c.len.ensures) in
-    next_where (heads_from) items _ is c.put.ensures.grown (λ none u. cc
-    (heads_push head_view u 1 n items c.in-Some.next (omega (arith, is)), c.put.ensures.grown none)) c.order.invariant c.in-Some.ensures.head
-    (low_where low (low_unopened second_version low (head_at n).later) (c.put.ensures.read c.args.names.now c.args.end []))
+    let is : n ≡ suc (length done) = omega (arith, c.order.order.ok.0, c.len.ensures, length-map items head_view) in
+    let line = then_where (c.in-Some.ensures.head second_version (heads_from n) low (between line) (head_at n)) (low_where low (low_unopened second_version low (head_at n).later)
+    (then_nothing (c.text.ensures.read c.args.names.now (between line) [] refl) (c.put.ensures.read c.args.names.now c.args.end []))) in
+    next_where (λ k. heads_from (suc k)) (λ u. heads_marks u 1) done _ (λ none. seen_push head_view items _ _ (c.put.ensures.grown none))
+    (λ none u. push (heads_marks u) (λ k h. measured_marks u k h ++ (fixed (codes "\n") ∷ [])) (λ k. refl) (λ k h hs. refl) 1 (suc (length done)) done _ (omega arith))
+    c.order.invariant (rw is at line)
 
 pub returns-clause-read : goal.returns-clause-read
 returns-clause-read c =
-    let items = c.order.order.items in
-    let is : suc (length items) ≡ c.len.result + 1 = omega (arith, c.order.order.ok.0, c.len.ensures) in
-    let same : c.len.result + 1 ≡ suc (length (map head_view items)) = omega (arith, is, length-map items head_view) in
-    as_where (λ none. (ap (λ (j : ℕ). heads_from j ∷ []) same, λ u. append-nil _)) (then_where (numbered_where (heads_from) is c.order.invariant) c.in_default.ensures.none)
+    let done = map head_view c.order.order.items in
+    let n = c.len.result + 1 in
+    let is : n ≡ suc (length done) = omega (arith, c.order.order.ok.0, c.len.ensures, length-map c.order.order.items head_view) in
+    then_nothing_where c.order.invariant (rw is at (c.in_default.ensures.none second_version (heads_from n) (heads_from (suc n)) (between line) (head_at n)))

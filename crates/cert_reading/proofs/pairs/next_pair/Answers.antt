@@ -1,4 +1,4 @@
-use Rattle.cert_reading.proofs.Lemmas.{then_where, as_marks_where, word_where, word_behind, low_where, low_entry, first_entry, line_entry, pair_later, line_end, one_choice, known_behind}
+use Rattle.cert_reading.proofs.Lemmas.{then_where, as_marks_where, word_where, word_behind, low_where, low_entry, first_entry, line_entry, pair_later, known_behind}
 use Rattle.cert_reading.proofs.Lemmas.{known_where, front_counts}
 use Rattle.cert_reading.proofs.Prelude.{suc, arith, [], ◌∷◌, codes, sym, refl, append-nil, pair_entry_view, name_of, pairs, is_few, word, between, evidence, pairs_from, used_by_pairs}
 use Rattle.cert_reading.proofs.Prelude.{numbers_of, counts_pairs, then_reads, framed, open_before, version_by, automata_by, uses_by}
@@ -10,12 +10,10 @@ returns-then-not-counted_or-clause-last c =
     let n = c.args.n in
     let v = version_by c.args.uses in
     let names = c.args.names.now in
-    let ends = Items.line in
     let last = c.counted_or.ensures.other c.if-not-counted_or.true names (pairs_from v n) _ _ refl in
     then_where (word_where (λ s. first_entry v n c.args.at.now.left.now c.args.at.now.left.now) (λ none. c.counted_or.ensures.here none names (pairs_from v n) _ _ refl) last)
     (word_behind (λ going. line_entry v n c.args.at.now.left.now c.counted_or.new.at.left.now (c.counted_or.ensures.text c.if-not-counted_or.true (open_before last going) going))
-    (λ none. c.choose.ensures.here none names (between ends) (line_end ∷ []) refl refl)
-    (one_choice names c.args.end (between ends) line_end _ _ _ (c.choose.ensures.chosen names (between ends) (line_end ∷ []) refl refl)))
+    (λ none. c.text.ensures.here none names (between Items.line) [] refl) (c.text.ensures.read names (between Items.line) [] refl))
 
 pub evidence-evidence-requires : goal.evidence-evidence-requires
 evidence-evidence-requires c =

@@ -1,6 +1,5 @@
-use Rattle.cert_reading.proofs.Lemmas.{other_word, refused_where, then_where, low_where, sealed_where, other_place, other_below}
+use Rattle.cert_reading.proofs.Lemmas.{automaton_anew, other_word, refused_where, then_where, low_where, sealed_where, other_place, other_below}
 use Rattle.cert_reading.proofs.Prelude.{[], ◌∷◌, refl, automaton_view, name_of, automaton_marks, automata_left, automaton_end, behind_automata, then_reads, framed, none_now}
-use Rattle.cert_reading.proofs.AutomataMarks.{automaton_anew}
 use Rattle.cert_reading.proofs.shared.shared_automaton.Goals as goal
 
 pub returns-clause-read : goal.returns-clause-read

@@ -16,6 +16,9 @@ returns-then-either-clause-read c = λ more.
     as_marks (λ none u. sym (append-nil _)) (then_reads (c.either.ensures.one c.if-either.true names (simplifications_left more) _ _ refl)
     (read_on (c.number-rule.ensures.read names _ _ refl) (read_on (c.text.ensures.read names _ _ refl) (at_front c.infeasibility-evidence.ensures.read))))
 
+pub returns-then-either-clause-plain : goal.returns-then-either-clause-plain
+returns-then-either-clause-plain c = λ none. rw append-nil (c.infeasibility-evidence.ensures.plain none)
+
 pub returns-then-either-clause-known : goal.returns-then-either-clause-known
 returns-then-either-clause-known c =
     let names = c.args.names.now in
