@@ -14,10 +14,10 @@ pub use Rattle.cert_model.proofs.CertificateViews.{ortho_shown, quasi_shown, pea
 pub use Rattle.cert_grammar.specs.Prelude.{used_by_pairs, used_by_redexes, used_by_steps, automaton_text, texts_of, place_among, automata_of, automata_text, entries_text}
 pub use Rattle.cert_grammar.specs.Prelude.{heads_text, redexes_text, simplifications_text, certificate_text, second_version, further_states_text, numbers_text, pairs_text}
 pub use Rattle.cert_grammar.specs.Prelude.{states_text, transitions_text, derivation_text, steps_text, step_text, derivations_text, term_text, arguments_text, further_text}
-pub use Rattle.cert_grammar.specs.Prelude.{parts_text, shared_by}
-pub use Rattle.cert_writing.specs.SharedAutomata.{seen, with_text, with_texts, joined}
-pub use Rattle.cert_writing.specs.Written.{greatest}
-pub use Rattle.cert_writing.specs.WrittenUses.{uses_view}
-pub use Rattle.cert_writing.proofs.Writing.{next_left, Left, as_text, next_value, first_and_others, lead_in, Leads, none_left}
-pub use Rattle.cert_writing.proofs.WritingSteps.{steps_shown, conditions_shown, arguments_shown, steps_first}
+pub use Rattle.cert_grammar.specs.Prelude.{parts_text, shared_by, each_behind, measure_text, apart_text, body_text}
+pub use Rattle.cert_writing.specs.SharedAutomata.{lent, seen, with_text, with_texts, joined}
+pub use Rattle.cert_writing.specs.Written.{greatest, each}
+pub use Rattle.cert_writing.specs.WrittenUses.{uses_view, transition_text, entry_text, place_text, pair_text, redex_text}
+pub use Rattle.cert_writing.proofs.Writing.{each_is, next_left, Left, as_text, next_value, first_and_others, lead_in, Leads, none_left}
+pub use Rattle.cert_writing.proofs.WritingSteps.{further_behind, steps_shown, conditions_shown, arguments_shown, steps_first}
 pub use Rattle.cert_writing.proofs.SharedTexts.{inserted, texts_next, texts, found_at, not_there, new_texts, counted_all, unfolded_is, whole_text}

@@ -1,5 +1,5 @@
 -- Derivations, terms and the steps before a body by their parts.
-use Rattle.std.proofs.Common.{◌≡◌, ◌≤◌, ◌-◌, ℕ, List, ◌∷◌, ◌++◌, map, get_or, take, drop, length, codes, sym, ◌∙◌, ap, refl}
+use Rattle.std.proofs.Common.{◌≡◌, ◌≤◌, ◌-◌, ℕ, List, ◌∷◌, ◌++◌, map, get_or, take, drop, length, codes, sym, ◌∙◌, ap, refl, [], decimal, append_assoc}
 use Rattle.std.proofs.lemmas.List.{length-map}
 use Rattle.std.specs.Global.{Vec}
 use Rattle.certificates.specs.Prelude.{derivation_of, derivations_of, Simplification, dropped, inlined}
@@ -10,7 +10,7 @@ use Rattle.term_core.specs.declared.terms.Term.{Term}
 use Rattle.term_core.specs.View.{view, views}
 use Rattle.cops_names.specs.NameTable.{NameTable}
 use Rattle.cert_grammar.specs.Prelude.{term_text, arguments_text, further_text, steps_line, rule_line, steps_text, step_text, derivations_text, derivation_text}
-use Rattle.cert_grammar.specs.Prelude.{Uses, simplifications_text}
+use Rattle.cert_grammar.specs.Prelude.{Uses, simplifications_text, further_states_text, each_behind}
 use Rattle.cert_writing.specs.WrittenUses as written
 use Rattle.certificates.proofs.Sizes.{steps_counted, derivations_counted}
 use Rattle.cert_model.proofs.DerivationViews.{step_of_rule, derivation_of_steps}
@@ -33,6 +33,11 @@ pub arguments_shown : (names : NameTable) (args : List Term) (first : Term) → 
     → arguments_text names (views args) ≡ (codes "(" ++ term_text names (view first)) ++ further_text names (views (take (length args - 1) (drop 1 args)))
 arguments_shown names args first some is =
     ap (λ (xs : List Term). arguments_text names (views xs)) (first_and_others args first some ∙ ap (λ (x : Term). x ∷ take (length args - 1) (drop 1 args)) (sym is))
+
+-- the states behind one
+pub further_behind : (qs : List ℕ) → further_states_text qs ≡ each_behind 44 qs ++ codes ")"
+further_behind [] = refl
+further_behind (q ∷ qs) = rw (further_behind qs, append_assoc (decimal q) (each_behind 44 qs) (codes ")")) refl
 
 -- the first step before a body, and the others
 pub steps_first : (names : NameTable) (uses : Uses) (s : Simplification) (ss : List Simplification)

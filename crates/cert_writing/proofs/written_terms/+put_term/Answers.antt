@@ -3,7 +3,7 @@ use Rattle.cert_writing.proofs.written_terms.+put_term.Goals as goal
 
 pub put_term-returns-in-Var : goal.put_term-returns-in-Var
 put_term-returns-in-Var g t c =
-    as_text g.O.Output.took _ _ _ _ (ap (term_text c.args.names.now) (ap view c.in-Var.is ∙ view-Var _)) c.put_numbered.ensures
+    as_text g.O.Output.took _ _ _ _ (ap (term_text c.args.names.now) (ap view c.in-Var.is ∙ view-Var _)) c.put.ensures
 
 pub put_arguments-further-init : goal.put_arguments-further-init
 put_arguments-further-init g t c =
