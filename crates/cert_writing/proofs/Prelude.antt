@@ -19,5 +19,5 @@ pub use Rattle.cert_writing.specs.SharedAutomata.{lent, seen, with_text, with_te
 pub use Rattle.cert_writing.specs.Written.{greatest, each}
 pub use Rattle.cert_writing.specs.WrittenUses.{uses_view, transition_text, entry_text, place_text, pair_text, redex_text}
 pub use Rattle.cert_writing.proofs.Writing.{each_is, next_left, Left, as_text, next_value, first_and_others, lead_in, Leads, none_left}
-pub use Rattle.cert_writing.proofs.WritingSteps.{further_behind, steps_shown, conditions_shown, arguments_shown, steps_first}
+pub use Rattle.cert_writing.proofs.WritingSteps.{steps_shown, conditions_shown, further_behind, arguments_shown, transitions_each, simplifications_each}
 pub use Rattle.cert_writing.proofs.SharedTexts.{inserted, texts_next, texts, found_at, not_there, new_texts, counted_all, unfolded_is, whole_text}

@@ -48,6 +48,7 @@ impl Part for LinearEntry {
     }
 }
 
+#[tactic(auto, using(crate::proofs::WritingSteps::entries_each, crate::proofs::WritingSteps::places_each))]
 impl Part for MeasureCert {
     ghost text = { λ names uses m. measure_text names (measure_view m) };
 
@@ -67,6 +68,7 @@ impl Part for Redex {
     }
 }
 
+#[tactic(auto, using(crate::proofs::WritingSteps::redexes_each))]
 impl Part for NonJoin {
     ghost text = { λ names uses a. apart_text names uses (apart_view a) };
 
@@ -100,6 +102,7 @@ impl Part for Simp {
     }
 }
 
+#[tactic(auto, using(crate::proofs::WritingSteps::pairs_each, cert_model::proofs::CertificateViews::ortho_shown, cert_model::proofs::CertificateViews::quasi_shown))]
 #[cycle(put_body)]
 fn put_body<O: Output>(to: &mut O, names: &Names, uses: &Uses<'_>, cert: &Certificate)
     ensures { O.took to.old (body_text names.now (uses_view names.now uses.now) (certificate_view cert.now)) to.new }

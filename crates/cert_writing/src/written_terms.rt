@@ -52,39 +52,33 @@ impl Part for Position<'_> {
     }
 }
 
+/// The recursion goes as deep as the term.
 impl Part for Term {
     ghost text = { λ names uses t. term_text names (view t) };
 
+    #[cycle(term)]
     fn put<O: Output>(&self, to: &mut O, names: &Names, uses: &Uses<'_>) {
-        put_term(to, names, uses, self);
-    }
-}
-
-// The recursion goes as deep as the term.
-#[cycle(put_term)]
-fn put_term<O: Output>(to: &mut O, names: &Names, uses: &Uses<'_>, term: &Term)
-    ensures { O.took to.old (term_text names.now (view term.now)) to.new }
-{
-    match term {
-        Term::Var(x) => ("|", x).put(to, names, uses),
-        Term::Fun(f, args) => {
-            Name(*f).put(to, names, uses);
-            put_arguments(to, names, uses, args);
+        match self {
+            Term::Var(x) => ("|", x).put(to, names, uses),
+            Term::Fun(f, args) => {
+                Name(*f).put(to, names, uses);
+                put_arguments(to, names, uses, args);
+            }
         }
     }
 }
 
 // The arguments of a symbol, in brackets if there are any.
-#[cycle(put_term)]
+#[cycle(term)]
 fn put_arguments<O: Output>(to: &mut O, names: &Names, uses: &Uses<'_>, args: &[Term])
     ensures { O.took to.old (arguments_text names.now (views args.now)) to.new }
 {
     if let [first, rest @ ..] = args {
         to.put(b"(");
-        put_term(to, names, uses, first);
+        first.put(to, names, uses);
         'further: for arg in rest {
             to.put(b",");
-            put_term(to, names, uses, arg);
+            arg.put(to, names, uses);
         }
         to.put(b")");
     }
