@@ -18,6 +18,6 @@ pub use Rattle.cert_grammar.specs.Prelude.{parts_text, shared_by, each_behind, m
 pub use Rattle.cert_writing.specs.SharedAutomata.{lent, seen, with_text, with_texts, joined}
 pub use Rattle.cert_writing.specs.Written.{greatest, each}
 pub use Rattle.cert_writing.specs.WrittenUses.{uses_view, transition_text, entry_text, place_text, pair_text, redex_text}
-pub use Rattle.cert_writing.proofs.Writing.{each_is, next_left, Left, as_text, next_value, first_and_others, lead_in, Leads, none_left}
+pub use Rattle.cert_writing.proofs.Writing.{each_is, next_left, Left, next_value, first_and_others, lead_in, Leads, none_left}
 pub use Rattle.cert_writing.proofs.WritingSteps.{steps_shown, conditions_shown, further_behind, arguments_shown, transitions_each, simplifications_each}
 pub use Rattle.cert_writing.proofs.SharedTexts.{inserted, texts_next, texts, found_at, not_there, new_texts, counted_all, unfolded_is, whole_text}

@@ -49,7 +49,3 @@ pub each_is : {A B : Type 0} (whole : List A → List ℕ) (text : A → List �
     → (xs : List B) → whole (map view xs) ≡ each (λ x. text (view x)) xs
 each_is whole text view none more [] = none
 each_is whole text view none more (x ∷ xs) = more (view x) (map view xs) ∙ ap (λ w. text (view x) ++ w) (each_is whole text view none more xs)
-
--- the same text
-pub as_text : {S : Type 0} (took : S → List ℕ → S → Type 0) (s t : S) (text other : List ℕ) → other ≡ text → took s text t → took s other t
-as_text took s t text other e h = subst (λ (w : List ℕ). took s w t) (sym e) h

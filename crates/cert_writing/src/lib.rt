@@ -19,7 +19,6 @@ mod output;
 mod parts;
 mod writer;
 mod written_evidence;
-mod written_steps;
 mod written_terms;
 
 pub use appended::{write_cert_term, write_deriv, write_inf};

@@ -1,12 +1,16 @@
-//! The text of symbols by name, of terms, of positions and of numbers behind a byte.
+//! The text of symbols by name, of terms, of positions, of numbers behind a byte, and of derivations: a line for each step, with
+//! the derivations of its conditions behind it.
 ghost use Rattle.rewriting.specs.Terms as math;
 ghost use Rattle.term_core.specs.View.{view, views};
+ghost use Rattle.cert_model.specs.DerivationView.{derivation_view, step_view};
+ghost use Rattle.cert_grammar.specs.Steps.{derivation_text, step_text};
 ghost use Rattle.cert_grammar.specs.Words.{name_of, term_text, arguments_text, each_behind, position_text};
 ghost use Rattle.cert_writing.specs.WrittenUses.{uses_view};
 
 use crate::output::Output;
 use crate::parts::Part;
 use crate::written_evidence::Uses;
+use cert_model::{Derivation, Step};
 use cops_names::Names;
 use term_core::Term;
 
@@ -74,12 +78,39 @@ fn put_arguments<O: Output>(to: &mut O, names: &Names, uses: &Uses<'_>, args: &[
     ensures { O.took to.old (arguments_text names.now (views args.now)) to.new }
 {
     if let [first, rest @ ..] = args {
-        to.put(b"(");
-        first.put(to, names, uses);
+        ("(", first).put(to, names, uses);
         'further: for arg in rest {
             to.put(b",");
             arg.put(to, names, uses);
         }
         to.put(b")");
+    }
+}
+
+/// The recursion goes as deep as derivations are nested.
+impl Part for Derivation {
+    ghost text = { λ names uses d. derivation_text (derivation_view d) };
+
+    #[cycle(derivation)]
+    fn put<O: Output>(&self, to: &mut O, names: &Names, uses: &Uses<'_>) {
+        put!(to, names, uses; "steps ", self.steps.len(), "\n");
+        self.steps.put(to, names, uses);
+    }
+}
+
+/// The line of a step by a rule tells the rule, the position, and how many derivations follow.
+impl Part for Step {
+    ghost text = { λ names uses s. step_text (step_view s) };
+
+    #[cycle(derivation)]
+    fn put<O: Output>(&self, to: &mut O, names: &Names, uses: &Uses<'_>) {
+        match self {
+            Step::Rule { rule, pos, conds } => {
+                put!(to, names, uses; "rule ", rule, " ", Position(pos), " ", conds.len(), "\n");
+                conds.put(to, names, uses);
+            }
+            Step::Hyp { number, pos } =>
+                put!(to, names, uses; "hyp ", number, " ", Position(pos), "\n"),
+        }
     }
 }
