@@ -10,7 +10,7 @@ use cert_model::{Derivation, Step};
 
 /// Whether the derivation is short enough, and nested at most as deep as the levels.
 #[cycle(is_derivation)]
-#[tactic(auto, using(crate::proofs::Spelt::derivation_from, crate::proofs::Spelt::derivation_short, crate::proofs::Spelt::derivation_steps))]
+#[tactic(auto, using(cert_model::proofs::DerivationViews::derivation_of_steps, crate::proofs::Spelt::steps_long))]
 pub fn is_derivation(levels: u32, derivation: &Derivation) -> bool
     ensures { IsTrue result ↔ IsDerivation levels (derivation_view derivation.now) }
 {
@@ -33,7 +33,7 @@ fn are_steps(levels: u32, steps: &[Step]) -> bool
 }
 
 #[cycle(is_derivation)]
-#[tactic(auto, using(crate::proofs::Spelt::rule_from, crate::proofs::Spelt::rule_number, crate::proofs::Spelt::rule_places, crate::proofs::Spelt::rule_count, crate::proofs::Spelt::rule_conditions, crate::proofs::Spelt::hypothesis_from, crate::proofs::Spelt::hypothesis_number, crate::proofs::Spelt::hypothesis_places))]
+#[tactic(auto, using(cert_model::proofs::DerivationViews::step_of_rule, cert_model::proofs::DerivationViews::step_of_hypothesis, crate::proofs::Spelt::conditions_long))]
 fn is_step(levels: u32, step: &Step) -> bool
     ensures { IsTrue result ↔ IsStep levels (step_view step.now) }
 {

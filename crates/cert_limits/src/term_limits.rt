@@ -48,7 +48,7 @@ pub fn has_name_for(names: &Names, symbol: u32, count: usize) -> bool
 
 /// Whether the symbols of the term have names. The recursion goes as deep as the term.
 #[cycle(is_spelt)]
-#[tactic(auto, using(crate::proofs::Spelt::variable_from, crate::proofs::Spelt::variable_to, crate::proofs::Spelt::spelt_from, crate::proofs::Spelt::spelt_name, crate::proofs::Spelt::spelt_arguments))]
+#[tactic(auto, using(crate::proofs::Spelt::variable_shown, crate::proofs::Spelt::function_shown, crate::proofs::Spelt::arguments_counted))]
 pub fn is_spelt(names: &Names, term: &Term) -> bool
     ensures { IsTrue result ↔ IsSpelt names.now (view term.now) }
 {

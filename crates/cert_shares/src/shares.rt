@@ -81,10 +81,7 @@ impl<'a> Shares<'a> {
         match self.texts.as_slice().get(number as usize - 1) {
             None => Share::Bad,
             Some(text) => {
-                let sum = match self.unfolded.checked_add(text.len()) {
-                    Some(sum) => sum,
-                    None => return Share::Heavy,
-                };
+                let sum = self.unfolded.saturating_add(text.len());
                 if sum > MOST_UNFOLDED as usize {
                     return Share::Heavy;
                 }

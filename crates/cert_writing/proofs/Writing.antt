@@ -1,6 +1,7 @@
 -- A text that is put part by part, and what is left of it.
-use Rattle.std.proofs.Common.{◌≡◌, ◌≤◌, ◌<◌, ◌+◌, ◌-◌, ℕ, List, [], ◌∷◌, ◌++◌, get_or, take, drop, length, subst, sym, ◌∙◌, ap, arith}
+use Rattle.std.proofs.Common.{◌≡◌, ◌≤◌, ◌<◌, ◌+◌, ◌-◌, ℕ, List, [], ◌∷◌, ◌++◌, get_or, map, take, drop, length, subst, sym, ◌∙◌, ap, arith}
 use Rattle.std.proofs.lemmas.List.{take_all, drop_all, drop_more}
+use Rattle.cert_writing.specs.Written.{each}
 
 -- the bytes of a text may come in parts
 abbrev pub InParts : {S : Type 0} → (S → List ℕ → S → Type 0) → Type 0
@@ -43,6 +44,8 @@ pub first_and_others : {A : Type 0} (xs : List A) (x : A) → 1 ≤ length xs �
 first_and_others [] x some = absurd (omega arith)
 first_and_others (y ∷ ys) x some = ap (λ zs. y ∷ zs) (sym (take_all (length (y ∷ ys) - 1) ys (omega arith)))
 
--- the same text
-pub as_text : {S : Type 0} (took : S → List ℕ → S → Type 0) (s t : S) (text other : List ℕ) → other ≡ text → took s text t → took s other t
-as_text took s t text other e h = subst (λ (w : List ℕ). took s w t) (sym e) h
+-- a list's text is that of its members one after the other
+pub each_is : {A B : Type 0} (whole : List A → List ℕ) (text : A → List ℕ) (view : B → A) → whole [] ≡ [] → ((x : A) (xs : List A) → whole (x ∷ xs) ≡ text x ++ whole xs)
+    → (xs : List B) → whole (map view xs) ≡ each (λ x. text (view x)) xs
+each_is whole text view none more [] = none
+each_is whole text view none more (x ∷ xs) = more (view x) (map view xs) ∙ ap (λ w. text (view x) ++ w) (each_is whole text view none more xs)

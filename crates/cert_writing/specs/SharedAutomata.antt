@@ -8,8 +8,11 @@ use Rattle.cert_grammar.specs.Prelude.{is_among}
 use Rattle.cert_writing.specs.declared.numbers.AutomatonTexts.TheInside.{Inside}
 
 -- the automata that are lent
+abbrev pub lent : Bor Automaton → math.Automaton
+lent a = automaton_view a.now
+
 abbrev pub seen : List (Bor Automaton) → List math.Automaton
-seen automata = map (λ a. automaton_view a.now) automata
+seen = map lent
 
 abbrev pub texts_view : Inside → List (List ℕ)
 texts_view t = map (λ v. v.items) t.texts.keys

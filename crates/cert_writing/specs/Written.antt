@@ -1,5 +1,5 @@
 -- What bytes and counts become while a text is written.
-use Rattle.std.specs.Prelude.{◌≡◌, ◌≤◌, ◌+◌, ℕ, List, ◌++◌, Bool, true, false, length, min}
+use Rattle.std.specs.Prelude.{◌≡◌, ◌≤◌, ◌+◌, ℕ, List, [], ◌∷◌, ◌++◌, Bool, true, false, length, min}
 
 -- the bytes have grown by a front of the text
 pub record GrewByFront (old text new : List ℕ) : Type 0 where
@@ -13,6 +13,11 @@ pub record IsWritten (old : List ℕ) (was_refused : Bool) (text new : List ℕ)
   pub whole : refused ≡ false → (was_refused ≡ false) × (new ≡ old ++ text)
   pub front : GrewByFront old text new
   pub ended : was_refused ≡ true → (refused ≡ true) × (new ≡ old)
+
+-- one text after the other
+abbrev pub each : {A : Type 0} → (A → List ℕ) → List A → List ℕ
+each text [] = []
+each text (x ∷ xs) = text x ++ each text xs
 
 -- the greatest count
 abbrev pub greatest : ℕ

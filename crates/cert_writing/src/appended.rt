@@ -1,5 +1,5 @@
 //! The texts of terms, derivations and evidence, put behind the bytes of a vector until memory is refused.
-ghost use Rattle.std.specs.Prelude.{◌≡◌, ◌++◌, false, OnOk, OnErr};
+ghost use Rattle.std.specs.Prelude.{◌≡◌, ◌++◌, OnOk, OnErr};
 ghost use Rattle.term_core.specs.View.{view};
 ghost use Rattle.cert_model.specs.DerivationView.{derivation_view};
 ghost use Rattle.cert_model.specs.EvidenceView.{inf_evidence_view};
@@ -7,31 +7,29 @@ ghost use Rattle.cert_grammar.specs.Prelude.{term_text, derivation_text, in_full
 ghost use Rattle.cert_writing.specs.Written.{GrewByFront};
 
 use crate::output::Writer;
-use crate::written_evidence::{Uses, put_infeasibility};
-use crate::written_steps::put_derivation;
-use crate::written_terms::put_term;
+use crate::parts::Part;
+use crate::written_evidence::Uses;
 use cert_model::{Derivation, InfEvidence};
 use cops_names::Names;
 use std::alloc::Global;
 use std::mem;
 use term_core::{NoMemory, Term};
 
-// Takes the bytes out, to put more behind them.
-fn begin(alloc: Global, out: &mut Vec<u8>) -> Writer
-    ensures bytes { result.bytes.items ≡ out.old.items }
-    ensures refused { result.refused ≡ false }
+/// Puts a part behind the bytes of `out`, until memory is refused.
+pub fn append<P: Part>(
+    alloc: Global,
+    names: &Names,
+    part: &P,
+    out: &mut Vec<u8>,
+) -> Result<(), NoMemory>
+    ensures written { OnOk result (out.new.items ≡ out.old.items ++ P.text names.now in_full part.now) }
+    ensures front { OnErr result (GrewByFront out.old.items (P.text names.now in_full part.now) out.new.items) }
 {
-    Writer {
+    let mut writer = Writer {
         bytes: mem::replace(out, Vec::new(alloc)),
         refused: false,
-    }
-}
-
-// Gives the bytes back, and tells whether memory was refused.
-fn finish(writer: Writer, out: &mut Vec<u8>) -> Result<(), NoMemory>
-    ensures bytes { out.new.items ≡ writer.bytes.items }
-    ensures whole { OnOk result (writer.refused ≡ false) }
-{
+    };
+    part.put(&mut writer, names, &Uses::InFull);
     *out = writer.bytes;
     if writer.refused {
         Err(NoMemory)
@@ -51,24 +49,20 @@ pub fn write_cert_term(
     ensures written { OnOk result (out.new.items ≡ out.old.items ++ term_text names.now (view t.now)) }
     ensures front { OnErr result (GrewByFront out.old.items (term_text names.now (view t.now)) out.new.items) }
 {
-    let mut writer = begin(alloc, out);
-    put_term(&mut writer, names, t);
-    finish(writer, out)
+    append(alloc, names, t, out)
 }
 
 /// The same of the lines of a derivation, which have no names.
 pub fn write_deriv(
     alloc: Global,
-    _names: &Names,
+    names: &Names,
     d: &Derivation,
     out: &mut Vec<u8>,
 ) -> Result<(), NoMemory>
     ensures written { OnOk result (out.new.items ≡ out.old.items ++ derivation_text (derivation_view d.now)) }
     ensures front { OnErr result (GrewByFront out.old.items (derivation_text (derivation_view d.now)) out.new.items) }
 {
-    let mut writer = begin(alloc, out);
-    put_derivation(&mut writer, d);
-    finish(writer, out)
+    append(alloc, names, d, out)
 }
 
 /// The same of evidence that conditions are never met.
@@ -81,7 +75,5 @@ pub fn write_inf(
     ensures written { OnOk result (out.new.items ≡ out.old.items ++ infeasibility_text names.now in_full (inf_evidence_view e.now)) }
     ensures front { OnErr result (GrewByFront out.old.items (infeasibility_text names.now in_full (inf_evidence_view e.now)) out.new.items) }
 {
-    let mut writer = begin(alloc, out);
-    put_infeasibility(&mut writer, names, &Uses::InFull, e);
-    finish(writer, out)
+    append(alloc, names, e, out)
 }

@@ -1,8 +1,7 @@
 //! The automata that a certificate uses, one for each use, in the order of its text.
 ghost use Rattle.std.specs.Prelude.{◌≡◌, ◌++◌, IfOk, OnOk, map};
-ghost use Rattle.cert_model.specs.EvidenceView.{inf_evidence_view};
 ghost use Rattle.cert_model.specs.CertificateView.{pair_entry_view, redex_view, simp_view, certificate_view};
-ghost use Rattle.cert_grammar.specs.Versions.{used_by, used_by_pairs, used_by_redexes, used_by_steps, automata_of};
+ghost use Rattle.cert_grammar.specs.Versions.{used_by_pairs, used_by_redexes, used_by_steps, automata_of};
 ghost use Rattle.cert_writing.specs.SharedAutomata.{seen};
 
 use cert_model::{
@@ -11,25 +10,12 @@ use cert_model::{
 use std::alloc::Global;
 use term_core::NoMemory;
 
-// Puts the automaton last, if the evidence is one.
-fn add_evidence<'a>(
-    automata: &mut Vec<&'a Automaton>,
-    evidence: &'a InfEvidence,
-) -> Result<(), NoMemory>
-    ensures { OnOk result (seen automata.new.items ≡ seen automata.old.items ++ used_by (inf_evidence_view evidence.now)) }
-{
-    if let InfEvidence::Auto { automaton, .. } = evidence {
-        automata.push(automaton)?;
-    }
-    Ok(())
-}
-
 fn add_pairs<'a>(automata: &mut Vec<&'a Automaton>, pairs: &'a [PairEntry]) -> Result<(), NoMemory>
     ensures { OnOk result (seen automata.new.items ≡ seen automata.old.items ++ used_by_pairs (map pair_entry_view pairs.now)) }
 {
     'pairs: for pair in pairs {
-        if let PairEvidence::Infeasible(evidence) = &pair.evidence {
-            add_evidence(automata, evidence)?;
+        if let PairEvidence::Infeasible(InfEvidence::Auto { automaton, .. }) = &pair.evidence {
+            automata.push(automaton)?;
         }
     }
     Ok(())
@@ -39,7 +25,9 @@ fn add_redexes<'a>(automata: &mut Vec<&'a Automaton>, redexes: &'a [Redex]) -> R
     ensures { OnOk result (seen automata.new.items ≡ seen automata.old.items ++ used_by_redexes (map redex_view redexes.now)) }
 {
     'redexes: for redex in redexes {
-        add_evidence(automata, &redex.evidence)?;
+        if let InfEvidence::Auto { automaton, .. } = &redex.evidence {
+            automata.push(automaton)?;
+        }
     }
     Ok(())
 }
@@ -48,8 +36,12 @@ fn add_steps<'a>(automata: &mut Vec<&'a Automaton>, steps: &'a [Simp]) -> Result
     ensures { OnOk result (seen automata.new.items ≡ seen automata.old.items ++ used_by_steps (map simp_view steps.now)) }
 {
     'steps: for step in steps {
-        if let Simp::Drop { evidence, .. } = step {
-            add_evidence(automata, evidence)?;
+        if let Simp::Drop {
+            evidence: InfEvidence::Auto { automaton, .. },
+            ..
+        } = step
+        {
+            automata.push(automaton)?;
         }
     }
     Ok(())

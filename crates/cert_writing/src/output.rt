@@ -1,7 +1,5 @@
 //! What takes the bytes of a text part by part: a writer, which puts them behind others, and a counter.
-ghost use Rattle.std.specs.Prelude.{◌++◌, List, ℕ, [], decimal};
-
-use itoa::Buffer;
+ghost use Rattle.std.specs.Prelude.{◌++◌, List, ℕ, []};
 
 /// What takes the bytes of a text, part by part.
 pub trait Output {
@@ -75,20 +73,4 @@ impl Output for Counter {
     fn refuse(&mut self) {
         self.refused = true;
     }
-}
-
-/// Puts a number in decimal.
-pub fn put_number<O: Output>(to: &mut O, n: usize)
-    ensures { O.took to.old (decimal n) to.new }
-{
-    let mut buffer = Buffer::new();
-    to.put(buffer.format(n).as_bytes());
-}
-
-/// Puts a text and a number behind it.
-pub fn put_numbered<O: Output>(to: &mut O, text: &[u8], n: usize)
-    ensures { O.took to.old (text.now ++ decimal n) to.new }
-{
-    to.put(text);
-    put_number(to, n);
 }

@@ -1,156 +1,141 @@
 //! The text of a certificate with its measure, overlaps or peak, and how many bytes it has.
-ghost use Rattle.std.specs.Prelude.{◌≡◌, length, map, min, IfOk};
+ghost use Rattle.std.specs.Prelude.{◌≡◌, length, min, IfOk};
 ghost use Rattle.term_core.specs.HeadView.{head_view};
 ghost use Rattle.cert_model.specs.CertificateView.{linear_entry_view, measure_view, redex_view, apart_view, peak_view, simp_view, certificate_view};
+ghost use Rattle.cert_grammar.specs.Prelude.{measured_text, measure_text, apart_text, peak_text, body_text, certificate_text, second_version};
 ghost use Rattle.cert_writing.specs.Written.{greatest};
-ghost use Rattle.cert_grammar.specs.Prelude.{measured_text, entries_text, heads_text, measure_text, redexes_text, apart_text, peak_text, simplifications_text, body_text, certificate_text};
-ghost use Rattle.cert_grammar.specs.Prelude.{second_version};
-ghost use Rattle.cert_writing.specs.WrittenUses.{uses_view, step_text};
+ghost use Rattle.cert_writing.specs.WrittenUses.{uses_view, place_text, entry_text, redex_text, step_text};
 
 use crate::numbers::{AutomatonTexts, put_texts};
-use crate::output::{Counter, Output, put_numbered};
-use crate::written_evidence::{Uses, put_infeasibility, put_numbers, put_pairs};
-use crate::written_steps::put_derivation;
-use crate::written_terms::{put_name, put_position, put_term};
+use crate::output::Output;
+use crate::parts::{Part, count};
+use crate::written_evidence::Uses;
+use crate::written_terms::{Behind, Name, Position};
 use cert_model::{Certificate, Head, LinearEntry, MeasureCert, NonJoin, Peak, Redex, Simp};
 use cops_names::Names;
 use std::alloc::Global;
 use term_core::NoMemory;
 
 // A symbol of the file, or the symbol that a rule has for one of its conditions.
-fn put_measured<O: Output>(to: &mut O, names: &Names, head: &Head)
-    ensures { O.took to.old (measured_text names.now (head_view head.now)) to.new }
-{
-    match head {
-        Head::File(symbol) => {
-            to.put(b"fun ");
-            put_name(to, names, *symbol);
-        }
-        Head::Aux { rule, cond } => {
-            put_numbered(to, b"aux ", *rule as usize);
-            put_numbered(to, b" ", *cond as usize);
-        }
-    }
-}
+#[derive(Drop)]
+struct Measured<'a>(&'a Head);
 
-fn put_entries<O: Output>(to: &mut O, names: &Names, entries: &[LinearEntry])
-    ensures { O.took to.old (entries_text names.now (map linear_entry_view entries.now)) to.new }
-{
-    'entries: for entry in entries {
-        put_measured(to, names, &entry.head);
-        put_numbers(to, &entry.coeffs);
-        to.put(b"\n");
-    }
-}
+impl Part for Measured<'_> {
+    ghost text = { λ names uses m. measured_text names (head_view m.0.now) };
 
-fn put_heads<O: Output>(to: &mut O, names: &Names, heads: &[Head])
-    ensures { O.took to.old (heads_text names.now (map head_view heads.now)) to.new }
-{
-    'heads: for head in heads {
-        put_measured(to, names, head);
-        to.put(b"\n");
-    }
-}
-
-fn put_measure<O: Output>(to: &mut O, names: &Names, measure: &MeasureCert)
-    ensures { O.took to.old (measure_text names.now (measure_view measure.now)) to.new }
-{
-    match measure {
-        MeasureCert::Linear(linear) => {
-            to.put(b"linear\n");
-            put_entries(to, names, &linear.entries);
-        }
-        MeasureCert::Lpo(order) => {
-            to.put(b"lpo\n");
-            put_heads(to, names, order);
+    fn put<O: Output>(&self, to: &mut O, names: &Names, uses: &Uses<'_>) {
+        match self.0 {
+            Head::File(symbol) => ("fun ", Name(*symbol)).put(to, names, uses),
+            Head::Aux { rule, cond } => { put!(to, names, uses; "aux ", rule, " ", cond) }
         }
     }
 }
 
-fn put_redexes<O: Output>(to: &mut O, names: &Names, uses: &Uses<'_>, redexes: &[Redex])
-    ensures { O.took to.old (redexes_text names.now (uses_view names.now uses.now) (map redex_view redexes.now)) to.new }
-{
-    'redexes: for redex in redexes {
-        put_numbered(to, b"redex ", redex.which as usize);
-        to.put(b" ");
-        put_position(to, &redex.pos);
-        put_numbered(to, b" ", redex.rule as usize);
-        to.put(b" ");
-        put_infeasibility(to, names, uses, &redex.evidence);
+/// A line of a precedence.
+impl Part for Head {
+    ghost text = { λ names uses h. place_text names (head_view h) };
+
+    fn put<O: Output>(&self, to: &mut O, names: &Names, uses: &Uses<'_>) {
+        (Measured(self), "\n").put(to, names, uses);
     }
 }
 
-fn put_apart<O: Output>(to: &mut O, names: &Names, uses: &Uses<'_>, apart: &NonJoin)
-    ensures { O.took to.old (apart_text names.now (uses_view names.now uses.now) (apart_view apart.now)) to.new }
-{
-    match apart {
-        NonJoin::Normal(redexes) => {
-            to.put(b"normal\n");
-            put_redexes(to, names, uses, redexes);
-        }
-        NonJoin::Caps => to.put(b"caps\n"),
+impl Part for LinearEntry {
+    ghost text = { λ names uses e. entry_text names (linear_entry_view e) };
+
+    fn put<O: Output>(&self, to: &mut O, names: &Names, uses: &Uses<'_>) {
+        put!(to, names, uses; Measured(&self.head), Behind(b' ', &self.coeffs), "\n");
     }
 }
 
-fn put_peak<O: Output>(to: &mut O, names: &Names, uses: &Uses<'_>, peak: &Peak)
-    ensures { O.took to.old (peak_text names.now (uses_view names.now uses.now) (peak_view peak.now)) to.new }
-{
-    to.put(b"start ");
-    put_term(to, names, &peak.start);
-    to.put(b"\n");
-    put_derivation(to, &peak.first);
-    put_derivation(to, &peak.second);
-    put_apart(to, names, uses, &peak.apart);
-}
+#[tactic(auto, using(crate::proofs::WritingSteps::entries_each, crate::proofs::WritingSteps::places_each))]
+impl Part for MeasureCert {
+    ghost text = { λ names uses m. measure_text names (measure_view m) };
 
-fn put_step<O: Output>(to: &mut O, names: &Names, uses: &Uses<'_>, step: &Simp)
-    ensures { O.took to.old (step_text names.now (uses_view names.now uses.now) (simp_view step.now)) to.new }
-{
-    match step {
-        Simp::Drop { rule, evidence } => {
-            put_numbered(to, b"drop ", *rule as usize);
-            to.put(b" ");
-            put_infeasibility(to, names, uses, evidence);
-        }
-        Simp::Inline { rule, cond } => {
-            put_numbered(to, b"inline ", *rule as usize);
-            put_numbered(to, b" ", *cond as usize);
-            to.put(b"\n");
+    fn put<O: Output>(&self, to: &mut O, names: &Names, uses: &Uses<'_>) {
+        match self {
+            MeasureCert::Linear(linear) => ("linear\n", &linear.entries).put(to, names, uses),
+            MeasureCert::Lpo(order) => ("lpo\n", order).put(to, names, uses),
         }
     }
 }
 
-fn put_steps<O: Output>(to: &mut O, names: &Names, uses: &Uses<'_>, steps: &[Simp])
-    ensures { O.took to.old (simplifications_text names.now (uses_view names.now uses.now) (map simp_view steps.now)) to.new }
-{
-    'steps: for step in steps {
-        put_step(to, names, uses, step);
+impl Part for Redex {
+    ghost text = { λ names uses r. redex_text names uses (redex_view r) };
+
+    fn put<O: Output>(&self, to: &mut O, names: &Names, uses: &Uses<'_>) {
+        put!(to, names, uses; "redex ", self.which, " ", Position(&self.pos), " ", self.rule, " ", &self.evidence);
     }
 }
 
+#[tactic(auto, using(crate::proofs::WritingSteps::redexes_each))]
+impl Part for NonJoin {
+    ghost text = { λ names uses a. apart_text names uses (apart_view a) };
+
+    fn put<O: Output>(&self, to: &mut O, names: &Names, uses: &Uses<'_>) {
+        match self {
+            NonJoin::Normal(redexes) => ("normal\n", redexes).put(to, names, uses),
+            NonJoin::Caps => to.put(b"caps\n"),
+        }
+    }
+}
+
+impl Part for Peak {
+    ghost text = { λ names uses p. peak_text names uses (peak_view p) };
+
+    fn put<O: Output>(&self, to: &mut O, names: &Names, uses: &Uses<'_>) {
+        put!(to, names, uses; "start ", &self.start, "\n", &self.first, &self.second, &self.apart);
+    }
+}
+
+/// A step before a body.
+impl Part for Simp {
+    ghost text = { λ names uses s. step_text names uses (simp_view s) };
+
+    fn put<O: Output>(&self, to: &mut O, names: &Names, uses: &Uses<'_>) {
+        match self {
+            Simp::Drop { rule, evidence } => { put!(to, names, uses; "drop ", rule, " ", evidence) }
+            Simp::Inline { rule, cond } => {
+                put!(to, names, uses; "inline ", rule, " ", cond, "\n")
+            }
+        }
+    }
+}
+
+#[tactic(auto, using(crate::proofs::WritingSteps::pairs_each, cert_model::proofs::CertificateViews::ortho_shown, cert_model::proofs::CertificateViews::quasi_shown))]
 #[cycle(put_body)]
 fn put_body<O: Output>(to: &mut O, names: &Names, uses: &Uses<'_>, cert: &Certificate)
     ensures { O.took to.old (body_text names.now (uses_view names.now uses.now) (certificate_view cert.now)) to.new }
 {
     match cert {
-        Certificate::Ortho(pairs) => {
-            to.put(b"ortho\n");
-            put_pairs(to, names, uses, pairs);
-        }
-        Certificate::Quasi(measure, pairs) => {
-            to.put(b"quasi\n");
-            put_measure(to, names, measure);
-            put_pairs(to, names, uses, pairs);
-        }
-        Certificate::Peak(peak) => {
-            to.put(b"peak\n");
-            put_peak(to, names, uses, peak);
-        }
+        Certificate::Ortho(pairs) => ("ortho\n", pairs).put(to, names, uses),
+        Certificate::Quasi(measure, pairs) => { put!(to, names, uses; "quasi\n", measure, pairs) }
+        Certificate::Peak(peak) => ("peak\n", peak).put(to, names, uses),
         Certificate::Simplified { steps, body } => {
-            put_numbered(to, b"simplify ", steps.len());
-            to.put(b"\n");
-            put_steps(to, names, uses, steps);
+            ("simplify ", steps.len()).put(to, names, uses);
+            ("\n", steps).put(to, names, uses);
             put_body(to, names, uses, body);
+        }
+    }
+}
+
+// A certificate with the lines around it; its automata are numbered.
+#[derive(Drop)]
+struct Whole<'a>(Global, &'a Certificate);
+
+impl Part for Whole<'_> {
+    ghost text = { λ names uses whole. certificate_text second_version names (certificate_view whole.1.now) };
+
+    fn put<O: Output>(&self, to: &mut O, names: &Names, uses: &Uses<'_>) {
+        match AutomatonTexts::of(self.0, names, self.1) {
+            Ok(texts) => {
+                ("concon 2\nshared ", texts.len()).put(to, names, uses);
+                to.put(b"\n");
+                put_texts(to, &texts);
+                put_body(to, names, &Uses::ByNumber(&texts), self.1);
+                to.put(b"end\n");
+            }
+            Err(_) => to.refuse(),
         }
     }
 }
@@ -160,29 +145,12 @@ fn put_body<O: Output>(to: &mut O, names: &Names, uses: &Uses<'_>, cert: &Certif
 pub fn put_certificate<O: Output>(alloc: Global, to: &mut O, names: &Names, cert: &Certificate)
     ensures { O.took to.old (certificate_text second_version names.now (certificate_view cert.now)) to.new }
 {
-    match AutomatonTexts::of(alloc, names, cert) {
-        Ok(texts) => {
-            put_numbered(to, b"concon 2\nshared ", texts.len());
-            to.put(b"\n");
-            put_texts(to, &texts);
-            put_body(to, names, &Uses::ByNumber(&texts), cert);
-            to.put(b"end\n");
-        }
-        Err(_) => to.refuse(),
-    }
+    Whole(alloc, cert).put(to, names, &Uses::InFull);
 }
 
 /// The number of bytes of the certificate's text, or the greatest number where there are more.
 pub fn text_len(alloc: Global, names: &Names, cert: &Certificate) -> Result<u64, NoMemory>
     ensures { IfOk result (λ n. n ≡ min (length (certificate_text second_version names.now (certificate_view cert.now))) greatest) }
 {
-    let mut counter = Counter {
-        count: 0,
-        refused: false,
-    };
-    put_certificate(alloc, &mut counter, names, cert);
-    if counter.refused {
-        return Err(NoMemory);
-    }
-    Ok(counter.count)
+    count(names, &Whole(alloc, cert))
 }

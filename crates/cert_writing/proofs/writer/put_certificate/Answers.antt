@@ -1,9 +1,0 @@
-use Rattle.cert_writing.proofs.Prelude.{certificate_view, as_text, whole_text}
-use Rattle.cert_writing.proofs.writer.put_certificate.Goals as goal
-
-pub returns-in-Ok : goal.returns-in-Ok
-returns-in-Ok g c =
-    let p = g.met.O.Output.parts in
-    as_text g.O.Output.took _ _ _ _ (whole_text c.args.names.now (certificate_view c.args.cert.now) _ c.in-Ok.ensures)
-    (p _ _ _ _ _ (p _ _ _ _ _ (rw c.len.ensures at c.put_numbered.ensures) (p _ _ _ _ _ c.put.ensures c.put_texts.ensures))
-    (p _ _ _ _ _ c.put_body.ensures c.put-in-Ok.ensures))
