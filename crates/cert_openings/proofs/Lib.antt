@@ -1,6 +1,6 @@
 pub mod Prelude
-pub mod Stages
-pub mod Heads
+pub mod Lines
+pub mod OwnLines
 pub mod Along
 pub mod Entries
 pub mod OpeningMarks

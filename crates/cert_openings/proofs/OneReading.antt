@@ -1,9 +1,9 @@
 -- Two readings of a text up to one place are one.
 use Rattle.cert_openings.proofs.Prelude.{◌≡◌, ℕ, List, ◌++◌, refl, sym, ap, ◌∙◌, marks_of, append_cancel_left, take-append_seam, Automaton, PairEntry, Simplification, Certificate, NameTable, name_of}
-use Rattle.cert_openings.proofs.Prelude.{closing, Version, first_version, second_version, Uses, shared_by, marks_text, certificate_marks, text_both, front_marks, numbered_with, whole_marks, Opening}
-use Rattle.cert_openings.proofs.Prelude.{ortho_opening, quasi_opening, simplified_opening, certificate_for, uses_with, AreLeft, IsRead, AreOne}
+use Rattle.cert_openings.proofs.Prelude.{closing, Version, first_version, second_version, shared_by, marks_text, certificate_marks, text_both, front_marks, numbered_with, whole_marks, Opening}
+use Rattle.cert_openings.proofs.Prelude.{ortho_opening, quasi_opening, simplified_opening, certificate_for, AreLeft, IsRead, AreOne}
 use Rattle.cert_laws.proofs.AlikePaths.{same_skeletons}
-use Rattle.cert_sharing.proofs.OneCertificate.{numbered_in, StandBefore, AreSame, marks_tell}
+use Rattle.cert_sharing.proofs.OneCertificate.{StandBefore, AreSame, marks_tell}
 use Rattle.cert_openings.proofs.Opened.{gone}
 use Rattle.cert_openings.proofs.OpeningMarks.{with_closing}
 
@@ -18,10 +18,6 @@ openings_same (simplified_opening ss o) (simplified_opening ts p) es fs e =
 openings_same _ _ es fs e = absurd cc
 
 -- ---- what is read, with the last line behind it
-
-same_uses : (v : Version) (names : NameTable) (all : List Automaton) → uses_with v names all ≡ numbered_in v names all
-same_uses first_version names all = refl
-same_uses second_version names all = refl
 
 stand : (v : Version) (names : NameTable) (c : Certificate) (left : List Automaton) → AreLeft v names c left → StandBefore v names c (shared_by names c ++ left)
 stand first_version names c left h = tt
@@ -55,7 +51,7 @@ one_reading names bytes o p es fs at h k =
     let marks : certificate_marks x a.uses bs a.answer c ≡ certificate_marks x b.uses ds b.answer d =
     cc (s.1, t.1, same_skeletons s.0 t.0 same_text, whole_marks x a.uses bs a.answer c, whole_marks x b.uses ds b.answer d) in
     let tell = marks_tell h.version k.version names c d bs ds a.answer b.answer h.within k.within (stand h.version names c h.left h.are_left) (stand k.version names d k.left k.are_left)
-    (ap (λ (u : Uses). certificate_marks x u bs a.answer c) (sym (same_uses h.version names bs)) ∙ marks ∙ ap (λ (u : Uses). certificate_marks x u ds b.answer d) (same_uses k.version names ds)) in
+    marks in
     let same = openings_same o p es fs tell.1 in
     record {
       version = tell.0;

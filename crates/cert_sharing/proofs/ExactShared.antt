@@ -2,8 +2,8 @@
 use Rattle.cert_sharing.proofs.Prelude.{◌≡◌, ◌⊎◌, inl, inr, ℕ, zero, suc, ◌+◌, ◌*◌, ◌<◌, true, List, [], ◌∷◌, length, Option, Some, None, refl, sym, ap, ◌∙◌, subst, arith, append-nil, NameTable}
 use Rattle.cert_sharing.proofs.Prelude.{CertificateCause, syntax, Mark, demands_of, verdict, Shared, nothing_shared, share_verdict, behind_mark, behind_marks, PassShares, Pass, marks_of, marks_text}
 use Rattle.cert_sharing.proofs.Prelude.{goes_on, IsPlainlyRefused, IsRefusedShared, IsCertificateRefused, Item, opening, Lead, leads, is_there, first_there, longest, mark_of, items_of, Left, refuses}
-use Rattle.cert_sharing.proofs.Prelude.{behind_lead, judged, step_lead, step, Reading, accepted, refused, whole_text, SharedStep, ends, further, shared_judged, after_step, shared_step}
-use Rattle.cert_sharing.proofs.Prelude.{shared_reading, read_shared, read_text, passed_anywhere, pass_both, skeleton_path, IsMetText, IsAnswer, There}
+use Rattle.cert_sharing.proofs.Prelude.{behind_lead, judged, step_lead, step, Reading, accepted, refused, whole_text, SharedStep, ends, further, shared_judged, after_step, shared_step, shared_reading}
+use Rattle.cert_sharing.proofs.Prelude.{read_shared, read_text, passed_anywhere, pass_both, skeleton_path, IsMetText, IsAnswer, There}
 use Rattle.cert_laws.proofs.LeadTables.{In}
 use Rattle.cert_laws.proofs.Paths.{first_sound, Takes}
 use Rattle.cert_laws.proofs.Reached.{moves_path, moves_text, same_taken, there_first, no_refusal, StopsFor}
