@@ -26,9 +26,8 @@ stand second_version names c left h = (h.2, (numbered_with names c left).each)
 left_same : (v w : Version) (names : NameTable) (c d : Certificate) (l m : List Automaton) → v ≡ w → c ≡ d → AreLeft v names c l → AreLeft w names d m
     → AreSame v (shared_by names c ++ l) (shared_by names d ++ m) → l ≡ m
 left_same first_version first_version names c d l m e f h k s = h ∙ sym k
-left_same first_version second_version names c d l m e f h k s = absurd cc
-left_same second_version first_version names c d l m e f h k s = absurd cc
 left_same second_version second_version names c d l m e f h k s = append_cancel_left (shared_by names c) l m (s ∙ ap (λ (x : Certificate). shared_by names x ++ m) (sym f))
+left_same _ _ names c d l m e f h k s = absurd cc
 
 pub one_reading : (names : NameTable) (bytes : List ℕ) (o p : Opening) (es fs : List PairEntry) (at : ℕ) → (h : IsRead names bytes o es at) → (k : IsRead names bytes p fs at)
     → AreOne names bytes o p es fs at h k

@@ -57,16 +57,13 @@ place_same p q e = let texts : places_text p ≡ places_text q = cc in sym (plac
 arguments_further : (ts us : Terms) (x : Naming) (depth n : ℕ) (c d : Demand) (k l : List Mark) → arguments_marks x depth n ts ++ (behind c ∷ k) ≡ arguments_marks x depth n us ++ (behind d ∷ l)
     → further_marks x depth n ts ++ (behind c ∷ k) ≡ further_marks x depth n us ++ (behind d ∷ l)
 arguments_further nil nil x depth n c d k l e = cc
-arguments_further nil (cons u us) x depth n c d k l e = absurd cc
-arguments_further (cons t ts) nil x depth n c d k l e = absurd cc
 arguments_further (cons t ts) (cons u us) x depth n c d k l e = cc
+arguments_further _ _ x depth n c d k l e = absurd cc
 
 mutual
   pub same_terms : (t u : Term) (names : NameTable) (depth n : ℕ) (k l : List Mark) → IsSpelt names t → IsSpelt names u
       → term_marks (name_of names) depth n t ++ k ≡ term_marks (name_of names) depth n u ++ l → (t ≡ u) × (k ≡ l)
   same_terms (var a) (var b) names depth n k l h i e = (cc, cc)
-  same_terms (var a) (app g us) names depth n k l h i e = absurd cc
-  same_terms (app f ts) (var b) names depth n k l h i e = absurd cc
   same_terms (app f ts) (app g us) names depth n k l h i e =
       let x = name_of names in
       let same = same_symbol names f g h.0.0 i.0.0 h.0.1.named h.0.1.found i.0.1.named i.0.1.found (cc) in
@@ -75,12 +72,11 @@ mutual
       let args = same_further ts us names (suc depth) (suc n) (has_arity (x f) (count ts)) (has_arity (x g) (count us)) k l h.1 i.1
       (arguments_further ts us x (suc depth) (suc n) (has_arity (x f) (count ts)) (has_arity (x g) (count us)) k l rest) in
       (cc, args.1)
+  same_terms _ _ names depth n k l h i e = absurd cc
 
   same_further : (ts us : Terms) (names : NameTable) (depth n : ℕ) (c d : Demand) (k l : List Mark) → AreSpelt names ts → AreSpelt names us
       → further_marks (name_of names) depth n ts ++ (behind c ∷ k) ≡ further_marks (name_of names) depth n us ++ (behind d ∷ l) → (ts ≡ us) × (k ≡ l)
   same_further nil nil names depth n c d k l h i e = (refl, cc)
-  same_further nil (cons u us) names depth n c d k l h i e = absurd (clash _ _ _ _ refl e)
-  same_further (cons t ts) nil names depth n c d k l h i e = absurd (clash _ _ _ _ refl e)
   same_further (cons t ts) (cons u us) names depth n c d k l h i e =
       let x = name_of names in
       let rest = regroup (term_marks x depth n t) (further_marks x depth (n + size t) ts) (behind c ∷ k) (term_marks x depth n u) (further_marks x depth (n + size u) us)
@@ -88,37 +84,35 @@ mutual
       let first = same_terms t u names depth n _ _ h.0 i.0 rest in
       let others = same_further ts us names depth (n + size t) c d k l h.1 i.1 (cc) in
       (cc, others.1)
+  same_further _ _ names depth n c d k l h i e = absurd (clash _ _ _ _ refl e)
 
 -- ---- derivations
 
 mutual
   same_steps : (d e : Derivation) (level : ℕ) (k l : List Mark) → step_count d ≡ step_count e → steps_marks level d ++ k ≡ steps_marks level e ++ l → (d ≡ e) × (k ≡ l)
   same_steps no_steps no_steps level k l n e = (refl, e)
-  same_steps no_steps (first_step t f) level k l n e = absurd (let q : 0 ≡ suc (step_count f) = n in omega arith)
-  same_steps (first_step s d) no_steps level k l n e = absurd (let q : suc (step_count d) ≡ 0 = n in omega arith)
   same_steps (first_step s d) (first_step t f) level k l n e =
       let first = same_step s t level _ _ (regroup (step_marks level s) (steps_marks level d) k (step_marks level t) (steps_marks level f) l e) in
       let others = same_steps d f level k l (let q : suc (step_count d) ≡ suc (step_count f) = n in omega arith) first.1 in
       (cc, others.1)
+  same_steps _ _ level k l n e = absurd cc
 
   same_step : (s t : Step) (level : ℕ) (k l : List Mark) → step_marks level s ++ k ≡ step_marks level t ++ l → (s ≡ t) × (k ≡ l)
   same_step (by_rule i p ds) (by_rule j q es) level k l e =
       let place = place_same p q (cc) in
       let others = same_derivations ds es (suc level) k l (cc) (cc) in
       (cc, others.1)
-  same_step (by_rule i p ds) (by_hypothesis j q) level k l e = absurd cc
-  same_step (by_hypothesis i p) (by_rule j q es) level k l e = absurd cc
   same_step (by_hypothesis i p) (by_hypothesis j q) level k l e = let place = place_same p q (cc) in (cc, cc)
+  same_step _ _ level k l e = absurd cc
 
   same_derivations : (ds es : Derivations) (level : ℕ) (k l : List Mark) → derivation_count ds ≡ derivation_count es
       → derivations_marks level ds ++ k ≡ derivations_marks level es ++ l → (ds ≡ es) × (k ≡ l)
   same_derivations no_derivations no_derivations level k l n e = (refl, e)
-  same_derivations no_derivations (first_derivation f es) level k l n e = absurd (let q : 0 ≡ suc (derivation_count es) = n in omega arith)
-  same_derivations (first_derivation d ds) no_derivations level k l n e = absurd (let q : suc (derivation_count ds) ≡ 0 = n in omega arith)
   same_derivations (first_derivation d ds) (first_derivation f es) level k l n e =
       let first = same_steps d f level _ _ (cc) (regroup (steps_marks level d) (derivations_marks level ds) k (steps_marks level f) (derivations_marks level es) l (cc)) in
       let others = same_derivations ds es level k l (let q : suc (derivation_count ds) ≡ suc (derivation_count es) = n in omega arith) first.1 in
       (cc, others.1)
+  same_derivations _ _ level k l n e = absurd cc
 
 pub same_derivation : (d e : Derivation) (k l : List Mark) → derivation_marks d ++ k ≡ derivation_marks e ++ l → (d ≡ e) × (k ≡ l)
 same_derivation d f k l e = same_steps d f 1 k l (cc) (cc)
@@ -154,34 +148,29 @@ same_accepting qs rs bound k l e =
 
 same_further_states : (qs rs : List ℕ) (bound : ℕ) (k l : List Mark) → further_states_marks bound qs ++ k ≡ further_states_marks bound rs ++ l → (qs ≡ rs) × (k ≡ l)
 same_further_states [] [] bound k l e = (refl, tail_same _ _ _ _ e)
-same_further_states [] (r ∷ rs) bound k l e = absurd (clash _ _ _ _ refl e)
-same_further_states (q ∷ qs) [] bound k l e = absurd (clash _ _ _ _ refl e)
 same_further_states (q ∷ qs) (r ∷ rs) bound k l e = let others = same_further_states qs rs bound k l (cc) in (cc, others.1)
+same_further_states _ _ bound k l e = absurd (clash _ _ _ _ refl e)
 
 states_further : (qs rs : List ℕ) (bound : ℕ) (c d : Demand) (k l : List Mark) → states_marks bound qs ++ (behind c ∷ k) ≡ states_marks bound rs ++ (behind d ∷ l)
     → further_states_marks bound qs ++ (behind c ∷ k) ≡ further_states_marks bound rs ++ (behind d ∷ l)
 states_further [] [] bound c d k l e = cc
-states_further [] (r ∷ rs) bound c d k l e = absurd cc
-states_further (q ∷ qs) [] bound c d k l e = absurd cc
 states_further (q ∷ qs) (r ∷ rs) bound c d k l e = cc
+states_further _ _ bound c d k l e = absurd cc
 
 same_head : (f g : Option ℕ) (names : NameTable) (bound : ℕ) (qs rs : List ℕ) (k l : List Mark) → IsHead names f qs → IsHead names g rs
     → head_marks (name_of names) bound f qs ++ k ≡ head_marks (name_of names) bound g rs ++ l → (f ≡ g) × (qs ≡ rs) × (k ≡ l)
 same_head None None names bound qs rs k l h i e = (refl, h ∙ sym i, cc)
-same_head None (Some g) names bound qs rs k l h i e = absurd cc
-same_head (Some f) None names bound qs rs k l h i e = absurd cc
 same_head (Some f) (Some g) names bound qs rs k l h i e =
     let x = name_of names in
     let same = same_symbol names f g h.0 i.0 h.1.named h.1.found i.1.named i.1.found (cc) in
     let rest = regroup (states_marks bound qs) (behind (has_arity (x f) (length qs)) ∷ []) k (states_marks bound rs) (behind (has_arity (x g) (length rs)) ∷ []) l (cc) in
     let states = same_further_states qs rs bound _ _ (states_further qs rs bound (has_arity (x f) (length qs)) (has_arity (x g) (length rs)) k l rest) in
     (ap Some same, states.0, cc)
+same_head _ _ names bound qs rs k l h i e = absurd cc
 
 same_transitions : (ts us : List Transition) (names : NameTable) (bound : ℕ) (k l : List Mark) → AreTransitions names bound ts → AreTransitions names bound us
     → length ts ≡ length us → transitions_marks (name_of names) bound ts ++ k ≡ transitions_marks (name_of names) bound us ++ l → (ts ≡ us) × (k ≡ l)
 same_transitions [] [] names bound k l h i n e = (refl, e)
-same_transitions [] (u ∷ us) names bound k l h i n e = absurd (let q : 0 ≡ suc (length us) = n in omega arith)
-same_transitions (t ∷ ts) [] names bound k l h i n e = absurd (let q : suc (length ts) ≡ 0 = n in omega arith)
 same_transitions (t ∷ ts) (u ∷ us) names bound k l h i n e =
     let x = name_of names in
     let lines = regroup (head_marks x bound t.symbol t.arguments ++ target_marks bound t.target) (transitions_marks x bound ts) k
@@ -193,6 +182,7 @@ same_transitions (t ∷ ts) (u ∷ us) names bound k l h i n e =
     let first : ◌≡◌ {A = Transition} (record { symbol = t.symbol; arguments = t.arguments; target = t.target })
     (record { symbol = u.symbol; arguments = u.arguments; target = u.target }) = cc (heads.0, heads.1) in
     (cc, others.1)
+same_transitions _ _ names bound k l h i n e = absurd cc
 
 pub same_automata : (a b : Automaton) (names : NameTable) (k l : List Mark) → IsAutomaton names a → IsAutomaton names b
     → automaton_marks (name_of names) a ++ k ≡ automaton_marks (name_of names) b ++ l → (a ≡ b) × (k ≡ l)
@@ -242,8 +232,7 @@ module _ (names : NameTable) where
     same_infeasibility : (e f : InfeasibilityEvidence) (k l : List Mark) → AllOf P (used_by e) → AllOf P (used_by f) → infeasibility_marks x u e ++ k ≡ infeasibility_marks x u f ++ l → (e ≡ f) × (k ≡ l)
     same_infeasibility by_caps by_caps k l h i e = (refl, tail_same _ _ _ _ e)
     same_infeasibility (by_automaton j a) (by_automaton m b) k l h i e = let r = s a b k l h.0 i.0 (cc) in (cc, r.1)
-    same_infeasibility by_caps (by_automaton m b) k l h i e = absurd (clash _ _ _ _ refl e)
-    same_infeasibility (by_automaton j a) by_caps k l h i e = absurd (clash _ _ _ _ refl e)
+    same_infeasibility _ _ k l h i e = absurd (clash _ _ _ _ refl e)
 
     same_evidence : (e f : PairEvidence) (k l : List Mark) → AllOf P (used_by_evidence e) → AllOf P (used_by_evidence f) → evidence_marks x u e ++ k ≡ evidence_marks x u f ++ l → (e ≡ f) × (k ≡ l)
     same_evidence trivial_pair trivial_pair k l h i e = (refl, tail_same _ _ _ _ e)
@@ -320,16 +309,14 @@ module _ (names : NameTable) where
         (IsMeasured names) (AreHeads names) (λ d ds h. (h.0, h.1))
         (λ n d c k l h i e. let first = same_measured d c n _ _ h i (sym (in_line n d [] k) ∙ e ∙ in_line n c [] l) in (first.0, tail_same _ _ _ _ first.1)) ds es 1 k l h.1 i.1 p q (tail_same _ _ _ _ e) in
         (ap precedence_measure r.0, r.1)
-    same_measure (linear_measure ds) (precedence_measure es) k l h i p q e = absurd (clash _ _ _ _ refl e)
-    same_measure (precedence_measure ds) (linear_measure es) k l h i p q e = absurd (clash _ _ _ _ refl e)
+    same_measure _ _ k l h i p q e = absurd (clash _ _ _ _ refl e)
 
     -- ---- bodies
 
     same_apart : (a b : Apartness) → AllOf P (used_by_apart a) → AllOf P (used_by_apart b) → apart_marks x u a ++ closing ≡ apart_marks x u b ++ closing → a ≡ b
     same_apart (by_normal_forms rs) (by_normal_forms ss) h i e = ap by_normal_forms (same_redexes rs ss h i (tail_same _ _ _ _ e))
     same_apart by_rigid_caps by_rigid_caps h i e = refl
-    same_apart (by_normal_forms rs) by_rigid_caps h i e = absurd (clash _ _ _ _ refl e)
-    same_apart by_rigid_caps (by_normal_forms ss) h i e = absurd (clash _ _ _ _ refl e)
+    same_apart _ _ h i e = absurd (clash _ _ _ _ refl e)
 
     same_simplifications : (ss ts : List Simplification) (k l : List Mark) → length ss ≡ length ts → AllOf P (used_by_steps ss) → AllOf P (used_by_steps ts)
         → simplifications_marks x u ss ++ k ≡ simplifications_marks x u ts ++ l → (ss ≡ ts) × (k ≡ l)
@@ -345,8 +332,7 @@ module _ (names : NameTable) where
     same_simplifications (inlined r j ∷ ss) (inlined q m ∷ ts) k l n h i e =
         let others = same_simplifications ss ts k l (let q : suc (length ss) ≡ suc (length ts) = n in omega arith) h i (cc) in
         (cc, others.1)
-    same_simplifications (dropped r a ∷ ss) (inlined q m ∷ ts) k l n h i e = absurd (clash _ _ _ _ refl e)
-    same_simplifications (inlined r j ∷ ss) (dropped q b ∷ ts) k l n h i e = absurd (clash _ _ _ _ refl e)
+    same_simplifications _ _ k l n h i e = absurd (clash _ _ _ _ refl e)
 
     same_bodies : (c d : Certificate) (given : Option Bool) → IsWithin names c → IsWithin names d → AllOf P (automata_of c) → AllOf P (automata_of d)
         → body_marks x u given c ++ closing ≡ body_marks x u given d ++ closing → c ≡ d
@@ -386,20 +372,18 @@ same_answers None (Some true) a b k l p q r s e = absurd (clash _ _ _ _ p (sym e
 same_answers None (Some false) a b k l p q r s e = absurd (clash _ _ _ _ q (sym e))
 same_answers (Some true) None a b k l p q r s e = absurd (clash _ _ _ _ r e)
 same_answers (Some false) None a b k l p q r s e = absurd (clash _ _ _ _ s e)
-same_answers (Some true) (Some false) a b k l p q r s e = absurd (clash _ _ _ _ refl e)
-same_answers (Some false) (Some true) a b k l p q r s e = absurd (clash _ _ _ _ refl e)
+same_answers _ _ a b k l p q r s e = absurd (clash _ _ _ _ refl e)
 
 same_shared : (bs ds : List Automaton) (names : NameTable) (k l : List Mark) → AreAutomata names bs → AreAutomata names ds → length bs ≡ length ds
     → automata_marks (name_of names) bs ++ k ≡ automata_marks (name_of names) ds ++ l → (bs ≡ ds) × (k ≡ l)
 same_shared [] [] names k l h i n e = (refl, e)
-same_shared [] (d ∷ ds) names k l h i n e = absurd (let q : 0 ≡ suc (length ds) = n in omega arith)
-same_shared (b ∷ bs) [] names k l h i n e = absurd (let q : suc (length bs) ≡ 0 = n in omega arith)
 same_shared (b ∷ bs) (d ∷ ds) names k l h i n e =
     let x = name_of names in
     let lines = regroup (automaton_marks x b ++ seal) (automata_marks x bs) k (automaton_marks x d ++ seal) (automata_marks x ds) l e in
     let first = same_automata b d names _ _ h.0 i.0 (regroup (automaton_marks x b) seal _ (automaton_marks x d) seal _ lines) in
     let others = same_shared bs ds names k l h.1 i.1 (let q : suc (length bs) ≡ suc (length ds) = n in omega arith) (tail_same _ _ _ _ first.1) in
     (cc, others.1)
+same_shared _ _ names k l h i n e = absurd cc
 
 -- automata with one text are one
 text_tells : (a b : Automaton) (names : NameTable) → IsAutomaton names a → IsAutomaton names b → automaton_text names a ≡ automaton_text names b → a ≡ b
