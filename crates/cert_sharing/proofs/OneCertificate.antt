@@ -229,7 +229,8 @@ module _ (names : NameTable) where
   SameUses u P = (a b : Automaton) (k l : List Mark) → P a → P b → use_marks x u a ++ k ≡ use_marks x u b ++ l → (a ≡ b) × (k ≡ l)
 
   module _ (u : Uses) (P : Automaton → Type 0) (s : SameUses u P) where
-    same_infeasibility : (e f : InfeasibilityEvidence) (k l : List Mark) → AllOf P (used_by e) → AllOf P (used_by f) → infeasibility_marks x u e ++ k ≡ infeasibility_marks x u f ++ l → (e ≡ f) × (k ≡ l)
+    same_infeasibility : (e f : InfeasibilityEvidence) (k l : List Mark) → AllOf P (used_by e) → AllOf P (used_by f)
+        → infeasibility_marks x u e ++ k ≡ infeasibility_marks x u f ++ l → (e ≡ f) × (k ≡ l)
     same_infeasibility by_caps by_caps k l h i e = (refl, tail_same _ _ _ _ e)
     same_infeasibility (by_automaton j a) (by_automaton m b) k l h i e = let r = s a b k l h.0 i.0 (cc) in (cc, r.1)
     same_infeasibility _ _ k l h i e = absurd (clash _ _ _ _ refl e)
@@ -260,8 +261,9 @@ module _ (names : NameTable) where
             (same, shown.1)
 
     same_redexes : (ps qs : List Redex) → AllOf P (used_by_redexes ps) → AllOf P (used_by_redexes qs) → redexes_marks x u 1 ps ++ closing ≡ redexes_marks x u 1 qs ++ closing → ps ≡ qs
-    same_redexes ps qs h i e = (same_rows (λ n p. redex_front n p ++ infeasibility_marks x u p.evidence) (redexes_marks x u) (λ n. refl) (λ n p ps. refl) (λ m. m ≡ closing) (λ n p m e. clash _ _ _ _ refl e)
-        (λ p. AllOf P (used_by p.evidence)) (λ l. AllOf P (used_by_redexes l)) (λ p ps. all_of P (used_by p.evidence) (used_by_redexes ps)) one ps qs 1 closing closing h i refl refl e).0
+    same_redexes ps qs h i e = (same_rows (λ n p. redex_front n p ++ infeasibility_marks x u p.evidence) (redexes_marks x u) (λ n. refl) (λ n p ps. refl) (λ m. m ≡ closing)
+        (λ n p m e. clash _ _ _ _ refl e) (λ p. AllOf P (used_by p.evidence)) (λ l. AllOf P (used_by_redexes l)) (λ p ps. all_of P (used_by p.evidence) (used_by_redexes ps))
+        one ps qs 1 closing closing h i refl refl e).0
       where
         one : (n : ℕ) (p q : Redex) (k l : List Mark) → AllOf P (used_by p.evidence) → AllOf P (used_by q.evidence)
             → (redex_front n p ++ infeasibility_marks x u p.evidence) ++ k ≡ (redex_front n q ++ infeasibility_marks x u q.evidence) ++ l → (p ≡ q) × (k ≡ l)
@@ -307,7 +309,8 @@ module _ (names : NameTable) where
     same_measure (precedence_measure ds) (precedence_measure es) k l h i p q e =
         let r = same_rows (λ n d. line_of n d []) (heads_marks x) (λ n. refl) (λ n d ds. refl) Behind (λ n d m b. no_line d n _ (rw in_line at b))
         (IsMeasured names) (AreHeads names) (λ d ds h. (h.0, h.1))
-        (λ n d c k l h i e. let first = same_measured d c n _ _ h i (sym (in_line n d [] k) ∙ e ∙ in_line n c [] l) in (first.0, tail_same _ _ _ _ first.1)) ds es 1 k l h.1 i.1 p q (tail_same _ _ _ _ e) in
+        (λ n d c k l h i e. let first = same_measured d c n _ _ h i (sym (in_line n d [] k) ∙ e ∙ in_line n c [] l) in (first.0, tail_same _ _ _ _ first.1))
+        ds es 1 k l h.1 i.1 p q (tail_same _ _ _ _ e) in
         (ap precedence_measure r.0, r.1)
     same_measure _ _ k l h i p q e = absurd (clash _ _ _ _ refl e)
 
@@ -326,7 +329,8 @@ module _ (names : NameTable) where
     same_simplifications (dropped r a ∷ ss) (dropped q b ∷ ts) k l n h i e =
         let mine = all_of P (used_by a) (used_by_steps ss) h in
         let yours = all_of P (used_by b) (used_by_steps ts) i in
-        let shown = same_infeasibility a b _ _ mine.0 yours.0 (regroup (infeasibility_marks x u a) (simplifications_marks x u ss) k (infeasibility_marks x u b) (simplifications_marks x u ts) l (cc)) in
+        let shown = same_infeasibility a b _ _ mine.0 yours.0
+        (regroup (infeasibility_marks x u a) (simplifications_marks x u ss) k (infeasibility_marks x u b) (simplifications_marks x u ts) l (cc)) in
         let others = same_simplifications ss ts k l (let q : suc (length ss) ≡ suc (length ts) = n in omega arith) mine.1 yours.1 shown.1 in
         (cc, others.1)
     same_simplifications (inlined r j ∷ ss) (inlined q m ∷ ts) k l n h i e =
