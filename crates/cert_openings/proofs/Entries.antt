@@ -163,7 +163,13 @@ answer_is (simplified_opening steps o) es = answer_is o es
 
 pub whole_is_text : (names : NameTable) (bytes : List ℕ) (o : Opening) (es : List PairEntry) (at : ℕ) → (h : IsRead names bytes o es at) → h.left ≡ [] → h.rest ≡ codes "end\n"
     → IsCertificateText names bytes (certificate_for o es)
-whole_is_text names bytes o es at h e f = (h.version, record { spelt = (h.allowed, h.within, is_shared h.version names c h.left e h.are_left); text = by h.is_answer })
+whole_is_text names bytes o es at h e f = (
+  h.version,
+  record {
+    spelt = (h.allowed, h.within, is_shared h.version names c h.left e h.are_left);
+    text = elim h.is_answer [ inl q ↦ inl (rw q at text) | inr q ↦ inr (text ∙ ap (λ (a : List ℕ). a ++ certificate_text h.version names c) (q ∙ sym (answer_is o es))) ];
+  },
+)
   where
     c : Certificate
     c = certificate_for o es
@@ -175,12 +181,8 @@ whole_is_text names bytes o es at h e f = (h.version, record { spelt = (h.allowe
         ∙ ap (λ (w : List ℕ). front_text names h.version c all ++ w) f
         ∙ ap (λ (l : List Automaton). front_text names h.version c (shared_by names c ++ l) ++ codes "end\n") e ∙ whole_text h.version names c)
 
-    by : (h.answer ≡ []) ⊎ (h.answer ≡ codes "YES\n") → (bytes ≡ certificate_text h.version names c) ⊎ (bytes ≡ answer_line c ++ certificate_text h.version names c)
-    by (inl q) = inl (text ∙ ap (λ (a : List ℕ). a ++ certificate_text h.version names c) q)
-    by (inr q) = inr (text ∙ ap (λ (a : List ℕ). a ++ certificate_text h.version names c) (q ∙ sym (answer_is o es)))
-
 pub text_is_whole : (names : NameTable) (bytes : List ℕ) (o : Opening) (es : List PairEntry) → IsCertificateText names bytes (certificate_for o es) → IsWhole names bytes o es
-text_is_whole names bytes o es (v, h) = by h.text
+text_is_whole names bytes o es (v, h) = elim h.text [ inl e ↦ whole [] (inl refl) e | inr e ↦ whole (answer_line c) (inr (answer_is o es)) e ]
   where
     c : Certificate
     c = certificate_for o es
@@ -208,7 +210,3 @@ text_is_whole names bytes o es (v, h) = by h.text
           all_used = refl;
           last = refl;
         }
-
-    by : (bytes ≡ certificate_text v names c) ⊎ (bytes ≡ answer_line c ++ certificate_text v names c) → IsWhole names bytes o es
-    by (inl e) = whole [] (inl refl) e
-    by (inr e) = whole (answer_line c) (inr (answer_is o es)) e

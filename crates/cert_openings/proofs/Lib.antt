@@ -1,5 +1,6 @@
 pub mod Prelude
 pub mod Lines
+pub mod OwnLines
 pub mod Along
 pub mod Entries
 pub mod OpeningMarks
@@ -9,7 +10,6 @@ pub mod Passes
 pub mod Back
 pub mod Refused
 pub mod EntryLines
-pub mod OwnLines
 pub mod Bare
 pub mod BadOpenings
 pub mod OneReading

@@ -1,9 +1,9 @@
 -- Two readings of a text up to one place are one.
 use Rattle.cert_openings.proofs.Prelude.{◌≡◌, ℕ, List, ◌++◌, refl, sym, ap, ◌∙◌, marks_of, append_cancel_left, take-append_seam, Automaton, PairEntry, Simplification, Certificate, NameTable, name_of}
-use Rattle.cert_openings.proofs.Prelude.{closing, Version, first_version, second_version, Uses, shared_by, marks_text, certificate_marks, text_both, front_marks, numbered_with, whole_marks, Opening}
-use Rattle.cert_openings.proofs.Prelude.{ortho_opening, quasi_opening, simplified_opening, certificate_for, uses_with, AreLeft, IsRead, AreOne}
+use Rattle.cert_openings.proofs.Prelude.{closing, Version, first_version, second_version, shared_by, marks_text, certificate_marks, text_both, front_marks, numbered_with, whole_marks, Opening}
+use Rattle.cert_openings.proofs.Prelude.{ortho_opening, quasi_opening, simplified_opening, certificate_for, AreLeft, IsRead, AreOne}
 use Rattle.cert_laws.proofs.AlikePaths.{same_skeletons}
-use Rattle.cert_sharing.proofs.OneCertificate.{numbered_in, StandBefore, AreSame, marks_tell}
+use Rattle.cert_sharing.proofs.OneCertificate.{StandBefore, AreSame, marks_tell}
 use Rattle.cert_openings.proofs.Opened.{gone}
 use Rattle.cert_openings.proofs.OpeningMarks.{with_closing}
 
@@ -19,10 +19,6 @@ openings_same _ _ es fs e = absurd cc
 
 -- ---- what is read, with the last line behind it
 
-same_uses : (v : Version) (names : NameTable) (all : List Automaton) → uses_with v names all ≡ numbered_in v names all
-same_uses first_version names all = refl
-same_uses second_version names all = refl
-
 stand : (v : Version) (names : NameTable) (c : Certificate) (left : List Automaton) → AreLeft v names c left → StandBefore v names c (shared_by names c ++ left)
 stand first_version names c left h = tt
 stand second_version names c left h = (h.2, (numbered_with names c left).each)
@@ -30,9 +26,8 @@ stand second_version names c left h = (h.2, (numbered_with names c left).each)
 left_same : (v w : Version) (names : NameTable) (c d : Certificate) (l m : List Automaton) → v ≡ w → c ≡ d → AreLeft v names c l → AreLeft w names d m
     → AreSame v (shared_by names c ++ l) (shared_by names d ++ m) → l ≡ m
 left_same first_version first_version names c d l m e f h k s = h ∙ sym k
-left_same first_version second_version names c d l m e f h k s = absurd cc
-left_same second_version first_version names c d l m e f h k s = absurd cc
 left_same second_version second_version names c d l m e f h k s = append_cancel_left (shared_by names c) l m (s ∙ ap (λ (x : Certificate). shared_by names x ++ m) (sym f))
+left_same _ _ names c d l m e f h k s = absurd cc
 
 pub one_reading : (names : NameTable) (bytes : List ℕ) (o p : Opening) (es fs : List PairEntry) (at : ℕ) → (h : IsRead names bytes o es at) → (k : IsRead names bytes p fs at)
     → AreOne names bytes o p es fs at h k
@@ -55,7 +50,7 @@ one_reading names bytes o p es fs at h k =
     let marks : certificate_marks x a.uses bs a.answer c ≡ certificate_marks x b.uses ds b.answer d =
     cc (s.1, t.1, same_skeletons s.0 t.0 same_text, whole_marks x a.uses bs a.answer c, whole_marks x b.uses ds b.answer d) in
     let tell = marks_tell h.version k.version names c d bs ds a.answer b.answer h.within k.within (stand h.version names c h.left h.are_left) (stand k.version names d k.left k.are_left)
-    (ap (λ (u : Uses). certificate_marks x u bs a.answer c) (sym (same_uses h.version names bs)) ∙ marks ∙ ap (λ (u : Uses). certificate_marks x u ds b.answer d) (same_uses k.version names ds)) in
+    marks in
     let same = openings_same o p es fs tell.1 in
     record {
       version = tell.0;

@@ -1,8 +1,13 @@
 -- The names that the proofs of this crate cite, passed on from one place. Declares nothing.
 pub use Rattle.std.proofs.Common.{◌≡◌, inl, inr, ℕ, zero, Bool, true, false, not, cond, ◌&&◌, List, [], ◌∷◌, ◌++◌, refl, sym, ap, ◌∙◌, subst, codes, append_assoc, append-nil, ◌+◌, length, Option}
 pub use Rattle.std.proofs.Common.{◌⊎◌, ◌<◌, ◌≤◌, take, length-append, arith, suc, ◌-◌, slice_get, Some, decimal, ◌≢◌, ◌==◌, None, eq-eqb}
+pub use Rattle.std.proofs.Common.{if◌then◌else◌, ◌||◌, bytes_eq, ne_eqb, Decides}
 pub use Rattle.std.proofs.Math.Seq.{take-append_seam}
-pub use Rattle.std.proofs.lemmas.Bool.{and_parts, cases_lt, not-true}
+pub use Rattle.std.proofs.lemmas.Bool.{and_parts, cases_lt, not-true, cases_eq, cases_Bool}
+pub use Rattle.std.proofs.lemmas.Bool.Decides.{Decides-or}
+pub use Rattle.std.proofs.lemmas.Slice.Eq.{bytes_eq-Decides}
+pub use Rattle.file_text.specs.Bytes.{is_id}
+pub use Rattle.cert_laws.proofs.PassWhole.{steps_front, IsBare}
 pub use Rattle.std.proofs.lemmas.List.{append_cancel_left}
 pub use Rattle.cert_grammar.proofs.Runs.{All, numeral_id, name_id}
 pub use Rattle.cert_grammar.specs.Prelude.{all_used, shares, same_bytes, Mark, fixed, word, mark_text, marks_text, closing, GoesTo, IsReached, Skeleton, marks_of, Item, opening, between, space, line}

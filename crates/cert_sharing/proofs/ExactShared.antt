@@ -1,9 +1,9 @@
 -- The reader that stops at the first refusal, shared automata judged, is exact.
-use Rattle.cert_sharing.proofs.Prelude.{◌≡◌, ◌⊎◌, inl, inr, ℕ, zero, suc, ◌+◌, ◌*◌, ◌<◌, true, List, [], ◌∷◌, length, Option, Some, None, refl, sym, ap, ◌∙◌, subst, arith, append-nil, NameTable}
+use Rattle.cert_sharing.proofs.Prelude.{◌≡◌, inl, inr, ℕ, zero, suc, ◌+◌, ◌*◌, ◌<◌, true, List, [], ◌∷◌, length, Option, Some, None, refl, sym, ap, ◌∙◌, subst, arith, append-nil, NameTable}
 use Rattle.cert_sharing.proofs.Prelude.{CertificateCause, syntax, Mark, demands_of, verdict, Shared, nothing_shared, share_verdict, behind_mark, behind_marks, PassShares, Pass, marks_of, marks_text}
 use Rattle.cert_sharing.proofs.Prelude.{goes_on, IsPlainlyRefused, IsRefusedShared, IsCertificateRefused, Item, opening, Lead, leads, is_there, first_there, longest, mark_of, items_of, Left, refuses}
-use Rattle.cert_sharing.proofs.Prelude.{behind_lead, judged, step_lead, step, Reading, accepted, refused, whole_text, SharedStep, ends, further, shared_judged, after_step, shared_step}
-use Rattle.cert_sharing.proofs.Prelude.{shared_reading, read_shared, read_text, passed_anywhere, pass_both, skeleton_path, IsMetText, IsAnswer, There}
+use Rattle.cert_sharing.proofs.Prelude.{behind_lead, judged, step_lead, step, Reading, accepted, refused, whole_text, SharedStep, ends, further, shared_judged, after_step, shared_step, shared_reading}
+use Rattle.cert_sharing.proofs.Prelude.{read_shared, read_text, passed_anywhere, pass_both, skeleton_path, IsMetText, IsAnswer, There}
 use Rattle.cert_laws.proofs.LeadTables.{In}
 use Rattle.cert_laws.proofs.Paths.{first_sound, Takes}
 use Rattle.cert_laws.proofs.Reached.{moves_path, moves_text, same_taken, there_first, no_refusal, StopsFor}
@@ -141,14 +141,6 @@ read_is (suc k) names bytes l s h p = by (shared_step names l s) (shared_step_is
 
 pub read_text_is : (names : NameTable) (bytes : List ℕ) → IsAnswer names bytes (read_text names bytes)
 read_text_is names bytes = read_is (2 * length bytes + 2) names bytes (whole_text bytes) nothing_shared (omega arith) (record { reached = reached_start names bytes; passed = tt; is = refl })
-
--- all bytes are such a text or are refused
-pub met_or_refused : (names : NameTable) (bytes : List ℕ) → IsMetText names bytes ⊎ ((e : CertificateCause) × (at : ℕ) × IsCertificateRefused names bytes e at)
-met_or_refused names bytes = by (read_text names bytes) (read_text_is names bytes)
-  where
-    by : (r : Reading) → IsAnswer names bytes r → IsMetText names bytes ⊎ ((e : CertificateCause) × (at : ℕ) × IsCertificateRefused names bytes e at)
-    by accepted h = inl h
-    by (refused e at) h = inr (e, at, h)
 
 -- and it finds each answer
 pub answers_are_read : (names : NameTable) (bytes : List ℕ) (r : Reading) → IsAnswer names bytes r → read_text names bytes ≡ r

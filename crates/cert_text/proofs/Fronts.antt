@@ -2,14 +2,15 @@
 use Rattle.cert_text.proofs.Prelude.{◌≡◌, ℕ, Bool, List, [], ◌∷◌, ◌++◌, length, Option, Some, None, codes, refl, sym, ap, ◌∙◌, subst, arith, append_assoc, append-nil, Automaton, PairEntry}
 use Rattle.cert_text.proofs.Prelude.{Simplification, Certificate, simplified_certificate, NameTable, name_of, Version, first_version, second_version, Uses, number_in, CertificateCause, Naming, Mark}
 use Rattle.cert_text.proofs.Prelude.{fixed, marks_text, answer_marks, heading_marks, body_marks, closing, certificate_marks, HaveNames, Item, opening, between, line, nothing_shared, AreStill}
-use Rattle.cert_text.proofs.Prelude.{counts_still, lines_text, Opening, certificate_for, uses_with, IsOpeningEnd, IsOpened, no_peak, CertError, told, IsRefusedAs, Run, Reads, walks_text, kind_mark}
+use Rattle.cert_text.proofs.Prelude.{counts_still, Opening, certificate_for, uses_with, IsOpeningEnd, IsOpened, CertError, told, IsRefusedAs, Run, Reads, walks_text, kind_mark}
 use Rattle.cert_text.proofs.Prelude.{item_by, Peak, Place, IsStoppedWhere, ReadsWhere, WithinOpening, BeforeEntries, Anywhere, walks_named, kind_item, then_where, as_marks_where, low_where}
 use Rattle.cert_text.proofs.Prelude.{elsewhere, anywhere, reads_anywhere, open_before_where, ran, stopped_where, low_unopened, known_where, read_marks, IsToldBefore, steps_marks, opening_behind}
 use Rattle.cert_text.proofs.Prelude.{CanStep, front_marks, IsBegun, BeginsBody}
 use Rattle.cert_laws.proofs.Spelt.{have_append, text_both}
-use Rattle.cert_openings.proofs.OwnLines.{Own, no_lines, own_marks, own_front, own_simplify}
+use Rattle.cert_openings.proofs.OwnLines.{TellNone, tell_both, front_tells, simplify_tells}
+use Rattle.cert_openings.proofs.Lines.{front_of, text_of, opened}
 use Rattle.cert_sharing.proofs.SpeltShares.{same_version}
-use Rattle.cert_openings.proofs.Bare.{openings_end}
+use Rattle.cert_openings.proofs.Bare.{openings_end, none_at_peak as no_opening}
 use Rattle.cert_openings.proofs.BadOpenings.{bad_openings_are_refused}
 use Rattle.cert_words.specs.declared.reading.Reading.{Reading}
 use Rattle.cert_reading.specs.declared.headings.Kind.{Kind}
@@ -90,14 +91,14 @@ same_told h d e p q = rw (p, q) at h.on
 
 -- the lines before a body tell no kind
 own_before : (v : Version) (names : NameTable) (shared : List Automaton) (steps : Option (List Simplification)) → CanStep v shared steps
-    → Own (marks_text (steps_marks (name_of names) (uses_with v names shared) steps))
-own_before v names shared None h = no_lines
+    → TellNone (steps_marks (name_of names) (uses_with v names shared) steps)
+own_before v names shared None h = λ ks. refl
 own_before first_version names shared (Some ss) h = let e = h.0 in absurd cc
-own_before second_version names shared (Some ss) h = own_simplify ss (name_of names) (number_in names shared)
+own_before second_version names shared (Some ss) h = simplify_tells ss (name_of names) (number_in names shared)
 
 own_lines : (v : Version) (names : NameTable) (shared : List Automaton) (given : Option Bool) (steps : Option (List Simplification)) (further : List Mark) → CanStep v shared steps
     → HaveNames (front_marks (name_of names) (uses_with v names shared) shared given steps ++ further)
-    → Own (marks_text (front_marks (name_of names) (uses_with v names shared) shared given steps))
+    → TellNone (front_marks (name_of names) (uses_with v names shared) shared given steps)
 own_lines v names shared given steps further can named =
     let x = name_of names in
     let w = uses_with v names shared in
@@ -105,7 +106,7 @@ own_lines v names shared given steps further can named =
     let ms = steps_marks x w steps in
     let front = (have_append (answer_marks given ++ (heading ++ ms)) further named).0 in
     let parts = have_append heading ms (have_append (answer_marks given) (heading ++ ms) front).1 in
-    rw (← append_assoc) (own_marks (answer_marks given ++ heading) ms (own_front x w shared given parts.0) (own_before v names shared steps can))
+    subst TellNone (append_assoc (answer_marks given) heading ms) (tell_both (answer_marks given ++ heading) ms (front_tells given w shared x parts.0) (own_before v names shared steps can))
 
 module _ {names : NameTable} {bytes : List ℕ} {v : Version} {shared : List Automaton} {given : Option Bool} {steps : Option (List Simplification)} {further : List Mark}
     {items : List Item} {s : Reading} (b : IsBegun names bytes v shared given steps further items s) where
@@ -186,8 +187,7 @@ module _ {names : NameTable} {bytes : List ℕ} {v : Version} {shared : List Aut
       let text : bytes ≡ marks_text front ++ (codes "peak" ++ 10 ∷ s.left.now) = walks_text names (front ++ line) _ _ w ∙ ap (λ (z : List ℕ). z ++ s.left.now)
       (text_both front line) ∙ append_assoc (marks_text front) (codes "peak\n") s.left.now in
       let own = own_lines v names shared given steps line (b.can_step none) (walks_named names (front ++ line) _ _ w) in
-      no_peak own.lines h.heading h.kind s.left.now (lines_text h.lines ++ h.rest) own.are h.are_heading h.is_kind
-      (ap (λ (z : List ℕ). z ++ (codes "peak" ++ 10 ∷ s.left.now)) (sym own.text) ∙ sym text ∙ h.text)
+      no_opening (front_of h) h.rest (opened h) front s.left.now own (sym text ∙ text_of h)
 
   pub none_at_peak : {f : Naming → List Mark} {to : List Item} {t : Reading} (e : CertError) → t.refused ≡ Some e → Reads names (length bytes) items f to s t
       → (x : CertificateCause × ℕ) → told e ≡ Some x → (o : Opening) (end : ℕ) → IsOpened names bytes o end → ⊥

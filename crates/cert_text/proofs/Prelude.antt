@@ -17,7 +17,7 @@ pub use Rattle.cert_laws.proofs.Reached.{Move, Moves, moves_path, there_size}
 pub use Rattle.cert_model.specs.CertificateView.{pair_entry_view, measure_view, peak_view, simp_view, certificate_view}
 pub use Rattle.cert_model.specs.EvidenceView.{automaton_view}
 pub use Rattle.cert_openings.proofs.Along.{Meet, ahead, behind_it, meet, never_ends}
-pub use Rattle.cert_openings.proofs.Lines.{bytes_apart, apart, no_peak}
+pub use Rattle.cert_openings.proofs.Lines.{bytes_apart, apart}
 pub use Rattle.cert_openings.proofs.OneReading.{one_reading}
 pub use Rattle.cert_openings.proofs.Opened.{gone, gone_rest, gone_along, Gone}
 pub use Rattle.cert_openings.proofs.OpeningMarks.{read_more}
