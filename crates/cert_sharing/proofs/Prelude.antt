@@ -28,7 +28,7 @@ pub use Rattle.cert_laws.proofs.Prelude.{by_hypothesis, Derivations, no_derivati
 pub use Rattle.cert_laws.proofs.Prelude.{AreTransitions, has_arity, behind, places_text, position, places, arguments_marks, further_marks, steps_marks, step_marks, derivations_marks}
 pub use Rattle.cert_laws.proofs.Prelude.{further_states_marks, states_marks, head_marks}
 pub use Rattle.cert_laws.proofs.SkeletonPaths.{skeleton_path, nothing_left, automaton_path}
-pub use Rattle.cert_laws.proofs.Spelt.{pass_both, have_append, text_both, Spells, put_bytes, put_two}
+pub use Rattle.cert_laws.proofs.Spelt.{pass_both, have_append, text_both, Spells, put_bytes, put_two, same_text, automata_both}
 pub use Rattle.cert_laws.proofs.SpeltWhole.{answer_of, spelt_automaton, AreShort, HasHeading, spelt_heading, spelt_body}
 pub use Rattle.cert_sharing.specs.Fronts.{uses_with, AreLeft}
 pub use Rattle.cert_sharing.specs.SharedLaws.{IsMetText, IsAnswer}
