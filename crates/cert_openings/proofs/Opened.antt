@@ -46,7 +46,7 @@ gone names bytes o es end h =
       answer = g.0;
       allowed = subst (λ (w : Version). IsOfVersion w c) (sym (same_version v names bs)) h.allowed;
       spells = record { passed = spells.passed; named = spells.named };
-      pass_shared = subst (PassShares nothing_shared) (append-nil ms) (pass_front v names c h.left g.0 [] h.are_left (λ b w. tt));
+      pass_shared = pass_front v names c h.left g.0 h.are_left;
       rest = h.rest;
       text = text;
       place = (let place = h.place in omega (arith, ap length text ∙ length-append (marks_text ms) h.rest, place));

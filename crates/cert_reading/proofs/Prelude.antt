@@ -37,7 +37,7 @@ pub use Rattle.cert_reading.specs.declared.headings.Kind.{Kind}
 pub use Rattle.cert_reading.specs.declared.headings.Kind.TheVariants.{Ortho, Quasi, Peak}
 pub use Rattle.cert_shares.specs.SharesView.{with_begun}
 pub use Rattle.cert_sharing.proofs.FirstUses.{pick, pick_number, texts_length}
-pub use Rattle.cert_sharing.proofs.UseMarks.{AreStill, still_marks, pass_split, behind_both, marked_texts, automata_behind, automata_new, automaton_behind, IsStill, places_still, Counts}
+pub use Rattle.cert_sharing.proofs.UseMarks.{AreStill, still_marks, pass_split, behind_both, marked_texts, meets_automata, automaton_behind, IsStill, places_still, Counts}
 pub use Rattle.cert_sharing.proofs.UseMarks.{counts_still, counts_both, counts_put, counts_use, still_both, term_still, derivation_still, numbers_of, counts_redexes, counts_pairs}
 pub use Rattle.cert_sharing.proofs.UseMarks.{measure_still, counts_steps}
 pub use Rattle.cert_words.proofs.NodeReads.{suc_is, node_leads, refused_node, any_frame, frames, frames_deep}

@@ -1,7 +1,7 @@
 -- What is known behind the shared automata: their texts, each of them once.
 use Rattle.cert_reading.proofs.Prelude.{◌≡◌, ◌≤◌, ℕ, List, [], ◌∷◌, length, codes, None, sym, ap, ◌∙◌, subst, Automaton, NameTable, name_of, second_version, Mark, fixed, shared_automata}
 use Rattle.cert_reading.proofs.Prelude.{marks_text, number_for, automata_marks, texts_of, AllNew, AreAutomata, Shared, behind_marks, PassShares, Item, AreStill, still_marks, pass_split}
-use Rattle.cert_reading.proofs.Prelude.{behind_both, marked_texts, automata_behind, automata_new, Reading, Run, walks_pass, shared_marks, ArePlainAutomata, IsKnown, AreShared, Place}
+use Rattle.cert_reading.proofs.Prelude.{behind_both, marked_texts, meets_automata, Reading, Run, walks_pass, shared_marks, ArePlainAutomata, IsKnown, AreShared, Place}
 use Rattle.cert_reading.proofs.Prelude.{ReadsWhere}
 use Rattle.cert_reading.proofs.Found.{walks_named, automata_within}
 use Rattle.cert_reading.proofs.Stopping.{open_before_where, ran}
@@ -26,9 +26,9 @@ run_known names end from to all b r s t plain le none x =
     ∙ ap (λ (ts : List (List ℕ)). state ts line s.used s.unfolds_to) none in
     let keeps = x.shares le [] in
     let parts = pass_split (count_line all) (automata_marks (name_of names) all) (state s.texts [] s.used s.unfolds_to) keeps.0 in
-    let after = automata_behind all (name_of names) [] line s.used s.unfolds_to in
-    let new = automata_new all (name_of names) [] line s.used s.unfolds_to (subst (λ (z : Shared). PassShares z (automata_marks (name_of names) all)) fresh parts.1) in
-    let there = behind_both (count_line all) (automata_marks (name_of names) all) (state s.texts [] s.used s.unfolds_to) ∙ ap (behind_marks (automata_marks (name_of names) all)) fresh ∙ after.1 in (
+    let after = meets_automata all (name_of names) [] line s.used s.unfolds_to in
+    let new = after.1.into (subst (λ (z : Shared). PassShares z (automata_marks (name_of names) all)) fresh parts.1) in
+    let there = behind_both (count_line all) (automata_marks (name_of names) all) (state s.texts [] s.used s.unfolds_to) ∙ ap (behind_marks (automata_marks (name_of names) all)) fresh ∙ after.1.after in (
       subst (AllNew []) texts new,
       sym (ap (λ (z : Shared). z.texts) keeps.1) ∙ ap (λ (z : Shared). z.texts) there ∙ texts,
     )

@@ -9,7 +9,7 @@ use Rattle.rewriting.proofs.Once.{same_some}
 -- marks behind which the same automata are known
 run_texts : (names : NameTable) (end : ℕ) (from to : List Item) (f : Naming → List Mark) (b r : List ℕ) (s t : Shared) (ns : List ℕ) → Counts (f (name_of names)) ns
     → length b ≤ end → Run names end from f to b r s t → t.texts ≡ s.texts
-run_texts names end from to f b r s t ns c le x = sym (ap (λ (z : Shared). z.texts) (x.shares le []).1) ∙ ap (λ (z : Shared). z.texts) (c.after s.texts [] s.used s.unfolds_to).1
+run_texts names end from to f b r s t ns c le x = sym (ap (λ (z : Shared). z.texts) (x.shares le []).1) ∙ ap (λ (z : Shared). z.texts) (c.along s.texts [] s.used s.unfolds_to).1.after
 
 pub run_shorter : (names : NameTable) (end : ℕ) (from to : List Item) (f : Naming → List Mark) (b r : List ℕ) (s t : Shared) → length b ≤ end → Run names end from f to b r s t → length r ≤ end
 run_shorter names end from to f b r s t le x =
