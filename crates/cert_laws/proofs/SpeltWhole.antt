@@ -1,16 +1,16 @@
 -- The marks of certificates within limits: all pass, and their text is the certificate's.
-use Rattle.cert_laws.proofs.Prelude.{◌≡◌, ℕ, suc, ◌+◌, ◌<◌, ◌≤◌, Bool, true, false, List, [], ◌∷◌, ◌++◌, length, Option, Some, None, refl, ap, codes, decimal, arith, unwrap_or, Transition}
-use Rattle.cert_laws.proofs.Prelude.{Automaton, InfeasibilityEvidence, by_caps, by_automaton, PairEvidence, trivial_pair, infeasible_pair, conflicting_pair, joined_pair, unfeasible_pair}
-use Rattle.cert_laws.proofs.Prelude.{PairEntry, LinearEntry, MeasureCertificate, linear_measure, precedence_measure, Redex, Apartness, by_normal_forms, by_rigid_caps, Simplification, dropped}
-use Rattle.cert_laws.proofs.Prelude.{inlined, Certificate, ortho_certificate, quasi_certificate, peak_certificate, simplified_certificate, NameTable, largest, name_of, numbers_text}
-use Rattle.cert_laws.proofs.Prelude.{further_states_text, states_text, head_text, transitions_text, automaton_text, infeasibility_text, evidence_text, pairs_text, AreAtMost, AreStates, IsHead}
-use Rattle.cert_laws.proofs.Prelude.{AreTransitions, IsAutomaton, IsInfeasibility, IsEvidence, ArePairs, measured_text, entries_text, heads_text, measure_text, redexes_text, apart_text}
-use Rattle.cert_laws.proofs.Prelude.{simplifications_text, body_text, automata_text, heading_text, IsMeasured, AreEntries, AreHeads, IsMeasure, AreRedexEntries, IsApart, AreSimplifications}
-use Rattle.cert_laws.proofs.Prelude.{IsWithin, Uses, in_full, by_number, version_of, AreAutomata, Counted, limit, automaton_begins, is_use, is_light, in_range, is_few, fits_answer, shares}
-use Rattle.cert_laws.proofs.Prelude.{is_answer, Mark, word, automata_marks, heading_marks, heads_marks, simplifications_marks, state, accepting_marks, further_states_marks, states_marks}
-use Rattle.cert_laws.proofs.Prelude.{head_marks, transitions_marks, automaton_marks, infeasibility_marks, evidence_marks, pairs_marks, coefficients_marks, measured_marks, entries_marks}
-use Rattle.cert_laws.proofs.Prelude.{measure_marks, redexes_marks, apart_marks, body_marks, numeral, name_is, append-nil, Head, file, auxiliary, fixed, use_marks, used_by, used_by_evidence}
-use Rattle.cert_laws.proofs.Prelude.{used_by_pairs, used_by_redexes, used_by_apart, used_by_steps, automata_of}
+use Rattle.cert_laws.proofs.Prelude.{◌≡◌, ℕ, suc, ◌+◌, ◌<◌, ◌≤◌, Bool, true, false, List, [], ◌∷◌, ◌++◌, length, Option, Some, None, refl, ap, codes, decimal, arith, unwrap_or, Transition, Automaton}
+use Rattle.cert_laws.proofs.Prelude.{InfeasibilityEvidence, by_caps, by_automaton, PairEvidence, trivial_pair, infeasible_pair, conflicting_pair, joined_pair, unfeasible_pair, PairEntry, LinearEntry}
+use Rattle.cert_laws.proofs.Prelude.{MeasureCertificate, linear_measure, precedence_measure, Redex, Apartness, by_normal_forms, by_rigid_caps, Simplification, dropped, inlined, Certificate}
+use Rattle.cert_laws.proofs.Prelude.{ortho_certificate, quasi_certificate, peak_certificate, simplified_certificate, NameTable, largest, name_of, numbers_text, further_states_text, states_text}
+use Rattle.cert_laws.proofs.Prelude.{head_text, transitions_text, automaton_text, infeasibility_text, evidence_text, pairs_text, AreAtMost, AreStates, IsHead, AreTransitions, IsAutomaton}
+use Rattle.cert_laws.proofs.Prelude.{IsInfeasibility, IsEvidence, ArePairs, measured_text, entries_text, heads_text, measure_text, redexes_text, apart_text, simplifications_text, body_text}
+use Rattle.cert_laws.proofs.Prelude.{automata_text, heading_text, IsMeasured, AreEntries, AreHeads, IsMeasure, AreRedexEntries, IsApart, AreSimplifications, IsWithin, Uses, in_full, by_number}
+use Rattle.cert_laws.proofs.Prelude.{version_of, AreAutomata, Counted, limit, automaton_begins, is_use, is_light, in_range, is_few, fits_answer, shares, is_answer, Mark, word, automata_marks}
+use Rattle.cert_laws.proofs.Prelude.{heading_marks, heads_marks, simplifications_marks, state, accepting_marks, further_states_marks, states_marks, head_marks, transitions_marks, automaton_marks}
+use Rattle.cert_laws.proofs.Prelude.{infeasibility_marks, evidence_marks, pairs_marks, coefficients_marks, measured_marks, entries_marks, measure_marks, redexes_marks, apart_marks, body_marks}
+use Rattle.cert_laws.proofs.Prelude.{numeral, name_is, append-nil, Head, file, auxiliary, fixed, use_marks, used_by, used_by_evidence, used_by_pairs, used_by_redexes, used_by_apart, used_by_steps}
+use Rattle.cert_laws.proofs.Prelude.{automata_of}
 use Rattle.cert_grammar.specs.EvidenceText.{use_text}
 use Rattle.cert_laws.proofs.Spelt.{Spells, nothing, put_bytes, put_word, put_two, put_number, put_numeral, put_count, put_position, put_symbol, put_arity, numeral_fits, met_first, pass_range}
 use Rattle.cert_laws.proofs.Spelt.{pass_few, spelt_term, spelt_derivation, same_text}

@@ -1,14 +1,13 @@
 -- What the marks of a certificate ask of its shared automata: the numbers of its uses, in order.
-use Rattle.cert_sharing.proofs.Prelude.{◌≡◌, ℕ, suc, ◌+◌, ◌-◌, ◌≤◌, max, Bool, true, false, cond, not, List, [], ◌∷◌, ◌++◌, length, map, codes, Option, Some, None, refl, sym, arith, ap, ◌∙◌}
-use Rattle.cert_sharing.proofs.Prelude.{subst, append_assoc, append-nil, le-leb, map-append, not-true, Term, Position, Derivation, Automaton, InfeasibilityEvidence, by_caps, by_automaton}
-use Rattle.cert_sharing.proofs.Prelude.{PairEvidence, trivial_pair, infeasible_pair, conflicting_pair, joined_pair, unfeasible_pair, PairEntry, MeasureCertificate, Redex, Apartness}
-use Rattle.cert_sharing.proofs.Prelude.{by_normal_forms, by_rigid_caps, Simplification, dropped, inlined, Certificate, ortho_certificate, quasi_certificate, peak_certificate}
-use Rattle.cert_sharing.proofs.Prelude.{simplified_certificate, Uses, in_full, by_number, used_by, used_by_evidence, used_by_pairs, used_by_redexes, used_by_apart, used_by_steps, automata_of}
-use Rattle.cert_sharing.proofs.Prelude.{largest, Naming, Counted, limit, unfolded, CertificateCause, bad_share, automaton_ends, Demand, in_range, is_few, fits_answer, shares, Mark, fixed, word}
-use Rattle.cert_sharing.proofs.Prelude.{closed, mark_text, marks_text, demands_of, are_places, number, number_for, term_marks, derivation_marks, use_mark, accepting_marks, transitions_marks}
-use Rattle.cert_sharing.proofs.Prelude.{automaton_marks, automata_marks, infeasibility_marks, evidence_marks, pairs_marks, measure_marks, redexes_marks, apart_marks, simplifications_marks}
-use Rattle.cert_sharing.proofs.Prelude.{body_marks, is_among, AllNew, Shared, text_at, first_of, share_verdict, effects, behind_mark, behind_marks, PassShares, pair_front, redex_front}
-use Rattle.cert_sharing.proofs.Prelude.{steps_front}
+use Rattle.cert_sharing.proofs.Prelude.{◌≡◌, ℕ, suc, ◌+◌, ◌-◌, ◌≤◌, max, Bool, true, false, cond, not, List, [], ◌∷◌, ◌++◌, length, map, codes, Option, Some, None, refl, sym, arith, ap, ◌∙◌, subst}
+use Rattle.cert_sharing.proofs.Prelude.{append_assoc, append-nil, le-leb, map-append, not-true, Term, Position, Derivation, Automaton, InfeasibilityEvidence, by_caps, by_automaton, PairEvidence}
+use Rattle.cert_sharing.proofs.Prelude.{trivial_pair, infeasible_pair, conflicting_pair, joined_pair, unfeasible_pair, PairEntry, MeasureCertificate, Redex, Apartness, by_normal_forms, by_rigid_caps}
+use Rattle.cert_sharing.proofs.Prelude.{Simplification, dropped, inlined, Certificate, ortho_certificate, quasi_certificate, peak_certificate, simplified_certificate, Uses, in_full, by_number}
+use Rattle.cert_sharing.proofs.Prelude.{used_by, used_by_evidence, used_by_pairs, used_by_redexes, used_by_apart, used_by_steps, automata_of, largest, Naming, Counted, limit, unfolded}
+use Rattle.cert_sharing.proofs.Prelude.{CertificateCause, bad_share, automaton_ends, Demand, in_range, is_few, fits_answer, shares, Mark, fixed, word, closed, mark_text, marks_text, demands_of}
+use Rattle.cert_sharing.proofs.Prelude.{are_places, number, number_for, term_marks, derivation_marks, use_mark, accepting_marks, transitions_marks, automaton_marks, automata_marks}
+use Rattle.cert_sharing.proofs.Prelude.{infeasibility_marks, evidence_marks, pairs_marks, measure_marks, redexes_marks, apart_marks, simplifications_marks, body_marks, is_among, AllNew, Shared}
+use Rattle.cert_sharing.proofs.Prelude.{text_at, first_of, share_verdict, effects, behind_mark, behind_marks, PassShares, pair_front, redex_front, steps_front}
 use Rattle.std.specs.Prelude.{◌↔◌}
 use Rattle.cert_grammar.specs.WordMarks.{numeral}
 use Rattle.cert_laws.proofs.Asking.{AllAsk, MarksAsk, term_asks, derivation_asks, measure_asks, behind_word_ask}
