@@ -1,5 +1,5 @@
 -- A read opening, with entries behind it, by its marks: they pass, and so do its shared automata.
-use Rattle.cert_openings.proofs.Prelude.{◌≡◌, ◌⊎◌, inl, inr, ℕ, ◌+◌, Bool, true, false, List, [], ◌++◌, length, Option, Some, None, refl, sym, ap, ◌∙◌, subst, codes, length-append, append-nil, arith}
+use Rattle.cert_openings.proofs.Prelude.{◌≡◌, ◌⊎◌, inl, inr, ℕ, ◌+◌, Bool, true, false, List, [], ◌++◌, length, Option, Some, None, refl, sym, ap, ◌∙◌, subst, codes, length-append, arith}
 use Rattle.cert_openings.proofs.Prelude.{three_parts, Automaton, PairEntry, Certificate, NameTable, name_of, IsWithin, Version, Uses, version_of, IsOfVersion, shared_by, is_answer, marks_text}
 use Rattle.cert_openings.proofs.Prelude.{answer_marks, heading_text, body_text, nothing_shared, PassShares, Sound, front_marks, same_version, spelt_front, pass_front, Opening, ortho_opening}
 use Rattle.cert_openings.proofs.Prelude.{quasi_opening, simplified_opening, certificate_for, uses_with, AreLeft, IsRead, told_marks, IsReadTo}
