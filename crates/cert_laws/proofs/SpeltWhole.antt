@@ -57,7 +57,6 @@ module _ (names : NameTable) where
   spelt_coefficients : (ks : List ℕ) (n : ℕ) → n + length ks ≤ 201 → AreAtMost largest ks → Spells names (coefficients_marks n ks) (numbers_text ks) []
   spelt_coefficients [] n few h = nothing
   spelt_coefficients (k ∷ ks) n few h =
-      let more : n + suc (length ks) ≤ 201 = few in
       put_bytes (codes " ") (put_numeral 0 k (is_few Counted.numbers n ∷ []) (omega arith) h.0 (pass_few names Counted.numbers n [] (omega arith) refl)
       (spelt_coefficients ks (suc n) (omega arith) h.1))
 
@@ -72,20 +71,17 @@ module _ (names : NameTable) where
   spelt_entries : (es : List LinearEntry) (n : ℕ) → n + length es ≤ 25001 → AreEntries names es → Spells names (entries_marks (name_of names) n es) (entries_text names es) []
   spelt_entries [] n few h = nothing
   spelt_entries (e ∷ es) n few h =
-      let more : n + suc (length es) ≤ 25001 = few in
-      let short : length e.coefficients ≤ 200 = h.1 in
       put_two (put_two (spelt_measured e.head n (omega arith) h.0) (put_two (spelt_coefficients e.coefficients 1 (omega arith) h.2) (put_bytes (codes "\n") nothing)))
       (spelt_entries es (suc n) (omega arith) h.3)
 
   spelt_heads : (hs : List Head) (n : ℕ) → n + length hs ≤ 25001 → AreHeads names hs → Spells names (heads_marks (name_of names) n hs) (heads_text names hs) []
   spelt_heads [] n few h = nothing
   spelt_heads (x ∷ hs) n few h =
-      let more : n + suc (length hs) ≤ 25001 = few in
       put_two (put_two (spelt_measured x n (omega arith) h.0) (put_bytes (codes "\n") nothing)) (spelt_heads hs (suc n) (omega arith) h.1)
 
   spelt_measure : (m : MeasureCertificate) → IsMeasure names m → Spells names (measure_marks (name_of names) m) (measure_text names m) []
-  spelt_measure (linear_measure es) h = let few : length es ≤ 25000 = h.0 in put_bytes (codes "linear\n") (spelt_entries es 1 (omega arith) h.1)
-  spelt_measure (precedence_measure hs) h = let few : length hs ≤ 25000 = h.0 in put_bytes (codes "lpo\n") (spelt_heads hs 1 (omega arith) h.1)
+  spelt_measure (linear_measure es) h = put_bytes (codes "linear\n") (spelt_entries es 1 (omega arith) h.1)
+  spelt_measure (precedence_measure hs) h = put_bytes (codes "lpo\n") (spelt_heads hs 1 (omega arith) h.1)
 
 -- numbers of automata are in range
 abbrev pub AreShort : Uses → Type 0
@@ -122,19 +118,17 @@ module _ (names : NameTable) (u : Uses) (s : AreShort u) where
   spelt_pairs : (ps : List PairEntry) (n : ℕ) → n + length ps ≤ 20001 → ArePairs names ps → Spells names (pairs_marks (name_of names) u n ps) (pairs_text names u ps) (used_by_pairs ps)
   spelt_pairs [] n few h = nothing
   spelt_pairs (p ∷ ps) n few h =
-      let more : n + suc (length ps) ≤ 20001 = few in
       put_two (put_counted names (codes "pair") Counted.pairs n (omega arith) (put_bytes (codes " ") (put_number p.inner h.0 (put_bytes (codes " ") (put_position p.position h.1
       (put_bytes (codes " ") (put_number p.outer h.2 (put_bytes (codes " ") (spelt_evidence p.evidence h.3))))))))) (spelt_pairs ps (suc n) (omega arith) h.4)
 
   spelt_redexes : (rs : List Redex) (n : ℕ) → n + length rs ≤ 20001 → AreRedexEntries names rs → Spells names (redexes_marks (name_of names) u n rs) (redexes_text names u rs) (used_by_redexes rs)
   spelt_redexes [] n few h = nothing
   spelt_redexes (r ∷ rs) n few h =
-      let more : n + suc (length rs) ≤ 20001 = few in
       put_two (put_counted names (codes "redex") Counted.redexes n (omega arith) (put_bytes (codes " ") (put_number r.which h.0 (put_bytes (codes " ") (put_position r.position h.1
       (put_bytes (codes " ") (put_number r.rule h.2 (put_bytes (codes " ") (spelt_infeasibility r.evidence h.3))))))))) (spelt_redexes rs (suc n) (omega arith) h.4)
 
   spelt_apart : (a : Apartness) → IsApart names a → Spells names (apart_marks (name_of names) u a) (apart_text names u a) (used_by_apart a)
-  spelt_apart (by_normal_forms rs) h = let few : length rs ≤ 20000 = h.0 in put_bytes (codes "normal\n") (spelt_redexes rs 1 (omega arith) h.1)
+  spelt_apart (by_normal_forms rs) h = put_bytes (codes "normal\n") (spelt_redexes rs 1 (omega arith) h.1)
   spelt_apart by_rigid_caps h = put_bytes (codes "caps\n") nothing
 
   spelt_steps : (ss : List Simplification) → AreSimplifications names ss → Spells names (simplifications_marks (name_of names) u ss) (simplifications_text names u ss) (used_by_steps ss)
@@ -148,16 +142,15 @@ module _ (names : NameTable) (u : Uses) (s : AreShort u) where
   put_kind bytes told given e h = put_word bytes bytes (fits_answer told given ∷ []) refl (met_first names (fits_answer told given) [] e refl) (put_bytes (codes "\n") h)
 
   pub spelt_body : (c : Certificate) (given : Option Bool) → is_answer (answer_of c) given ≡ true → IsWithin names c → Spells names (body_marks (name_of names) u given c) (body_text names u c) (automata_of c)
-  spelt_body (ortho_certificate ps) given e h = let few : length ps ≤ 20000 = h.0 in put_kind (codes "ortho") true given e (spelt_pairs ps 1 (omega arith) h.1)
+  spelt_body (ortho_certificate ps) given e h = put_kind (codes "ortho") true given e (spelt_pairs ps 1 (omega arith) h.1)
   spelt_body (quasi_certificate m ps) given e h =
-      let few : length ps ≤ 20000 = h.1 in put_kind (codes "quasi") true given e (put_two (spelt_measure names m h.0) (spelt_pairs ps 1 (omega arith) h.2))
+      put_kind (codes "quasi") true given e (put_two (spelt_measure names m h.0) (spelt_pairs ps 1 (omega arith) h.2))
   spelt_body (peak_certificate p) given e h =
       put_kind (codes "peak") false given e (put_bytes (codes "start ") (put_two
-      (spelt_term names p.start 1 1 h.0 (let q = h.1.nodes in omega (arith, q)) (let q = h.1.levels in omega (arith, q))) (put_bytes (codes "\n") (put_two (spelt_derivation names p.first h.2)
+      (spelt_term names p.start 1 1 h.0 (omega (arith, h.1.nodes)) (omega (arith, h.1.levels))) (put_bytes (codes "\n") (put_two (spelt_derivation names p.first h.2)
       (put_two (spelt_derivation names p.second h.3) (spelt_apart p.apart h.4))))))
   spelt_body (simplified_certificate ss c) given e h =
-      let few : length ss ≤ 21000 = h.1 in
-      put_bytes (codes "simplify ") (put_count Counted.simplifications 1 (length ss) h.0 (omega arith) few
+      put_bytes (codes "simplify ") (put_count Counted.simplifications 1 (length ss) h.0 (omega arith) h.1
       (put_bytes (codes "\n") (put_two (spelt_steps ss h.2) (spelt_body c given e h.3))))
 
 -- shared automata within limits
@@ -173,5 +166,4 @@ HasHeading names (by_number f) bs = (length bs ≤ 1000) × AreAutomata names bs
 pub spelt_heading : (u : Uses) (names : NameTable) (bs : List Automaton) → HasHeading names u bs → Spells names (heading_marks (name_of names) u bs) (heading_text (version_of u) names bs) []
 spelt_heading in_full names bs h = put_bytes (codes "concon 1\n") nothing
 spelt_heading (by_number f) names bs h =
-    let few : length bs ≤ 1000 = h.0 in
-    put_bytes (codes "concon 2\n") (put_bytes (codes "shared ") (put_count Counted.shared_automata 0 (length bs) (omega arith) (omega arith) few (put_bytes (codes "\n") (spelt_automata bs names h.1))))
+    put_bytes (codes "concon 2\n") (put_bytes (codes "shared ") (put_count Counted.shared_automata 0 (length bs) (omega arith) (omega arith) h.0 (put_bytes (codes "\n") (spelt_automata bs names h.1))))
