@@ -246,12 +246,14 @@ counts_automaton a x = record { along = λ ts b u w. (marks_text (automaton_mark
 counts_mapped : (u : Uses) (a b : List Automaton) (ms ns : List Mark) → Counts ms (numbers_of u a) → Counts ns (numbers_of u b) → Counts (ms ++ ns) (numbers_of u (a ++ b))
 counts_mapped u a b ms ns h k = subst (Counts (ms ++ ns)) (sym (numbers_both u a b)) (counts_both ms ns (numbers_of u a) (numbers_of u b) h k)
 
+counts_front : (front ms : List Mark) (ns : List ℕ) → AreStill front → Counts ms ns → Counts (front ++ ms) ns
+counts_front front ms ns h k = counts_both front ms [] ns (counts_still front h) k
+
 pub counts_infeasibility : (e : InfeasibilityEvidence) (x : Naming) (u : Uses) → Counts (infeasibility_marks x u e) (numbers_of u (used_by e))
 counts_infeasibility by_caps x u = no_numbers u (fixed (codes "tcap\n") ∷ []) (tt, tt)
-counts_infeasibility (by_automaton k a) x in_full = counts_put _ _ [] tt (counts_put _ _ [] tt (counts_put _ _ [] tt (counts_automaton a x)))
-counts_infeasibility (by_automaton k a) x (by_number f) =
-    counts_put _ _ (f a ∷ []) tt (counts_put _ _ (f a ∷ []) tt (counts_put _ _ (f a ∷ []) tt
-    (counts_both (use_mark (f a) ∷ []) (fixed (codes "\n") ∷ []) (f a ∷ []) [] (counts_use (f a)) (counts_still (fixed (codes "\n") ∷ []) (tt, tt)))))
+counts_infeasibility (by_automaton k a) x in_full = counts_front (fixed (codes "auto ") ∷ number k ∷ fixed (codes "\n") ∷ []) _ [] (tt, (tt, (tt, tt))) (counts_automaton a x)
+counts_infeasibility (by_automaton k a) x (by_number f) = counts_front (fixed (codes "auto ") ∷ number k ∷ fixed (codes " ") ∷ []) _ (f a ∷ []) (tt, (tt, (tt, tt)))
+    (counts_both (use_mark (f a) ∷ []) _ (f a ∷ []) [] (counts_use (f a)) (counts_still (fixed (codes "\n") ∷ []) (tt, tt)))
 
 counts_evidence : (e : PairEvidence) (x : Naming) (u : Uses) → Counts (evidence_marks x u e) (numbers_of u (used_by_evidence e))
 counts_evidence trivial_pair x u = no_numbers u _ (tt, tt)
@@ -260,21 +262,15 @@ counts_evidence (conflicting_pair a b) x u = no_numbers u _ (tt, (tt, (tt, (tt, 
 counts_evidence (joined_pair d e) x u = no_numbers u _ (tt, still_both (derivation_marks d) _ (derivation_still d) (derivation_still e))
 counts_evidence (unfeasible_pair k d e) x u = no_numbers u _ (tt, (tt, (tt, still_both (derivation_marks d) _ (derivation_still d) (derivation_still e))))
 
-counts_front : (front ms : List Mark) (ns : List ℕ) → AreStill front → Counts ms ns → Counts (front ++ ms) ns
-counts_front front ms ns h k = counts_both front ms [] ns (counts_still front h) k
-
 pub counts_pairs : (ps : List PairEntry) (x : Naming) (u : Uses) (n : ℕ) → Counts (pairs_marks x u n ps) (numbers_of u (used_by_pairs ps))
 counts_pairs [] x u n = no_numbers u [] tt
-counts_pairs (p ∷ ps) x u n =
-    counts_front (pair_front n p) _ _ (tt, (tt, (tt, (tt, (places_still p.position 0, (tt, (tt, (tt, tt))))))))
-    (counts_mapped u (used_by_evidence p.evidence) (used_by_pairs ps) (evidence_marks x u p.evidence) (pairs_marks x u (suc n) ps) (counts_evidence p.evidence x u) (counts_pairs ps x u (suc n)))
+counts_pairs (p ∷ ps) x u n = counts_front (pair_front n p) _ _ (tt, (tt, (tt, (tt, (places_still p.position 0, (tt, (tt, (tt, tt))))))))
+    (counts_mapped u (used_by_evidence p.evidence) (used_by_pairs ps) _ _ (counts_evidence p.evidence x u) (counts_pairs ps x u (suc n)))
 
 pub counts_redexes : (rs : List Redex) (x : Naming) (u : Uses) (n : ℕ) → Counts (redexes_marks x u n rs) (numbers_of u (used_by_redexes rs))
 counts_redexes [] x u n = no_numbers u [] tt
-counts_redexes (r ∷ rs) x u n =
-    counts_front (redex_front n r) _ _ (tt, (tt, (tt, (tt, (places_still r.position 0, (tt, (tt, (tt, tt))))))))
-    (counts_mapped u (used_by r.evidence) (used_by_redexes rs) (infeasibility_marks x u r.evidence) (redexes_marks x u (suc n) rs) (counts_infeasibility r.evidence x u)
-    (counts_redexes rs x u (suc n)))
+counts_redexes (r ∷ rs) x u n = counts_front (redex_front n r) _ _ (tt, (tt, (tt, (tt, (places_still r.position 0, (tt, (tt, (tt, tt))))))))
+    (counts_mapped u (used_by r.evidence) (used_by_redexes rs) _ _ (counts_infeasibility r.evidence x u) (counts_redexes rs x u (suc n)))
 
 counts_apart : (a : Apartness) (x : Naming) (u : Uses) → Counts (apart_marks x u a) (numbers_of u (used_by_apart a))
 counts_apart (by_normal_forms rs) x u = counts_put _ _ _ tt (counts_redexes rs x u 1)
@@ -282,9 +278,8 @@ counts_apart by_rigid_caps x u = no_numbers u _ (tt, tt)
 
 pub counts_steps : (ss : List Simplification) (x : Naming) (u : Uses) → Counts (simplifications_marks x u ss) (numbers_of u (used_by_steps ss))
 counts_steps [] x u = no_numbers u [] tt
-counts_steps (dropped r e ∷ ss) x u =
-    counts_front (fixed (codes "drop ") ∷ number r ∷ fixed (codes " ") ∷ []) _ _ (tt, (tt, (tt, tt)))
-    (counts_mapped u (used_by e) (used_by_steps ss) (infeasibility_marks x u e) (simplifications_marks x u ss) (counts_infeasibility e x u) (counts_steps ss x u))
+counts_steps (dropped r e ∷ ss) x u = counts_front (fixed (codes "drop ") ∷ number r ∷ fixed (codes " ") ∷ []) _ _ (tt, (tt, (tt, tt)))
+    (counts_mapped u (used_by e) (used_by_steps ss) _ _ (counts_infeasibility e x u) (counts_steps ss x u))
 counts_steps (inlined r k ∷ ss) x u = counts_front (fixed (codes "inline ") ∷ number r ∷ fixed (codes " ") ∷ number k ∷ fixed (codes "\n") ∷ []) _ _
     (tt, (tt, (tt, (tt, (tt, tt))))) (counts_steps ss x u)
 
@@ -296,6 +291,5 @@ counts_body (peak_certificate p) x u given =
     counts_front (word (codes "peak") (fits_answer false given ∷ []) ∷ fixed (codes "\n") ∷ fixed (codes "start ") ∷ []) _ _ (tt, (tt, (tt, tt)))
     (counts_front (term_marks x 1 1 p.start) _ _ (term_still p.start x 1 1) (counts_put _ _ _ tt
     (counts_front (derivation_marks p.first) _ _ (derivation_still p.first) (counts_front (derivation_marks p.second) _ _ (derivation_still p.second) (counts_apart p.apart x u)))))
-counts_body (simplified_certificate ss c) x u given =
-    counts_front (steps_front (length ss)) _ _ (tt, (tt, (tt, tt)))
-    (counts_mapped u (used_by_steps ss) (automata_of c) (simplifications_marks x u ss) (body_marks x u given c) (counts_steps ss x u) (counts_body c x u given))
+counts_body (simplified_certificate ss c) x u given = counts_front (steps_front (length ss)) _ _ (tt, (tt, (tt, tt)))
+    (counts_mapped u (used_by_steps ss) (automata_of c) _ _ (counts_steps ss x u) (counts_body c x u given))
