@@ -65,7 +65,7 @@ pub use_facts : {names : NameTable} {end : ℕ} {from to : List Item} {s t : Rea
 use_facts {names} {end} {from} {to} {s} {t} all n h none x =
     let known = h (open_before x none) in
     let r = read_run none x in
-    let passes = (line_counts n).into s.shares.texts [] s.shares.used s.shares.unfolds_to (r.shares known.0 []).0 in
+    let passes = ((line_counts n).along s.shares.texts [] s.shares.used s.shares.unfolds_to).1.into (r.shares known.0 []).0 in
     record { new = known.1.0; low = passes.0; high = omega (arith, texts_length names all, ap length known.1.1, passes.1) }
 
 -- the automaton at its number's place has that number

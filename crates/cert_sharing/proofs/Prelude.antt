@@ -9,7 +9,7 @@ pub use Rattle.cert_laws.proofs.AlikePaths.{alike_skeletons, same_marks, same_sk
 pub use Rattle.cert_laws.proofs.Moves.{There, tail_same}
 pub use Rattle.cert_laws.proofs.OneRefusal.{Judging, Stops, one_stop, Closes, never, passed_anywhere}
 pub use Rattle.cert_laws.proofs.PassEvidence.{AllOf, AllBy, Solves, meant_automaton, all_of, target_marks}
-pub use Rattle.cert_laws.proofs.PassWhole.{pair_front, redex_front, steps_front, IsBare, meant_body, told_answer}
+pub use Rattle.cert_laws.proofs.PassWhole.{pair_front, redex_front, steps_front, IsBare, meant_body, told_is}
 pub use Rattle.cert_laws.proofs.Prelude.{◌≡◌, inr, ℕ, Bool, true, false, cond, List, [], ◌∷◌, length, Option, Some, None, refl, ap, ◌∙◌, arith, NameTable, CertificateCause, Demand, shares, Mark}
 pub use Rattle.cert_laws.proofs.Prelude.{marks_text, Shared, nothing_shared, ◌⊎◌, inl, ◌≤◌, ◌++◌, length-append, Share, automaton_begins, automaton_ends, is_use, is_light, all_used, mark_text}
 pub use Rattle.cert_laws.proofs.Prelude.{demands_of, behind_marks, Skeleton, marks_of, skeleton_text, Pass, zero, suc, ◌+◌, ◌*◌, ◌<◌, sym, subst, syntax, verdict, behind_mark, IsPlainlyRefused, Item}

@@ -9,6 +9,7 @@ use Rattle.cert_sharing.proofs.Prelude.{are_places, number, number_for, term_mar
 use Rattle.cert_sharing.proofs.Prelude.{infeasibility_marks, evidence_marks, pairs_marks, measure_marks, redexes_marks, apart_marks, simplifications_marks, body_marks, is_among, AllNew, Shared}
 use Rattle.cert_sharing.proofs.Prelude.{text_at, first_of, share_verdict, effects, behind_mark, behind_marks, PassShares, pair_front, redex_front, steps_front}
 use Rattle.std.specs.Prelude.{◌↔◌}
+use Rattle.cert_grammar.specs.Sharing.{with_text}
 use Rattle.cert_grammar.specs.WordMarks.{numeral}
 use Rattle.cert_laws.proofs.Asking.{AllAsk, MarksAsk, term_asks, derivation_asks, measure_asks, behind_word_ask}
 use Rattle.cert_sharing.proofs.FirstUses.{greatest}
@@ -36,15 +37,12 @@ still_demands_are [] s a h = (refl, refl)
 still_demands_are (shares e ∷ ds) s a h = absurd h
 still_demands_are (_ ∷ ds) s a h = still_demands_are ds s a h
 
-still_mark : (m : Mark) (ts : List (List ℕ)) (b : List ℕ) (u w : ℕ) → IsStill (demands_of m) → behind_mark m (state ts b u w) ≡ state ts (b ++ mark_text m) u w
-still_mark m ts b u w h = ap (λ (s : Shared). record { texts = s.texts; begun = s.begun ++ mark_text m; used = s.used; unfolds_to = s.unfolds_to })
-    (still_demands_are (demands_of m) (state ts b u w) 0 h).0
-
 -- they only add their text to what was begun
 pub still_marks : (ms : List Mark) (ts : List (List ℕ)) (b : List ℕ) (u w : ℕ) → AreStill ms → behind_marks ms (state ts b u w) ≡ state ts (b ++ marks_text ms) u w
 still_marks [] ts b u w h = ap (λ (x : List ℕ). state ts x u w) (sym (append-nil b))
 still_marks (m ∷ ms) ts b u w h =
-    cc (still_mark m ts b u w h.0, still_marks ms ts (b ++ mark_text m) u w h.1, append_assoc b (mark_text m) (marks_text ms))
+    let first = ap (with_text (mark_text m)) (still_demands_are (demands_of m) (state ts b u w) 0 h.0).0 in
+    cc (first, still_marks ms ts (b ++ mark_text m) u w h.1, append_assoc b (mark_text m) (marks_text ms))
 
 pub still_pass : (ms : List Mark) (s : Shared) → AreStill ms → PassShares s ms
 still_pass [] s h = tt
