@@ -40,7 +40,8 @@ module _ (names : NameTable) where
   spelt_transitions : (ts : List Transition) (bound : ℕ) → bound ≤ 1000 → AreTransitions names bound ts → Spells names (transitions_marks (name_of names) bound ts) (transitions_text names ts) []
   spelt_transitions [] bound few h = nothing
   spelt_transitions (t ∷ ts) bound few h =
-      put_two (put_two (spelt_head t.symbol bound t.arguments few h.0 h.1) (put_bytes (codes " ") (put_state bound t.target few h.2 (put_bytes (codes "\n") nothing)))) (spelt_transitions ts bound few h.3)
+      put_two (put_two (spelt_head t.symbol bound t.arguments few h.0 h.1) (put_bytes (codes " ") (put_state bound t.target few h.2 (put_bytes (codes "\n") nothing))))
+      (spelt_transitions ts bound few h.3)
 
   pub spelt_automaton : (a : Automaton) → IsAutomaton names a → Spells names (automaton_marks (name_of names) a) (automaton_text names a) []
   spelt_automaton a h =
@@ -141,7 +142,8 @@ module _ (names : NameTable) (u : Uses) (s : AreShort u) where
       → Spells names (word bytes (fits_answer told given ∷ []) ∷ fixed (codes "\n") ∷ ms) (bytes ++ (codes "\n" ++ t)) us
   put_kind bytes told given e h = put_word bytes bytes (fits_answer told given ∷ []) refl (met_first names (fits_answer told given) [] e refl) (put_bytes (codes "\n") h)
 
-  pub spelt_body : (c : Certificate) (given : Option Bool) → is_answer (answer_of c) given ≡ true → IsWithin names c → Spells names (body_marks (name_of names) u given c) (body_text names u c) (automata_of c)
+  pub spelt_body : (c : Certificate) (given : Option Bool) → is_answer (answer_of c) given ≡ true → IsWithin names c
+      → Spells names (body_marks (name_of names) u given c) (body_text names u c) (automata_of c)
   spelt_body (ortho_certificate ps) given e h = put_kind (codes "ortho") true given e (spelt_pairs ps 1 (omega arith) h.1)
   spelt_body (quasi_certificate m ps) given e h =
       put_kind (codes "quasi") true given e (put_two (spelt_measure names m h.0) (spelt_pairs ps 1 (omega arith) h.2))
@@ -166,4 +168,5 @@ HasHeading names (by_number f) bs = (length bs ≤ 1000) × AreAutomata names bs
 pub spelt_heading : (u : Uses) (names : NameTable) (bs : List Automaton) → HasHeading names u bs → Spells names (heading_marks (name_of names) u bs) (heading_text (version_of u) names bs) []
 spelt_heading in_full names bs h = put_bytes (codes "concon 1\n") nothing
 spelt_heading (by_number f) names bs h =
-    put_bytes (codes "concon 2\n") (put_bytes (codes "shared ") (put_count Counted.shared_automata 0 (length bs) (omega arith) (omega arith) h.0 (put_bytes (codes "\n") (spelt_automata bs names h.1))))
+    put_bytes (codes "concon 2\n") (put_bytes (codes "shared ") (put_count Counted.shared_automata 0 (length bs) (omega arith) (omega arith) h.0
+    (put_bytes (codes "\n") (spelt_automata bs names h.1))))
