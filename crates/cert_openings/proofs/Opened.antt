@@ -1,7 +1,7 @@
 -- A read opening, with entries behind it, by its marks: they pass, and so do its shared automata.
-use Rattle.cert_openings.proofs.Prelude.{◌≡◌, ◌⊎◌, inl, inr, ℕ, ◌+◌, Bool, true, false, List, [], ◌++◌, length, Option, Some, None, refl, sym, ap, ◌∙◌, subst, codes, length-append, append-nil, arith}
+use Rattle.cert_openings.proofs.Prelude.{◌≡◌, ◌⊎◌, inl, inr, ℕ, ◌+◌, Bool, true, false, List, [], ◌++◌, length, Option, Some, None, refl, sym, ap, ◌∙◌, subst, codes, length-append, arith}
 use Rattle.cert_openings.proofs.Prelude.{three_parts, Automaton, PairEntry, Certificate, NameTable, name_of, IsWithin, Version, Uses, version_of, IsOfVersion, shared_by, is_answer, marks_text}
-use Rattle.cert_openings.proofs.Prelude.{answer_marks, heading_text, body_text, nothing_shared, PassShares, Spells, front_marks, same_version, spelt_front, pass_front, Opening, ortho_opening}
+use Rattle.cert_openings.proofs.Prelude.{answer_marks, heading_text, body_text, nothing_shared, PassShares, Sound, front_marks, same_version, spelt_front, pass_front, Opening, ortho_opening}
 use Rattle.cert_openings.proofs.Prelude.{quasi_opening, simplified_opening, certificate_for, uses_with, AreLeft, IsRead, told_marks, IsReadTo}
 use Rattle.cert_laws.proofs.SpeltWhole.{answer_of}
 use Rattle.cert_openings.proofs.Along.{Along, along}
@@ -14,7 +14,7 @@ pub record Gone (names : NameTable) (bytes : List ℕ) (o : Opening) (es : List 
   pub shared : List Automaton
   pub answer : Option Bool
   pub allowed : IsOfVersion (version_of uses) (certificate_for o es)
-  pub spells : Spells names (front_marks (name_of names) uses shared answer (certificate_for o es)) (marks_text (front_marks (name_of names) uses shared answer (certificate_for o es)))
+  pub spells : Sound names (front_marks (name_of names) uses shared answer (certificate_for o es))
   pub pass_shared : PassShares nothing_shared (front_marks (name_of names) uses shared answer (certificate_for o es))
   pub rest : List ℕ
   pub text : bytes ≡ marks_text (front_marks (name_of names) uses shared answer (certificate_for o es)) ++ rest
@@ -45,8 +45,8 @@ gone names bytes o es end h =
       shared = bs;
       answer = g.0;
       allowed = subst (λ (w : Version). IsOfVersion w c) (sym (same_version v names bs)) h.allowed;
-      spells = record { passed = spells.passed; named = spells.named; text = refl };
-      pass_shared = subst (PassShares nothing_shared) (append-nil ms) (pass_front v names c h.left g.0 [] h.are_left (λ b w. tt));
+      spells = record { passed = spells.passed; named = spells.named };
+      pass_shared = pass_front v names c h.left g.0 h.are_left;
       rest = h.rest;
       text = text;
       place = (let place = h.place in omega (arith, ap length text ∙ length-append (marks_text ms) h.rest, place));

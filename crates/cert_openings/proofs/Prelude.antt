@@ -27,7 +27,8 @@ pub use Rattle.cert_laws.proofs.OneAnswer.{begins_shorter, one_answer}
 pub use Rattle.cert_laws.proofs.OneRefusal.{Judging, by_names, refused_never, passed_at, passed_anywhere}
 pub use Rattle.cert_laws.proofs.Reached.{Moves, same_taken}
 pub use Rattle.cert_laws.proofs.SkeletonPaths.{skeleton_path, parts_named, second_allows}
-pub use Rattle.cert_laws.proofs.Spelt.{text_both, have_append, have_both, Spells, pass_both}
+pub use Rattle.cert_laws.proofs.PassTerms.{Sound}
+pub use Rattle.cert_laws.proofs.Spelt.{text_both, have_append, have_both, pass_both}
 pub use Rattle.cert_openings.specs.Laws.{IsReadTo, IsWhole, IsTold, AreOne}
 pub use Rattle.cert_openings.specs.Openings.{Opening, ortho_opening, quasi_opening, simplified_opening, certificate_for, IsRead, BeginsEntry, lines_text, IsOpeningEnd, IsOpened, AreOpeningLines}
 pub use Rattle.cert_openings.specs.Openings.{IsKindLine, AreHeadingLines, IsPeak, uses_with, AreLeft, Takes, IsLine}

@@ -63,8 +63,8 @@ shows second_version names all p = (
 
 pub automata_within : (bs : List Automaton) (names : NameTable) → ArePlainAutomata bs → Along names (λ u. automata_marks u bs) → AreAutomata names bs
 automata_within bs names p h =
-    let m = meant_automata bs (name_of names) names h.named h.passed in
-    subst (AreAutomata names) (sym (m.same (λ f. refl) p h.found)) m.are
+    let m = meant_automata bs (name_of names) names (record { named = h.named; passed = h.passed }) in
+    subst (AreAutomata names) (sym (m.same ((λ f. refl), p) h.found)) m.is.0
 
 -- ---- an opening and entries
 

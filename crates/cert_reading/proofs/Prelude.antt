@@ -34,8 +34,9 @@ pub use Rattle.cert_reading.specs.declared.headings.Kind.{Kind}
 pub use Rattle.cert_reading.specs.declared.headings.Kind.TheVariants.{Ortho, Quasi, Peak}
 pub use Rattle.cert_shares.specs.SharesView.{with_begun}
 pub use Rattle.cert_sharing.proofs.FirstUses.{pick, pick_number, texts_length}
-pub use Rattle.cert_sharing.proofs.UseMarks.{AreStill, still_marks, pass_split, behind_both, marked_texts, automata_behind, automata_new, automaton_behind, IsStill, places_still, Counts}
-pub use Rattle.cert_sharing.proofs.UseMarks.{counts_still, counts_both, counts_put, counts_use, still_both, term_still, derivation_still, numbers_of, counts_redexes, counts_pairs, counts_steps}
+pub use Rattle.cert_sharing.proofs.UseMarks.{AreStill, still_marks, pass_split, behind_both, marked_texts, automaton_behind, IsStill, places_still, Counts, counts_still, counts_both}
+pub use Rattle.cert_sharing.proofs.UseMarks.{counts_put, counts_use, still_both, term_still, derivation_still, numbers_of, counts_redexes, counts_pairs, counts_steps, meets_automata}
+pub use Rattle.cert_sharing.proofs.UseMarks.{measure_still}
 pub use Rattle.cert_words.proofs.NodeReads.{suc_is, node_leads, refused_node, any_frame, frames, frames_deep}
 pub use Rattle.cert_words.proofs.Stepping.{keyword_run, one_stop, some_now, none_now, one, two, stuck_among, counted_there, counted_out, go, stop, arity_met, text_run, three, front_of}
 pub use Rattle.cert_words.proofs.Walking.{then_reads, as_marks, then_nothing, as_reads, open_before, goes_as, already, walks_then, walks_shorter, stops_then, goes_then, goes_open, not_both}

@@ -1,7 +1,7 @@
 -- What is known behind the shared automata: their texts, each of them once.
 use Rattle.cert_reading.proofs.Prelude.{◌≡◌, ℕ, List, [], ◌∷◌, length, codes, None, sym, ap, ◌∙◌, subst, Automaton, NameTable, name_of, second_version, Mark, fixed, shared_automata}
 use Rattle.cert_reading.proofs.Prelude.{marks_text, number_for, automata_marks, texts_of, AllNew, AreAutomata, Shared, behind_marks, PassShares, Item, still_marks, pass_split}
-use Rattle.cert_reading.proofs.Prelude.{behind_both, marked_texts, automata_behind, automata_new, Reading, walks_pass, shared_marks, ArePlainAutomata, AreShared, Place}
+use Rattle.cert_reading.proofs.Prelude.{behind_both, marked_texts, meets_automata, Reading, walks_pass, shared_marks, ArePlainAutomata, AreShared, Place}
 use Rattle.cert_reading.proofs.Prelude.{ReadsWhere}
 use Rattle.cert_reading.proofs.Found.{walks_named, automata_within}
 use Rattle.cert_reading.proofs.Stopping.{open_before_where, ran}
@@ -28,9 +28,10 @@ known_now {P} {names} {end} {from} {to} {s} {t} all plain h x = λ none.
     still_marks (count_line all) z.texts [] z.used z.unfolds_to (tt, (tt, (tt, tt))) ∙ ap (λ (ts : List (List ℕ)). state ts line z.used z.unfolds_to) known.1.1 in
     let keeps = r.shares known.0 [] in
     let parts = pass_split (count_line all) (automata_marks (name_of names) all) (state z.texts [] z.used z.unfolds_to) keeps.0 in
-    let new = automata_new all (name_of names) [] line z.used z.unfolds_to (subst (λ (y : Shared). PassShares y (automata_marks (name_of names) all)) fresh parts.1) in
+    let after = meets_automata all (name_of names) [] line z.used z.unfolds_to in
+    let new = after.1.into (subst (λ (y : Shared). PassShares y (automata_marks (name_of names) all)) fresh parts.1) in
     let there = behind_both (count_line all) (automata_marks (name_of names) all) (state z.texts [] z.used z.unfolds_to) ∙ ap (behind_marks (automata_marks (name_of names) all)) fresh
-    ∙ (automata_behind all (name_of names) [] line z.used z.unfolds_to).1 in (
+    ∙ after.1.after in (
       run_shorter names end from to (λ u. shared_marks u all) s.left.now t.left.now z t.shares known.0 r,
       (subst (AllNew []) texts new, sym (ap (λ (y : Shared). y.texts) keeps.1) ∙ ap (λ (y : Shared). y.texts) there ∙ texts),
     )

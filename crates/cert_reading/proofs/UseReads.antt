@@ -19,7 +19,7 @@ known_where {P} {names} {end} {from} {to} {f} {s} {t} second_version all x ns c 
     let was = open_before_where x none in
     let known = h was in
     let r = ran was none x in
-    let texts = sym (ap (λ (z : Shared). z.texts) (r.shares known.0 []).1) ∙ ap (λ (z : Shared). z.texts) (c.after s.shares.texts [] s.shares.used s.shares.unfolds_to).1 in
+    let texts = sym (ap (λ (z : Shared). z.texts) (r.shares known.0 []).1) ∙ ap (λ (z : Shared). z.texts) (c.along s.shares.texts [] s.shares.used s.shares.unfolds_to).1.after in
     (run_shorter names end from to f s.left.now t.left.now s.shares t.shares known.0 r, (known.1.0, texts ∙ known.1.1))
 
 pub known_behind : {names : NameTable} {end : ℕ} {from to : List Item} {f : Naming → List Mark} {s t : Reading} (v : Version) (all : List Automaton) → Reads names end from f to s t
@@ -54,7 +54,7 @@ pub use_facts : {names : NameTable} {end : ℕ} {from to : List Item} {s t : Rea
 use_facts {names} {end} {from} {to} {s} {t} all n h none x =
     let known = h (open_before x none) in
     let r = read_run none x in
-    let passes = (line_counts n).into s.shares.texts [] s.shares.used s.shares.unfolds_to (r.shares known.0 []).0 in
+    let passes = ((line_counts n).along s.shares.texts [] s.shares.used s.shares.unfolds_to).1.into (r.shares known.0 []).0 in
     record { new = known.1.0; low = passes.0; high = omega (arith, texts_length names all, ap length known.1.1, passes.1) }
 
 -- the automaton at its number's place has that number

@@ -393,8 +393,8 @@ same_shared _ _ names k l h i n e = absurd cc
 text_tells : (a b : Automaton) (names : NameTable) → IsAutomaton names a → IsAutomaton names b → automaton_text names a ≡ automaton_text names b → a ≡ b
 text_tells a b names h i e =
     let x = name_of names in
-    let mine = spelt_automaton a names h in
-    let yours = spelt_automaton b names i in
+    let mine = spelt_automaton names a h in
+    let yours = spelt_automaton names b i in
     let texts : marks_text (automaton_marks x a ++ []) ≡ marks_text (automaton_marks x b ++ []) = cc (append-nil (automaton_marks x a), append-nil (automaton_marks x b)) in
     (same_automata a b names [] [] h i (same_marks (automaton_marks x a ++ []) (automaton_marks x b ++ []) (states_line ∷ []) (automaton_alone x a mine.named) (automaton_alone x b yours.named) texts)).0
 

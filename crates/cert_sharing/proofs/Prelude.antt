@@ -10,7 +10,7 @@ pub use Rattle.cert_laws.proofs.Moves.{There, tail_same}
 pub use Rattle.cert_laws.proofs.OneAnswer.{Stops, one_stop, never}
 pub use Rattle.cert_laws.proofs.OneRefusal.{Judging, passed_anywhere}
 pub use Rattle.cert_laws.proofs.PassEvidence.{AllOf, AllBy, Solves, meant_automaton, all_of, target_marks}
-pub use Rattle.cert_laws.proofs.PassWhole.{pair_front, redex_front, steps_front, IsBare, meant_body, told_answer}
+pub use Rattle.cert_laws.proofs.PassWhole.{pair_front, redex_front, steps_front, IsBare, meant_body, told_is}
 pub use Rattle.cert_laws.proofs.Prelude.{◌≡◌, inr, ℕ, Bool, true, false, cond, List, [], ◌∷◌, length, Option, Some, None, refl, ap, ◌∙◌, arith, NameTable, CertificateCause, Demand, shares, Mark}
 pub use Rattle.cert_laws.proofs.Prelude.{marks_text, Shared, nothing_shared, ◌⊎◌, inl, ◌≤◌, ◌++◌, length-append, Share, automaton_begins, automaton_ends, is_use, is_light, all_used, mark_text}
 pub use Rattle.cert_laws.proofs.Prelude.{demands_of, behind_marks, Skeleton, marks_of, skeleton_text, Pass, zero, suc, ◌+◌, ◌*◌, ◌<◌, sym, subst, syntax, verdict, behind_mark, IsPlainlyRefused, Item}
@@ -29,7 +29,7 @@ pub use Rattle.cert_laws.proofs.Prelude.{by_hypothesis, Derivations, no_derivati
 pub use Rattle.cert_laws.proofs.Prelude.{AreTransitions, has_arity, behind, places_text, position, places, arguments_marks, further_marks, steps_marks, step_marks, derivations_marks}
 pub use Rattle.cert_laws.proofs.Prelude.{further_states_marks, states_marks, head_marks}
 pub use Rattle.cert_laws.proofs.SkeletonPaths.{skeleton_path, automaton_alone}
-pub use Rattle.cert_laws.proofs.Spelt.{pass_both, have_append, text_both, Spells, put_bytes, put_two}
+pub use Rattle.cert_laws.proofs.Spelt.{pass_both, have_append, text_both, Spells, put_bytes, put_two, same_text, automata_both}
 pub use Rattle.cert_laws.proofs.SpeltWhole.{answer_of, spelt_automaton, AreShort, HasHeading, spelt_heading, spelt_body}
 pub use Rattle.cert_sharing.specs.Fronts.{uses_with, AreLeft}
 pub use Rattle.cert_sharing.specs.SharedLaws.{IsMetText, IsAnswer}

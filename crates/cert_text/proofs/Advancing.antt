@@ -173,8 +173,8 @@ module _ {v : Version} {shared : List Automaton} {names : NameTable} {bytes left
       → sb.texts ≡ now.texts
   texts_kept p rest sb r =
       let keeps = r.shares within [] in
-      let counts = (counts_pairs (p ∷ []) (name_of names) (uses_with v names shared) n).after now.texts [] now.used now.unfolds_to in
-      sym (ap (λ (z : Shared). z.texts) keeps.1) ∙ ap (λ (z : Shared). z.texts) counts.1
+      let counts = (counts_pairs (p ∷ []) (name_of names) (uses_with v names shared) n).along now.texts [] now.used now.unfolds_to in
+      sym (ap (λ (z : Shared). z.texts) keeps.1) ∙ ap (λ (z : Shared). z.texts) counts.1.after
 
   pub held_on : {sb : Shared} (p : math.PairEntry) (rest : List ℕ) (count_then : ℕ) → EvidenceUses v shared p.evidence → count_then ≡ n
       → Run names (length bytes) (pairs_from v n ∷ []) (λ x. pairs_marks x (uses_with v names shared) n (p ∷ [])) (pairs_from v (suc n) ∷ []) left rest now sb

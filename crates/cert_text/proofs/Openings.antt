@@ -56,7 +56,7 @@ known_then first_version shared names bytes given o to t can known none run =
     counts_both (answer_marks given) _ [] _ (counts_still (answer_marks given) (answer_still given))
     (counts_both (fixed (codes "concon 1\n") ∷ []) _ [] _ (counts_still (fixed (codes "concon 1\n") ∷ []) (tt, tt))
     (counts_body (certificate_for o []) (name_of names) in_full given)) in
-    let texts : t.shares.texts ≡ [] = sym (ap (λ (z : Shared). z.texts) (run.shares (omega arith) []).1) ∙ ap (λ (z : Shared). z.texts) (counts.after [] [] 0 0).1 in
+    let texts : t.shares.texts ≡ [] = sym (ap (λ (z : Shared). z.texts) (run.shares (omega arith) []).1) ∙ ap (λ (z : Shared). z.texts) (counts.along [] [] 0 0).1.after in
     subst (λ (all : List Automaton). IsKnown names all t.shares) (sym can) (tt, texts)
 
 -- what is plain behind steps

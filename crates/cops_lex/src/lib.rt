@@ -6,7 +6,7 @@ ghost use Rattle.cops_lex.specs.declared.LexError.TheVariants.{NoMemory};
 
 pub use file_text::{Kind, Token};
 pub use lexer::{Lexer, tokens};
-pub use scan::is_id;
+pub use scan::{is_id, kind_of, len_of};
 use std::alloc::AllocFailed;
 use thiserror::Error;
 

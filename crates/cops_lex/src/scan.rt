@@ -97,6 +97,7 @@ pub fn kind_of(bytes: &[u8]) -> Option<Kind>
     }
 }
 
+/// How many bytes the token at the front has, which is of this kind.
 #[tactic(auto, using(crate::proofs::Fronts::id_runs, crate::proofs::Fronts::arrow_two, crate::proofs::Fronts::equal_two, crate::proofs::Fronts::kind_some))]
 pub fn len_of(kind: Kind, bytes: &[u8]) -> usize
     requires { kind_at bytes.now ≡ Some kind }
