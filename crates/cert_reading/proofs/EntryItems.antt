@@ -4,7 +4,7 @@ use Rattle.cert_reading.proofs.Prelude.{◌≡◌, inl, inr, ◌+◌, ◌-◌, �
 use Rattle.cert_reading.proofs.Prelude.{CertificateCause, syntax, Naming, Mark, Item, Lead, keyword, leads, pair_or_end, pairs_from, space, between, any_number, Version, first_version}
 use Rattle.cert_reading.proofs.Prelude.{second_version, HasMeasure, is_few, entries, first_there, longest, Left, accepts, refuses, goes_on, step, step_lead, Shared, behind_marks, PassShares}
 use Rattle.cert_reading.proofs.Prelude.{after_step, shared_step, MeasureCertificate, linear_measure, precedence_measure, with_begun, BeginsEntry, Reading, left_at, Walks, Run, RefusesAt}
-use Rattle.cert_reading.proofs.Prelude.{goes_as, entries_of, behind_measure, SymbolAt, Place, StopsWhere, IsStoppedWhere, ReadsWhere}
+use Rattle.cert_reading.proofs.Prelude.{goes_as, entries_of, behind_measure, SymbolAt, Place, Above, StopsWhere, IsStopped, IsStoppedWhere, ReadsWhere, told}
 use Rattle.cert_reading.proofs.Opening.{entry_at, head_at}
 
 zero_most : (x : ℕ) → max 0 (max 0 x) ≡ x
@@ -63,25 +63,25 @@ module _ (names : NameTable) (end : ℕ) (v : Version) (symbol : Item) (b : List
       let first = same.0 ∙ ap (λ (i : Item). first_there (leads i) b) (sym (first_item items s.item s.others s.items)) ∙ s.first in
       (w.0, record { item = symbol; others = items; items = refl; lead = s.lead; first = first; mark = s.mark; goes = step_same items ∙ s.goes }, w.2)
 
-  stop_same : (P : Place) (ms : List Mark) (i : Item) (more : List Item) (rest : List ℕ) (sa : Shared) (e : CertificateCause × ℕ) → P (symbol ∷ []) b
-      → Walks names ms (left_at end (pairs_from v 1 ∷ []) b) (left_at end (i ∷ more) rest)
+  stop_same : (P : Place) (ms : List Mark) (items : List Item) (i : Item) (more : List Item) (rest : List ℕ) (sa : Shared) (e : CertificateCause × ℕ) → P (symbol ∷ items) b
+      → Walks names ms (left_at end (pairs_from v 1 ∷ items) b) (left_at end (i ∷ more) rest)
       → ((k : List ℕ) → PassShares (with_begun k sa) ms × RefusesAt names (left_at end (i ∷ more) rest) (behind_marks ms (with_begun k sa)) e) → P (i ∷ more) rest
-      → StopsWhere P names end (symbol ∷ []) b sa e
-  stop_same P [] i more rest sa e p w r q = record {
+      → StopsWhere P names end (symbol ∷ items) b sa e
+  stop_same P [] items i more rest sa e p w r q = record {
     marks = [];
     item = symbol;
-    more = [];
+    more = items;
     rest = b;
     walks = refl;
-    stops = λ k. (tt, shared_same [] (with_begun k sa) ∙ ap (λ (l : Left). shared_step names l (with_begun k sa)) w ∙ (r k).1);
+    stops = λ k. (tt, shared_same items (with_begun k sa) ∙ ap (λ (l : Left). shared_step names l (with_begun k sa)) w ∙ (r k).1);
     place = p;
   }
-  stop_same P (m ∷ ms) i more rest sa e p w r q = record { marks = m ∷ ms; item = i; more = more; rest = rest; walks = walk_same (m ∷ ms) [] _ (λ x. cc) w; stops = r; place = q }
+  stop_same P (m ∷ ms) items i more rest sa e p w r q = record { marks = m ∷ ms; item = i; more = more; rest = rest; walks = walk_same (m ∷ ms) items _ (λ x. cc) w; stops = r; place = q }
 
-  pub symbol_stopped : (P : Place) (sa : Shared) (t : Option (CertificateCause × ℕ)) → P (symbol ∷ []) b → IsStoppedWhere P names end (pairs_from v 1 ∷ []) b sa t
-      → IsStoppedWhere P names end (symbol ∷ []) b sa t
-  symbol_stopped P sa None p x = tt
-  symbol_stopped P sa (Some e) p x = λ le. let there = x le in stop_same P there.marks there.item there.more there.rest sa e p there.walks there.stops there.place
+  pub symbol_stopped : (P : Place) (items : List Item) (sa : Shared) (t : Option (CertificateCause × ℕ)) → P (symbol ∷ items) b → IsStoppedWhere P names end (pairs_from v 1 ∷ items) b sa t
+      → IsStoppedWhere P names end (symbol ∷ items) b sa t
+  symbol_stopped P items sa None p x = tt
+  symbol_stopped P items sa (Some e) p x = λ le. let there = x le in stop_same P there.marks items there.item there.more there.rest sa e p there.walks there.stops there.place
 
   pub symbol_run : (f : Naming → List Mark) (to : List Item) (r : List ℕ) (sa sb : Shared) → (f (name_of names) ≡ [] → ⊥) → Run names end (pairs_from v 1 ∷ []) f to b r sa sb
       → Run names end (symbol ∷ []) f to b r sa sb
@@ -95,8 +95,8 @@ symbol_where {P} {names} {end} {f} {to} {s} {t} v n i low behind at h some p x =
     let same = λ (q : s.refused ≡ None). symbol_same v n i low behind at s.left.now (h q) in
     record {
       front = x.front;
-      on = goes_as _ _ (IsStoppedWhere P names end (pairs_from v 1 ∷ []) s.left.now s.shares) (IsStoppedWhere P names end (i ∷ []) s.left.now s.shares) s.refused t.refused
-          (λ q none. symbol_run names end v i s.left.now (same q) f to t.left.now s.shares t.shares some) (λ q o. symbol_stopped names end v i s.left.now (same q) P s.shares o p) x.on;
+      on = goes_as _ _ (IsStopped P names end (pairs_from v 1 ∷ []) s.left.now s.shares) (IsStopped P names end (i ∷ []) s.left.now s.shares) s.refused t.refused
+          (λ q none. symbol_run names end v i s.left.now (same q) f to t.left.now s.shares t.shares some) (λ q e is h items. symbol_stopped names end v i s.left.now (same q) (Above P items) items s.shares (told e) (i, [], refl, p) (h items)) x.on;
     }
 
 -- and behind a measure

@@ -30,7 +30,7 @@ pub use Rattle.cert_reading.specs.Lines.{line_marks}
 pub use Rattle.cert_reading.specs.Measures.{SymbolAt}
 pub use Rattle.cert_reading.specs.Plain.{HasUsed, EvidenceUses, PairsUse, RedexesUse, StepsUse, IsUsed, ApartUses, IsPlainBy}
 pub use Rattle.cert_reading.specs.Shared.{shared_marks, ArePlainAutomata, IsKnown, sealed_marks}
-pub use Rattle.cert_reading.specs.Stops.{Place, ReadsWhere, IsBehind, AreBehind, BeginsList, BeforeEntries, WithinOpening, StopsWhere, IsStoppedWhere, ReadsOnWhere, Anywhere, lowest}
+pub use Rattle.cert_reading.specs.Stops.{Place, ReadsWhere, IsBehind, AreBehind, BeginsList, BeforeEntries, WithinOpening, StopsWhere, IsStoppedWhere, Anywhere, lowest}
 pub use Rattle.cert_reading.specs.Stops.{WithinEntry}
 pub use Rattle.cert_reading.specs.Uses.{AreShared, use_between, use_item, version_by, automata_by, uses_by, AreKnown}
 pub use Rattle.cert_reading.specs.declared.headings.Kind.{Kind}
@@ -41,13 +41,13 @@ pub use Rattle.cert_sharing.proofs.UseMarks.{AreStill, still_marks, pass_split, 
 pub use Rattle.cert_sharing.proofs.UseMarks.{counts_still, counts_both, counts_put, counts_use, still_both, term_still, derivation_still, numbers_of, counts_redexes, counts_pairs}
 pub use Rattle.cert_sharing.proofs.UseMarks.{measure_still, counts_steps}
 pub use Rattle.cert_words.proofs.NodeReads.{suc_is, node_leads, refused_node, any_frame, frames, frames_deep}
-pub use Rattle.cert_words.proofs.Stepping.{Front, keyword_run, one_stop, stuck_stops, some_now, none_now, one, two, stuck_among, counted_there, counted_out, go, stop, arity_met, text_run}
+pub use Rattle.cert_words.proofs.Stepping.{Front, keyword_run, one_stop, some_now, none_now, one, two, stuck_among, counted_there, counted_out, go, stop, arity_met, text_run}
 pub use Rattle.cert_words.proofs.Stepping.{three, front_of}
 pub use Rattle.cert_words.proofs.Walking.{then_reads, as_marks, then_nothing, as_reads, front_same, went, stopped, open_before, goes_as, already, walks_then, walks_shorter, stops_then}
-pub use Rattle.cert_words.proofs.Walking.{goes_then, goes_open, not_both, run_then, framed_run, as_run, front_then, read_run, framed}
+pub use Rattle.cert_words.proofs.Walking.{stuck_stops, stuck_where, sealed_stops, other_stop, framed_where, run_then, as_run, front_then, read_run, framed}
 pub use Rattle.cert_words.proofs.Whole.{walks_pass, walks_text}
 pub use Rattle.cert_words.specs.Choices.{Choice, Chosen, lead_of}
-pub use Rattle.cert_words.specs.Walks.{Reads, Run, IsStuckAt, Walks, AreWithoutStates, left_at, RefusesAt, BeginsAnew, HasNoStates, IsStuckBehind, IsStopped, ReadsOn}
+pub use Rattle.cert_words.specs.Walks.{Reads, Run, IsStuckAt, Walks, AreWithoutStates, left_at, RefusesAt, BeginsAnew, HasNoStates, IsStuckBehind, IsStopped, Above}
 pub use Rattle.cert_words.specs.Words.{told}
 pub use Rattle.cert_words.specs.declared.error.CertError.{CertError}
 pub use Rattle.cert_words.specs.declared.reading.Reading.{Reading}

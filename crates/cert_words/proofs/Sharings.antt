@@ -4,9 +4,9 @@ use Rattle.cert_words.proofs.Prelude.{subst, arith, length-append, take-append_s
 use Rattle.cert_words.proofs.Prelude.{automaton_ends, is_use, is_light, all_used, Demand, shares, Naming, Mark, word, closed, marks_text, verdict, use_mark, value, Item, Lead, at_once}
 use Rattle.cert_words.proofs.Prelude.{keyword, numeral_lead, is_short, leads, is_among, Shared, holds, first_of, share_verdict, share_effect, behind_marks, PassShares, is_there, first_there}
 use Rattle.cert_words.proofs.Prelude.{numeral, with_begun, behind_end, behind_both, pass_join, alone_met, two_met, CertError, Reading, told, left_at, tagged, Keeps, Run, RefusesAt}
-use Rattle.cert_words.proofs.Prelude.{IsStuckAt, IsStopped, IsFront, Reads, BeginsAnew, IsStuckBehind}
+use Rattle.cert_words.proofs.Prelude.{IsStuckAt, IsStopped, Anywhere, IsFront, Reads, BeginsAnew, IsStuckBehind}
 use Rattle.cert_words.proofs.Stepping.{one_walk, number_keeps, shared_stop, in_range_then, Front}
-use Rattle.cert_words.proofs.Walking.{walks_then, walks_shorter, same_begun, found_then, front_same, front_then, went, stopped, open_before, read_run}
+use Rattle.cert_words.proofs.Walking.{walks_then, walks_shorter, same_begun, found_then, front_same, front_then, went, stopped, sealed_stops, open_before, read_run}
 use Rattle.cert_words.proofs.Whole.{walks_text}
 
 -- ---- the first word of an automaton, and the last line
@@ -146,11 +146,5 @@ module _ {names : NameTable} {end : ℕ} {from : List Item} {f : Naming → List
       → t.shares ≡ behind_end text s.shares → Reads names end from (λ u. f u ++ closed (shares automaton_ends) ∷ []) new a t
   end_stopped {t} {e} at some tells place missed known =
       stopped e (open_before x none) some (front_then a.shares.texts s.shares.texts t.shares.texts x.front (front_ended text s.shares t.shares known))
-      (subst (IsStopped names end from a.left.now a.shares) (sym tells) (λ le items. record {
-        marks = done;
-        item = i;
-        more = [];
-        rest = s.left.now;
-        walks = run.walks le items;
-        stops = λ b. ((run.shares le b).0, end_stuck at place missed le items b);
-      }))
+      (subst (IsStopped Anywhere names end from a.left.now a.shares) (sym tells) (sealed_stops Anywhere names end from i f a.left.now s.left.now a.shares s.shares (Some (bad_share, at)) tt run
+      (end_stuck at place missed)))

@@ -8,11 +8,11 @@ use Rattle.cert_words.proofs.Prelude.{places_text, position, scan, is_word, valu
 use Rattle.cert_words.proofs.Prelude.{leads, is_there, taken, mark_of, items_of, longest, first_there, Left, Step, goes_on, behind_lead, judged, step, step_lead, Shared, share_verdict}
 use Rattle.cert_words.proofs.Prelude.{behind_mark, ends, next_lead, shared_judged, behind_lead_shared, after_step, mode_of, ends_lead, refuses, at_once, numeral, with_begun, IsStill}
 use Rattle.cert_words.proofs.Prelude.{still_marks, still_pass, places_still, found_there, text_is, first_sound, CertError, Reading, IsLeadRead, told, IsTold, counted_view, left_at, Walks}
-use Rattle.cert_words.proofs.Prelude.{tagged, AreFound, Keeps, Run, RefusesAt, IsStuckAt, IsStopped, Reads}
+use Rattle.cert_words.proofs.Prelude.{tagged, AreFound, Keeps, Run, RefusesAt, IsStuckAt, Reads}
 use Rattle.cert_grammar.proofs.Names.{found_is_named}
 use Rattle.cert_grammar.proofs.ScanLaws.{IsWordOf, scanned}
 use Rattle.cert_grammar.proofs.ScanWords.{number_is, place_is, bar_is, name_is}
-use Rattle.cert_words.proofs.Walking.{front_same, went, stopped}
+use Rattle.cert_words.proofs.Walking.{front_same, went, stopped, stuck_stops}
 use Rattle.cert_words.specs.Nodes.{IsBarNumber}
 use Rattle.cert_words.specs.declared.error.CertError.TheVariants.{BadNumber, UnknownName, WrongArity}
 use Rattle.cert_grammar.specs.FirstRefusal as machine
@@ -223,11 +223,6 @@ module _ {names : NameTable} {end : ℕ} {bytes v rest : List ℕ} {s : Shared} 
       subst (λ (q : List ℕ). Run names end (i ∷ []) (λ u. position q ∷ []) new bytes rest s s) (sym e)
       (one_step names end f s s (λ u. position (places v) ∷ []) met (still_keeps (word v (are_places 0 (places v))) s (places_still (places v) 0))
       (ap (λ (w : List ℕ). word w (are_places 0 (places v)) ∷ []) (sym (place_is v (spelling_of f f.word)))) tt)
-
--- a refusal at the first item
-pub stuck_stops : (names : NameTable) (end : ℕ) (i : Item) (bytes : List ℕ) (s : Shared) (t : Option (CertificateCause × ℕ)) → IsStuckAt names end i bytes s t → IsStopped names end (i ∷ []) bytes s t
-stuck_stops names end i bytes s None h = tt
-stuck_stops names end i bytes s (Some e) h = λ le items. record { marks = []; item = i; more = []; rest = bytes; walks = refl; stops = λ b. (tt, h items b) }
 
 pub is_told : (v t : Option (CertificateCause × ℕ)) → v ≡ t → IsTold v t
 is_told v None e = tt
