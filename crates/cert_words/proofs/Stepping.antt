@@ -14,6 +14,7 @@ use Rattle.cert_grammar.proofs.ScanLaws.{IsWordOf, scanned}
 use Rattle.cert_grammar.proofs.ScanWords.{number_is, place_is, bar_is, name_is}
 use Rattle.cert_words.proofs.Walking.{front_same, went, stopped, stuck_stops}
 use Rattle.cert_words.specs.Nodes.{IsBarNumber}
+pub use Rattle.cert_words.specs.Choices.{Front, plain}
 use Rattle.cert_words.specs.declared.error.CertError.TheVariants.{BadNumber, UnknownName, WrongArity}
 use Rattle.cert_grammar.specs.FirstRefusal as machine
 use Rattle.cert_words.specs.declared.error.CertCount as counts
@@ -25,13 +26,6 @@ same_left m n s t b c p q r = cc
 -- a mark at which nothing of shared automata is judged
 still_keeps : (m : Mark) (s : Shared) → IsStill (demands_of m) → Keeps s (m ∷ []) s
 still_keeps m s h = λ b. (still_pass (m ∷ []) (with_begun b s) (h, tt), ap (with_begun []) (still_marks (m ∷ []) s.texts b s.used s.unfolds_to (h, tt)))
-
--- a lead that is there, with its word and the bytes behind it
-pub record Front (bytes : List ℕ) (i : Item) (a : Lead) (w back : List ℕ) : Type 0 where
-  pub first : first_there (leads i) bytes ≡ Some a
-  pub word : w ≡ take (taken a bytes) bytes
-  pub rest : back ≡ drop (taken a bytes) bytes
-  pub within : taken a bytes ≤ length bytes
 
 -- the word of a lead that is there
 spelt_by : (a : Lead) (bytes w : List ℕ) → is_there a bytes ≡ true → w ≡ take (scan (mode_of a) bytes).size bytes → IsWordOf (mode_of a) w
@@ -112,18 +106,7 @@ pub some_now : {A : Type 0} {r : Option A} {t : Bool} → t ≡ is_some r → t 
 some_now {r = None} e f = absurd cc
 some_now {r = Some x} e f = (x, refl)
 
--- a lead with nothing that it must meet and nothing behind it
-abbrev pub plain : Lead → Lead
-plain (text w new) = text w []
-plain (check d b new) = check (is_short 0) b []
-plain (at_once d new) = at_once d []
-plain (keyword w ds new) = keyword w [] []
-plain (numeral_lead ds new) = numeral_lead (λ k. []) (λ k. [])
-plain (position_lead new) = position_lead []
-plain (variable_lead ds new) = variable_lead [] []
-plain (name_lead ds new) = name_lead [] (λ k. [])
-
-same_there : (a : Lead) (bytes : List ℕ) → is_there (plain a) bytes ≡ is_there a bytes
+pub same_there : (a : Lead) (bytes : List ℕ) → is_there (plain a) bytes ≡ is_there a bytes
 same_there (text w new) bytes = refl
 same_there _ bytes = refl
 
