@@ -14,16 +14,16 @@ use Rattle.cert_words.proofs.Whole.{walks_text}
 pub begins_keeps : (w : List ℕ) (s : Shared) → Keeps s (word w (shares automaton_begins ∷ []) ∷ []) s
 begins_keeps w s = λ b. ((refl, tt), refl)
 
-pub end_keeps : (w : List ℕ) (s : Shared) (v : Bool) → v ≡ holds s all_used → v ≡ true → Keeps s (word w (shares all_used ∷ []) ∷ []) s
-end_keeps w s v e h = λ b. ((alone_met (holds s all_used) (bad_share, 0) (sym e ∙ h), tt), refl)
+pub end_keeps : (w : List ℕ) (s : Shared) → holds s all_used ≡ true → Keeps s (word w (shares all_used ∷ []) ∷ []) s
+end_keeps w s h = λ b. ((alone_met (holds s all_used) (bad_share, 0) h, tt), refl)
 
 first_out : (v : Bool) (x : CertificateCause × ℕ) (o : Option (CertificateCause × ℕ)) → v ≡ false → first_of (cond {A = Option (CertificateCause × ℕ)} v None (Some x)) o ≡ Some x
 first_out v x o e = ap (λ (t : Bool). first_of (cond {A = Option (CertificateCause × ℕ)} t None (Some x)) o) e
 
-pub end_stop : (names : NameTable) (end : ℕ) {bytes : List ℕ} (s : Shared) {i : Item} {w v rest : List ℕ} {new : List Item} {t : Bool}
-    → Front bytes i (keyword w (shares all_used ∷ []) new) v rest → t ≡ holds s all_used → t ≡ false → IsStuckAt names end i bytes s (Some (bad_share, end - length bytes))
-end_stop names end {bytes} s f e missed = λ items b.
-    shared_stop names end f (bad_share, end - length bytes) items (with_begun b s) refl (first_out (holds s all_used) (bad_share, end - length bytes) None (sym e ∙ missed))
+pub end_stop : (names : NameTable) (end : ℕ) {bytes : List ℕ} (s : Shared) {i : Item} {w v rest : List ℕ} {new : List Item}
+    → Front bytes i (keyword w (shares all_used ∷ []) new) v rest → holds s all_used ≡ false → IsStuckAt names end i bytes s (Some (bad_share, end - length bytes))
+end_stop names end {bytes} s f missed = λ items b.
+    shared_stop names end f (bad_share, end - length bytes) items (with_begun b s) refl (first_out (holds s all_used) (bad_share, end - length bytes) None missed)
 
 -- ---- a use
 
@@ -49,7 +49,7 @@ module _ (names : NameTable) (end : ℕ) (s : Reading) {i : Item} {v rest : List
     (k : (n ≡ value v) × ((nat_le 0 (value v) && nat_lt (value v) (suc largest)) ≡ true)) where
   pub use_run : {t : Shared} → (holds s.shares (is_use n) ≡ true) × (holds s.shares (is_light n) ≡ true) × (t ≡ share_effect (is_light n) (share_effect (is_use n) s.shares))
       → Run names end (i ∷ []) (λ u. use_mark n ∷ []) (new n) s.left.now rest s.shares t
-  use_run {t} m = number_keeps f k.0 (use_met names (value v) n k.0 k.1) (use_keeps (numeral n) n s.shares t m.0 m.1 m.2)
+  use_run {t} m = number_keeps f k.0 (use_met names (value v) n k.0 k.1 _) (use_keeps (numeral n) n s.shares t m.0 m.1 m.2)
 
   out : (x : CertificateCause × ℕ) → ((b : List ℕ) → share_verdict (with_begun b s.shares) (end - length s.left.now) (use_demands n) ≡ Some x) → IsStuckAt names end i s.left.now s.shares (Some x)
   out x w = λ items b. shared_stop names end f x items (with_begun b s.shares) (use_met names (value v) n k.0 k.1 (end - length s.left.now))

@@ -2,7 +2,7 @@
 use Rattle.std.specs.Prelude.{◌≡◌, ◌≤◌, ◌-◌, ℕ, zero, suc, List, [], ◌∷◌, length, take, drop, map, Option, Some, None, IfSome, MatchOption, false}
 use Rattle.cops_names.specs.NameTable.{NameTable}
 use Rattle.cert_grammar.specs.Prelude.{name_of, fixed, Naming, Mark, Item, Lead, leads, text, check, at_once, keyword, numeral_lead, position_lead, variable_lead, name_lead, is_short, is_there}
-use Rattle.cert_grammar.specs.Prelude.{taken, first_there}
+use Rattle.cert_grammar.specs.Prelude.{taken, first_there, Demand, verdict, in_range}
 use Rattle.cert_words.specs.declared.error.CertError.{CertError}
 use Rattle.cert_words.specs.declared.choices.Found.{Found}
 use Rattle.cert_words.specs.declared.reading.Reading.{Reading}
@@ -84,3 +84,11 @@ pub record IsJudged (x : Found) (m : Option CertError) (s t : Reading) : Type 0 
 abbrev pub IsWhy : NameTable → ℕ → Item → Lead → (Naming → List Mark) → List Item → Reading → Option CertError → Type 0
 IsWhy names end i a marks to s m = (w rest : List ℕ) → Front s.left.now i a w rest
     → MatchOption m (Run names end (i ∷ []) marks to s.left.now rest s.shares s.shares) (λ e. IsStuckAt names end i s.left.now s.shares (told e))
+
+-- why what is asked is refused at this place, if it is
+abbrev pub IsVerdict : NameTable → ℕ → List Demand → Option CertError → Type 0
+IsVerdict names at ds m = MatchOption m (verdict names at ds ≡ None) (λ e. verdict names at ds ≡ told e)
+
+-- a number in this range
+abbrev pub IsNumeral : ℕ → ℕ → Item → Type 0
+IsNumeral least bound i = (ds : ℕ → List Demand) × (new : ℕ → List Item) × (leads i ≡ numeral_lead (λ n. in_range 0 least bound n ∷ ds n) new ∷ [])
