@@ -1,5 +1,4 @@
-use Rattle.cert_words.proofs.Lemmas.{judged_word, only}
-use Rattle.cert_words.proofs.Prelude.{[], ◌∷◌, ◌∙◌, map, ap, Lead, plain}
+use Rattle.cert_words.proofs.Lemmas.{judged_word, only, [], ◌∷◌, ◌∙◌, map, ap, Lead, plain}
 use Rattle.cert_words.proofs.choices.alone.Goals as goal
 
 pub returns-in-Some-clause-word : goal.returns-in-Some-clause-word

@@ -1,5 +1,4 @@
-use Rattle.cert_words.proofs.Lemmas.{judged_word, front_at, second}
-use Rattle.cert_words.proofs.Prelude.{[], ◌∷◌, ◌∙◌, map, ap, ap₂, Lead, plain}
+use Rattle.cert_words.proofs.Lemmas.{judged_word, front_at, second, [], ◌∷◌, ◌∙◌, map, ap, ap₂, Lead, plain}
 use Rattle.cert_words.proofs.choices.one_of.Goals as goal
 
 pub returns-in_default-clause-other : goal.returns-in_default-clause-other

@@ -1,5 +1,4 @@
-use Rattle.cert_words.proofs.Lemmas.{bad_bar, bad_name, front_at, name_found, name_read, named, second, variable_read}
-use Rattle.cert_words.proofs.Prelude.{refl, ap, map, plain}
+use Rattle.cert_words.proofs.Lemmas.{bad_bar, bad_name, front_at, name_found, name_read, named, second, variable_read, refl, ap, map, plain}
 use Rattle.cert_words.proofs.nodes.next_node.Goals as goal
 
 pub returns-in_default-clause-read : goal.returns-in_default-clause-read

@@ -1,5 +1,4 @@
-use Rattle.cert_words.proofs.Lemmas.{below, check_why, front_at, judged_word, text_run}
-use Rattle.cert_words.proofs.Prelude.{refl, ap, map, arith, name_of, plain}
+use Rattle.cert_words.proofs.Lemmas.{below, check_why, front_at, judged_word, text_run, refl, ap, map, arith, name_of, plain}
 use Rattle.cert_words.proofs.nodes.opened_or.Goals as goal
 
 pub returns-in_default-clause-close : goal.returns-in_default-clause-close

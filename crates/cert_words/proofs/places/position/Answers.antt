@@ -1,5 +1,4 @@
-use Rattle.cert_words.proofs.Lemmas.{alone_read, judged_word, only, position_run, refused_word, one_stop, spelt_place}
-use Rattle.cert_words.proofs.Prelude.{refl, ap, map, plain}
+use Rattle.cert_words.proofs.Lemmas.{alone_read, judged_word, only, position_run, refused_word, one_stop, spelt_place, refl, ap, map, plain}
 use Rattle.cert_words.proofs.places.position.Goals as goal
 
 pub places_of-requires-clause-spelt : goal.places_of-requires-clause-spelt

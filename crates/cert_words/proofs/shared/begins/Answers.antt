@@ -1,5 +1,4 @@
-use Rattle.cert_words.proofs.Lemmas.{begins_keeps, keyword_keeps}
-use Rattle.cert_words.proofs.Prelude.{refl}
+use Rattle.cert_words.proofs.Lemmas.{begins_keeps, keyword_keeps, refl}
 use Rattle.cert_words.proofs.shared.begins.Goals as goal
 
 pub returns-clause-read : goal.returns-clause-read

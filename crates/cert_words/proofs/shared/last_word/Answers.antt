@@ -1,5 +1,4 @@
-use Rattle.cert_words.proofs.Lemmas.{unused_why}
-use Rattle.cert_words.proofs.Prelude.{refl}
+use Rattle.cert_words.proofs.Lemmas.{unused_why, refl}
 use Rattle.cert_words.proofs.shared.last_word.Goals as goal
 
 pub returns : goal.returns

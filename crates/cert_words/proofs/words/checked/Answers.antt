@@ -1,5 +1,4 @@
-use Rattle.cert_words.proofs.Lemmas.{check_why}
-use Rattle.cert_words.proofs.Prelude.{refl, name_of}
+use Rattle.cert_words.proofs.Lemmas.{check_why, refl, name_of}
 use Rattle.cert_words.proofs.words.checked.Goals as goal
 
 pub returns : goal.returns

@@ -1,5 +1,4 @@
-use Rattle.cert_words.proofs.Lemmas.{as_counted}
-use Rattle.cert_words.proofs.Prelude.{sym, counted_view}
+use Rattle.cert_words.proofs.Lemmas.{as_counted, sym, counted_view}
 use Rattle.cert_words.proofs.words.counted.Goals as goal
 
 pub returns-clause-read : goal.returns-clause-read

@@ -1,5 +1,4 @@
-use Rattle.cert_words.proofs.Lemmas.{as_counted, keyword_why, unused_why, word_text}
-use Rattle.cert_words.proofs.Prelude.{◌≡◌, true, false, Bool, refl, sym, counted_view}
+use Rattle.cert_words.proofs.Lemmas.{as_counted, keyword_why, unused_why, word_text, ◌≡◌, true, false, Bool, refl, sym, counted_view}
 use Rattle.cert_words.proofs.words.counted_or.Goals as goal
 
 pub returns-clause-word : goal.returns-clause-word

@@ -1,5 +1,4 @@
-use Rattle.cert_words.proofs.Lemmas.{refused_word, one_stop, only, out_of_range}
-use Rattle.cert_words.proofs.Prelude.{Some, bad_number, refl, ap, map, value, plain, Reading}
+use Rattle.cert_words.proofs.Lemmas.{refused_word, one_stop, only, out_of_range, Some, bad_number, refl, ap, map, value, plain, Reading}
 use Rattle.cert_words.proofs.words.digits.Goals as goal
 
 pub returns-in_default : goal.returns-in_default

@@ -1,5 +1,4 @@
-use Rattle.cert_words.proofs.Lemmas.{text_run}
-use Rattle.cert_words.proofs.Prelude.{refl}
+use Rattle.cert_words.proofs.Lemmas.{text_run, refl}
 use Rattle.cert_words.proofs.words.either.Goals as goal
 
 pub returns-clause-one : goal.returns-clause-one

@@ -1,5 +1,4 @@
-use Rattle.cert_words.proofs.Lemmas.{bad_name, name_read, named, only}
-use Rattle.cert_words.proofs.Prelude.{refl, ap, map, plain}
+use Rattle.cert_words.proofs.Lemmas.{bad_name, name_read, named, only, refl, ap, map, plain}
 use Rattle.cert_words.proofs.words.name.Goals as goal
 
 pub returns-in_default : goal.returns-in_default

@@ -1,5 +1,4 @@
-use Rattle.cert_words.proofs.Lemmas.{bad_name, front_at, judged_word, name_found, name_read, named, second, text_run}
-use Rattle.cert_words.proofs.Prelude.{refl, ap, map, plain}
+use Rattle.cert_words.proofs.Lemmas.{bad_name, front_at, judged_word, name_found, name_read, named, second, text_run, refl, ap, map, plain}
 use Rattle.cert_words.proofs.words.name_or.Goals as goal
 
 pub returns-in_default-clause-other : goal.returns-in_default-clause-other

@@ -1,5 +1,4 @@
-use Rattle.cert_words.proofs.Lemmas.{keyword_why}
-use Rattle.cert_words.proofs.Prelude.{refl}
+use Rattle.cert_words.proofs.Lemmas.{keyword_why, refl}
 use Rattle.cert_words.proofs.words.nested.Goals as goal
 
 pub returns-clause-read : goal.returns-clause-read

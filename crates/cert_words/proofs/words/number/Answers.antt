@@ -1,5 +1,4 @@
-use Rattle.cert_words.proofs.Lemmas.{numeral_read}
-use Rattle.cert_words.proofs.Prelude.{refl}
+use Rattle.cert_words.proofs.Lemmas.{numeral_read, refl}
 use Rattle.cert_words.proofs.words.number.Goals as goal
 
 pub returns-in_default-clause-read : goal.returns-in_default-clause-read

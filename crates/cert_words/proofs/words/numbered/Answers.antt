@@ -1,5 +1,4 @@
-use Rattle.cert_words.proofs.Lemmas.{as_counted, numeral_read}
-use Rattle.cert_words.proofs.Prelude.{refl, sym, counted_view}
+use Rattle.cert_words.proofs.Lemmas.{as_counted, numeral_read, refl, sym, counted_view}
 use Rattle.cert_words.proofs.words.numbered.Goals as goal
 
 pub returns-in_default-clause-read : goal.returns-in_default-clause-read

@@ -1,5 +1,4 @@
-use Rattle.cert_words.proofs.Lemmas.{check_why, text_run}
-use Rattle.cert_words.proofs.Prelude.{refl, name_of}
+use Rattle.cert_words.proofs.Lemmas.{check_why, text_run, refl, name_of}
 use Rattle.cert_words.proofs.words.opened.Goals as goal
 
 pub returns-clause-opened : goal.returns-clause-opened
