@@ -1,10 +1,9 @@
 -- Which of some leads is there, and what is read with it.
 use Rattle.std.proofs.lemmas.List.{length-map}
-use Rattle.std.specs.Prelude.{IfSome}
-use Rattle.cert_words.proofs.Prelude.{◌≡◌, ◌<◌, ◌≤◌, ◌+◌, ◌-◌, ℕ, zero, suc, Bool, true, false, List, [], ◌∷◌, length, map, get_or, max, Option, Some, None, MatchOption, is_some, refl, sym, ap, ap₂}
+use Rattle.cert_words.proofs.Prelude.{◌≡◌, ◌<◌, ◌≤◌, ◌+◌, ◌-◌, ℕ, zero, suc, true, false, List, [], ◌∷◌, length, map, get_or, max, Option, Some, None, MatchOption, refl, sym, ap, ap₂}
 use Rattle.cert_words.proofs.Prelude.{◌∙◌, subst, arith, NameTable, Naming, Mark, fixed, scan, syntax, mode_of, text, Item, Lead, leads, is_there, first_there, longest, CertError, Reading, told, Run}
 use Rattle.cert_words.proofs.Prelude.{IsStuckAt, bare, IsLeadRead, Reads, Choice, lead_of, bare_of, Chosen, Missed, IsFirst, WordReads, IsMissed, Finds, IsJudged, Found}
-use Rattle.cert_words.proofs.Walking.{front_same, went, stopped, stays, stuck_stops, not_both}
+use Rattle.cert_words.proofs.Walking.{front_same, went, stopped, stuck_stops}
 use Rattle.cert_words.proofs.Stepping.{same_there, front_of, stuck_among, one_stop, is_told, name_run, number_run, in_range_then, keyword_keeps, still_keeps, check_run, variable_run, bar_read, spelling_of}
 use Rattle.cert_words.proofs.Sharings.{end_keeps, end_stop}
 use Rattle.cert_words.proofs.Prelude.{Demand, verdict, demands_of, mark_of, CertificateCause, name_lead, symbol, name_of, number_of, IsStill, numeral_lead, in_range, word, numeral, value, unknown_name}

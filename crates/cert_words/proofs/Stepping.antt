@@ -1,12 +1,12 @@
 -- One word, which is let through or refused.
 use Rattle.std.specs.Option.{option_and_then}
 use Rattle.cert_words.proofs.Prelude.{◌≡◌, ◌≤◌, ◌<◌, ◌+◌, ◌-◌, nat_le, nat_lt, ℕ, suc, Bool, true, false, ◌&&◌, List, [], ◌∷◌, ◌++◌, length, take, drop, codes, Option, Some, None, is_some}
-use Rattle.cert_words.proofs.Prelude.{unwrap_or, Bor, refl, sym, ap, ◌∙◌, subst, arith, length-drop, lt-leb, le-leb, lt-ltb, le-ltb, and_parts, drop-append_seam, NameTable, number_of}
-use Rattle.cert_words.proofs.Prelude.{arity_at, largest, name_of, IsIdentifier, is_number, Counted, limit, counted_as, CertificateCause, syntax, unknown_name, wrong_arity, bad_number}
-use Rattle.cert_words.proofs.Prelude.{too_many, too_deep, has_arity, in_range, is_few, is_shallow, Naming, Demand, meets, Mark, fixed, word, symbol, behind, demands_of, verdict, are_places}
-use Rattle.cert_words.proofs.Prelude.{places_text, position, scan, is_word, value, places, Item, Lead, text, check, keyword, numeral_lead, position_lead, variable_lead, name_lead, is_short}
+use Rattle.cert_words.proofs.Prelude.{unwrap_or, Bor, refl, sym, ap, ◌∙◌, subst, arith, length-drop, lt-leb, le-leb, lt-ltb, and_parts, drop-append_seam, NameTable, number_of}
+use Rattle.cert_words.proofs.Prelude.{arity_at, largest, name_of, IsIdentifier, is_number, Counted, limit, counted_as, CertificateCause, syntax, bad_number}
+use Rattle.cert_words.proofs.Prelude.{too_many, has_arity, in_range, is_few, Naming, Demand, meets, Mark, fixed, word, symbol, behind, demands_of, verdict, are_places}
+use Rattle.cert_words.proofs.Prelude.{places_text, position, scan, is_word, value, places, Item, Lead, text, check, keyword, numeral_lead, position_lead, variable_lead, name_lead}
 use Rattle.cert_words.proofs.Prelude.{leads, is_there, taken, mark_of, items_of, longest, first_there, Left, Step, goes_on, behind_lead, judged, step, step_lead, Shared, share_verdict}
-use Rattle.cert_words.proofs.Prelude.{behind_mark, ends, next_lead, shared_judged, behind_lead_shared, after_step, mode_of, ends_lead, refuses, at_once, numeral, with_begun, IsStill}
+use Rattle.cert_words.proofs.Prelude.{behind_mark, ends, next_lead, shared_judged, behind_lead_shared, after_step, mode_of, ends_lead, refuses, numeral, with_begun, IsStill}
 use Rattle.cert_words.proofs.Prelude.{still_marks, still_pass, places_still, found_there, text_is, first_sound, CertError, Reading, IsLeadRead, told, IsTold, counted_view, left_at, Walks}
 use Rattle.cert_words.proofs.Prelude.{tagged, AreFound, Keeps, Run, RefusesAt, IsStuckAt, Reads}
 use Rattle.cert_grammar.proofs.Names.{found_is_named}
@@ -15,7 +15,6 @@ use Rattle.cert_grammar.proofs.ScanWords.{number_is, place_is, bar_is, name_is}
 use Rattle.cert_words.proofs.Walking.{front_same, went, stopped, stuck_stops}
 use Rattle.cert_words.specs.Nodes.{IsBarNumber}
 pub use Rattle.cert_words.specs.Choices.{Front, plain}
-use Rattle.cert_words.specs.declared.error.CertError.TheVariants.{BadNumber, UnknownName, WrongArity}
 use Rattle.cert_grammar.specs.FirstRefusal as machine
 use Rattle.cert_words.specs.declared.error.CertCount as counts
 use Rattle.cert_words.specs.declared.error.CertCount.TheVariants as counting
@@ -151,11 +150,9 @@ module _ {names : NameTable} {end : ℕ} {bytes v rest : List ℕ} {s : Shared} 
 
   pub number_keeps : {t : Shared} {ds : ℕ → List Demand} {new : ℕ → List Item} {n : ℕ} → Front bytes i (numeral_lead ds new) v rest → n ≡ value v
       → verdict names (end - length bytes) (ds (value v)) ≡ None → Keeps s (word (numeral n) (ds n) ∷ []) t → Run names end (i ∷ []) (λ u. word (numeral n) (ds n) ∷ []) (new n) bytes rest s t
-  number_keeps {t} {ds} {new} {n} f e met keeps =
-      let spelt = number_is v (spelling_of f f.word) in
-      subst (λ (k : ℕ). Run names end (i ∷ []) (λ u. word (numeral k) (ds k) ∷ []) (new k) bytes rest s t) (sym e)
-      (one_step names end f s t (λ u. word (numeral (value v)) (ds (value v)) ∷ []) met
-      (subst (λ (w : List ℕ). Keeps s (word w (ds (value v)) ∷ []) t) (sym spelt) (subst (λ (k : ℕ). Keeps s (word (numeral k) (ds k) ∷ []) t) e keeps))
+  number_keeps {t} {ds} f e met keeps =
+      let spelt : v ≡ numeral (value v) = number_is v (spelling_of f f.word) in
+      rw e (one_step names end f s t (λ u. word (numeral (value v)) (ds (value v)) ∷ []) met (subst (λ (w : List ℕ). Keeps s (word w (ds (value v)) ∷ []) t) (sym spelt) (rw e at keeps))
       (ap (λ (w : List ℕ). word w (ds (value v)) ∷ []) (sym spelt)) tt)
 
   pub number_run : {ds : ℕ → List Demand} {new : ℕ → List Item} {n : ℕ} → Front bytes i (numeral_lead ds new) v rest → n ≡ value v
@@ -176,25 +173,22 @@ module _ {names : NameTable} {end : ℕ} {bytes v rest : List ℕ} {s : Shared} 
 
   pub name_run : {ds : List Demand} {new : List ℕ → List Item} {g : ℕ} → Front bytes i (name_lead ds new) v rest → number_of names.symbols v ≡ Some g
       → verdict names (end - length bytes) ds ≡ None → IsStill ds → Run names end (i ∷ []) (λ u. symbol (u g) ds ∷ []) (new (name_of names g)) bytes rest s s
-  name_run {ds} {new} {g} f e met still =
+  name_run {ds} {g = g} f e met still =
       let same : name_of names g ≡ v = ap (λ o. unwrap_or o []) (found_is_named names v g e) in
-      subst (λ (k : List ℕ). Run names end (i ∷ []) (λ u. symbol (u g) ds ∷ []) (new k) bytes rest s s) (sym same)
-      (one_step names end f s s (λ u. symbol (u g) ds ∷ []) (rw e met) (still_keeps (symbol v ds) s still) (ap (λ (k : List ℕ). symbol k ds ∷ []) same) (name_found names v g e, tt))
+      rw same (one_step names end f s s (λ u. symbol (u g) ds ∷ []) (rw e met) (still_keeps (symbol v ds) s still) (rw same refl) (name_found names v g e, tt))
 
   pub variable_run : {ds : List Demand} {new : List Item} {x : ℕ} → Front bytes i (variable_lead ds new) v rest → IsBarNumber v (Some x) → verdict names (end - length bytes) ds ≡ None
       → IsStill ds → Run names end (i ∷ []) (λ u. word (codes "|" ++ numeral x) (in_range 1 0 (suc largest) x ∷ ds) ∷ []) new bytes rest s s
-  variable_run {ds} {new} {x} f e met still =
+  variable_run {ds} {x = x} f e met still =
       let read = bar_read v x e in
       let spelt = bar_is v (spelling_of f f.word) in
-      subst (λ (k : ℕ). Run names end (i ∷ []) (λ u. word (codes "|" ++ numeral k) (in_range 1 0 (suc largest) k ∷ ds) ∷ []) new bytes rest s s) (sym read.0)
-      (one_step names end f s s (λ u. word (codes "|" ++ numeral (value (drop 1 v))) (in_range 1 0 (suc largest) (value (drop 1 v)) ∷ ds) ∷ []) (rw read.1 met)
+      rw read.0 (one_step names end f s s (λ u. word (codes "|" ++ numeral (value (drop 1 v))) (in_range 1 0 (suc largest) (value (drop 1 v)) ∷ ds) ∷ []) (rw read.1 met)
       (still_keeps (word v (in_range 1 0 (suc largest) (value (drop 1 v)) ∷ ds)) s still) (ap (λ (w : List ℕ). word w (in_range 1 0 (suc largest) (value (drop 1 v)) ∷ ds) ∷ []) (sym spelt)) tt)
 
   pub position_run : {new : List Item} {p : List ℕ} → Front bytes i (position_lead new) v rest → p ≡ places v → verdict names (end - length bytes) (are_places 0 (places v)) ≡ None
       → Run names end (i ∷ []) (λ u. position p ∷ []) new bytes rest s s
-  position_run {new} f e met =
-      subst (λ (q : List ℕ). Run names end (i ∷ []) (λ u. position q ∷ []) new bytes rest s s) (sym e)
-      (one_step names end f s s (λ u. position (places v) ∷ []) met (still_keeps (word v (are_places 0 (places v))) s (places_still (places v) 0))
+  position_run f e met =
+      rw e (one_step names end f s s (λ u. position (places v) ∷ []) met (still_keeps (word v (are_places 0 (places v))) s (places_still (places v) 0))
       (ap (λ (w : List ℕ). word w (are_places 0 (places v)) ∷ []) (sym (place_is v (spelling_of f f.word)))) tt)
 
 pub is_told : (v t : Option (CertificateCause × ℕ)) → v ≡ t → IsTold v t

@@ -11,11 +11,9 @@ pub walks_then : (names : NameTable) (ms ns : List Mark) (l k j : Left) → Walk
 walks_then names [] ns l k j w v = subst (λ (x : Left). Walks names ns x j) (sym w) v
 walks_then names (m ∷ ms) ns l k j w v = (w.0, w.1, walks_then names ms ns w.0 k j w.2 v)
 
-same_left : (l k : Left) → goes_on l ≡ goes_on k → l ≡ k
-same_left l k e = cc
-
-judged_on : (v : Option (CertificateCause × ℕ)) (l k : Left) → judged v l ≡ goes_on k → l ≡ k
-judged_on None l k e = same_left l k e
+-- what is met where it goes on, and where
+pub judged_on : (v : Option (CertificateCause × ℕ)) (l k : Left) → judged v l ≡ goes_on k → (v ≡ None) × (l ≡ k)
+judged_on None l k e = (refl, cc)
 judged_on (Some x) l k e = absurd cc
 
 -- a step behind which nothing is refused on shared automata
@@ -29,8 +27,7 @@ step_on names l k m z s v =
 -- where a step goes
 pub goes_where : (names : NameTable) (l k : Left) (m : Mark) → (s : StepsOver names l m k) → k ≡ behind_lead l s.lead s.others
 goes_where names l k m s =
-    sym (judged_on _ (behind_lead l s.lead s.others) k
-    (sym (ap (λ (x : Option Lead). step_lead names l x s.item s.others) s.first) ∙ sym (ap (λ (x : List Item). step_items names l x) s.items) ∙ s.goes))
+    sym (judged_on _ (behind_lead l s.lead s.others) k (sym (ap (λ (x : Option Lead). step_lead names l x s.item s.others) s.first) ∙ sym (ap (λ (x : List Item). step_items names l x) s.items) ∙ s.goes)).1
 
 pub walks_shorter : (names : NameTable) (ms : List Mark) (l k : Left) → Walks names ms l k → length k.bytes ≤ length l.bytes
 walks_shorter names [] l k w = let e : length k.bytes ≡ length l.bytes = ap (λ (x : Left). length x.bytes) (sym w) in omega (arith, e)

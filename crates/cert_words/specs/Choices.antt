@@ -1,7 +1,7 @@
 -- Which of some leads is there, and what is read with it.
-use Rattle.std.specs.Prelude.{◌≡◌, ◌≤◌, ◌-◌, ℕ, zero, suc, List, [], ◌∷◌, length, take, drop, map, Option, Some, None, IfSome, MatchOption, false}
+use Rattle.std.specs.Prelude.{◌≡◌, ◌≤◌, ◌-◌, ℕ, zero, suc, List, [], ◌∷◌, length, take, drop, Option, Some, None, IfSome, MatchOption, false}
 use Rattle.cops_names.specs.NameTable.{NameTable}
-use Rattle.cert_grammar.specs.Prelude.{name_of, fixed, Naming, Mark, Item, Lead, leads, text, check, at_once, keyword, numeral_lead, position_lead, variable_lead, name_lead, is_short, is_there}
+use Rattle.cert_grammar.specs.Prelude.{fixed, Naming, Mark, Item, Lead, leads, text, check, at_once, keyword, numeral_lead, position_lead, variable_lead, name_lead, is_short, is_there}
 use Rattle.cert_grammar.specs.Prelude.{taken, first_there, Demand, verdict, in_range}
 use Rattle.cert_words.specs.declared.error.CertError.{CertError}
 use Rattle.cert_words.specs.declared.choices.Found.{Found}

@@ -72,7 +72,7 @@ pub fn next_node(names: &Names, end: usize, at: &mut Reading, depth: usize, n: u
         return Node::Variable(0);
     };
     if found.which == 0 {
-        let Some((_, f)) = symbol(names, found.word) else {
+        let Some(f) = symbol(names, found.word) else {
             at.refused = Some(CertError::UnknownName { at: found.here });
             return Node::Variable(0);
         };

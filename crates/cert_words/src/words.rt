@@ -187,7 +187,7 @@ pub fn name_or(names: &Names, end: usize, at: &mut Reading, bytes: &'static [u8]
         judged(at, found, None);
         return None;
     }
-    let Some((_, f)) = symbol(names, found.word) else {
+    let Some(f) = symbol(names, found.word) else {
         at.refused = Some(CertError::UnknownName { at: found.here });
         return None;
     };
@@ -202,7 +202,7 @@ pub fn name(names: &Names, end: usize, at: &mut Reading) -> u32
     let Some(found) = first(end, at, &[Lead::Name]) else {
         return 0;
     };
-    let Some((_, f)) = symbol(names, found.word) else {
+    let Some(f) = symbol(names, found.word) else {
         at.refused = Some(CertError::UnknownName { at: found.here });
         return 0;
     };

@@ -1,5 +1,5 @@
 use Rattle.cert_words.proofs.Lemmas.{judged_word, text_run, front_at, below, chosen_at, past_last, plain_choices, same_number}
-use Rattle.cert_words.proofs.Prelude.{◌∙◌, List, [], length, map, refl, sym, ap, subst, arith, Lead, Front, plain, bare}
+use Rattle.cert_words.proofs.Prelude.{◌∙◌, [], length, map, refl, sym, ap, subst, arith, Lead, Front, plain, bare}
 use Rattle.std.proofs.lemmas.List.{length-map}
 use Rattle.cert_words.proofs.choices.choose.Goals as goal
 

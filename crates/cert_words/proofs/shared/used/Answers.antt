@@ -1,4 +1,4 @@
-use Rattle.cert_words.proofs.Lemmas.{use_run, use_bad, use_heavy, refused_word, only, Some, ap, refl, Shared, bad_share, too_many, unfolded}
+use Rattle.cert_words.proofs.Lemmas.{use_run, use_bad, use_heavy, only, Some, ap, refl, Shared, bad_share, too_many, unfolded}
 use Rattle.cert_words.proofs.Walking.{front_same, went, stopped, stuck_stops}
 use Rattle.cert_words.specs.declared.error.CertError.TheVariants.{BadShare, TooMany}
 use Rattle.cert_words.specs.declared.error.CertCount.TheVariants.{Unfolded}

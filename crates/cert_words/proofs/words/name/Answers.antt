@@ -10,4 +10,4 @@ returns-in_default-symbol c = λ i new e.
     (bad_name c.in-Some.ensures f (c.in_default-symbol.ensures (named f))).read
 
 pub returns : goal.returns
-returns c = λ i new e. (name_read c.in-Some.ensures c.judged.ensures (only e refl c.in-Some.ensures) c.in-Some-symbol.ensures.1 refl tt).read
+returns c = λ i new e. (name_read c.in-Some.ensures c.judged.ensures (only e refl c.in-Some.ensures) c.in-Some-symbol.ensures refl tt).read

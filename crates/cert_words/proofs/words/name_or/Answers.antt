@@ -14,7 +14,7 @@ returns-in_default-symbol-clause-other c = λ i new other e.
 
 pub returns-clause-name : goal.returns-clause-name
 returns-clause-name c = λ i new other e.
-    (name_read c.in-Some.ensures c.judged-2.ensures (front_at 0 e refl c.in-Some.ensures c.if-found-ne0.false) c.in-Some-symbol.ensures.1 refl tt).read
+    (name_read c.in-Some.ensures c.judged-2.ensures (front_at 0 e refl c.in-Some.ensures c.if-found-ne0.false) c.in-Some-symbol.ensures refl tt).read
 
 pub returns-clause-found : goal.returns-clause-found
-returns-clause-found c = name_found c.args.names.now _ _ c.in-Some-symbol.ensures.1
+returns-clause-found c = name_found c.args.names.now _ _ c.in-Some-symbol.ensures
