@@ -4,7 +4,7 @@ use Rattle.cert_reading.proofs.Prelude.{◌≡◌, inl, inr, ◌+◌, ◌-◌, �
 use Rattle.cert_reading.proofs.Prelude.{CertificateCause, syntax, Naming, Mark, Item, Lead, keyword, leads, pair_or_end, pairs_from, space, between, any_number, Version, first_version}
 use Rattle.cert_reading.proofs.Prelude.{second_version, HasMeasure, is_few, entries, first_there, longest, Left, accepts, refuses, goes_on, step, step_lead, Shared, behind_marks, PassShares}
 use Rattle.cert_reading.proofs.Prelude.{after_step, shared_step, MeasureCertificate, linear_measure, precedence_measure, with_begun, BeginsEntry, Reading, left_at, Walks, Run, RefusesAt}
-use Rattle.cert_reading.proofs.Prelude.{goes_as, entries_of, behind_measure, SymbolAt, Place, Above, StopsWhere, IsStopped, IsStoppedWhere, ReadsWhere, told}
+use Rattle.cert_reading.proofs.Prelude.{reads_as, entries_of, behind_measure, SymbolAt, Place, Above, StopsWhere, IsStopped, IsStoppedWhere, ReadsWhere, told}
 use Rattle.cert_reading.proofs.Opening.{entry_at, head_at}
 
 zero_most : (x : ℕ) → max 0 (max 0 x) ≡ x
@@ -93,11 +93,8 @@ pub symbol_where : {P : Place} {names : NameTable} {end : ℕ} {f : Naming → L
     → ReadsWhere P names end (pairs_from v 1 ∷ []) f to s t → ReadsWhere P names end (i ∷ []) f to s t
 symbol_where {P} {names} {end} {f} {to} {s} {t} v n i low behind at h some p x =
     let same = λ (q : s.refused ≡ None). symbol_same v n i low behind at s.left.now (h q) in
-    record {
-      front = x.front;
-      on = goes_as _ _ (IsStopped P names end (pairs_from v 1 ∷ []) s.left.now s.shares) (IsStopped P names end (i ∷ []) s.left.now s.shares) s.refused t.refused
-          (λ q none. symbol_run names end v i s.left.now (same q) f to t.left.now s.shares t.shares some) (λ q e is h items. symbol_stopped names end v i s.left.now (same q) (Above P items) items s.shares (told e) (i, [], refl, p) (h items)) x.on;
-    }
+    reads_as (λ q none. symbol_run names end v i s.left.now (same q) f to t.left.now s.shares t.shares some)
+    (λ q e is h items. symbol_stopped names end v i s.left.now (same q) (Above P items) items s.shares (told e) (i, [], refl, p) (h items)) x
 
 -- and behind a measure
 pub measure_where : {P : Place} {names : NameTable} {end : ℕ} {f : Naming → List Mark} {to : List Item} {s t : Reading} (v : Version) (m : MeasureCertificate) → HasMeasure v m

@@ -43,7 +43,7 @@ pub use Rattle.cert_sharing.proofs.UseMarks.{measure_still, counts_steps}
 pub use Rattle.cert_words.proofs.NodeReads.{suc_is, node_leads, refused_node, any_frame, frames, frames_deep}
 pub use Rattle.cert_words.proofs.Stepping.{Front, keyword_run, one_stop, some_now, none_now, one, two, stuck_among, counted_there, counted_out, go, stop, arity_met, text_run}
 pub use Rattle.cert_words.proofs.Stepping.{three, front_of}
-pub use Rattle.cert_words.proofs.Walking.{then_reads, as_marks, then_nothing, as_reads, front_same, went, stopped, open_before, goes_as, already, walks_then, walks_shorter, stops_then}
+pub use Rattle.cert_words.proofs.Walking.{then_reads, as_marks, then_nothing, as_reads, front_same, went, stopped, open_before, reads_as, already, walks_then, walks_shorter, stops_then}
 pub use Rattle.cert_words.proofs.Walking.{stuck_stops, stuck_where, sealed_stops, other_stop, framed_where, run_then, as_run, front_then, read_run, framed}
 pub use Rattle.cert_words.proofs.Whole.{walks_pass, walks_text}
 pub use Rattle.cert_words.specs.Choices.{Choice, Chosen, lead_of}

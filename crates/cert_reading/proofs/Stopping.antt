@@ -1,7 +1,7 @@
 -- Parts one behind another, with the places where they are refused.
 use Rattle.cert_reading.proofs.Prelude.{inl, inr, codes, ◌≡◌, ◌≤◌, ℕ, suc, List, [], ◌∷◌, ◌++◌, Some, None, IfSome, refl, subst, arith, NameTable, name_of}
 use Rattle.cert_reading.proofs.Prelude.{Naming, Mark, Item, between, line, pairs_from, Version, Reading, told, IsStuckAt, Run}
-use Rattle.cert_reading.proofs.Prelude.{IsStuckBehind, IsStopped, Reads, goes_as, stuck_where, sealed_stops, other_stop, Above}
+use Rattle.cert_reading.proofs.Prelude.{IsStuckBehind, Reads, reads_as, stuck_where, sealed_stops, other_stop, Above}
 use Rattle.cert_reading.proofs.Prelude.{framed_where, open_before, read_run, Place, ReadsWhere, Anywhere, lowest, IsBehind, AreBehind, WithinOpening}
 use Rattle.cert_reading.proofs.Prelude.{WithinEntry, is_some, Bool, true, some_now, framed, then_reads, already}
 pub use Rattle.cert_words.proofs.Walking.{stop_behind, other_stop, stopped_where, then_reads as then_where, as_reads as as_where, as_marks as as_marks_where}
@@ -25,11 +25,8 @@ module _ {P : Place} {names : NameTable} {end : ℕ} {s t : Reading} where
   -- a word
   word_at : {i : Item} {to : List Item} {f : Naming → List Mark} → (s.refused ≡ None → (t.refused ≡ None → ⊥) → P (i ∷ []) s.left.now)
       → (s.refused ≡ None → IfSome t.refused (λ e. IsStuckAt names end i s.left.now s.shares (told e))) → Reads names end (i ∷ []) f to s t → ReadsWhere P names end (i ∷ []) f to s t
-  word_at {i} p h x = record {
-    front = x.front;
-    on = goes_as _ _ (IsStopped Anywhere names end (i ∷ []) s.left.now s.shares) (IsStopped P names end (i ∷ []) s.left.now s.shares) s.refused t.refused (λ q none r. r)
-        (λ q e is r. stuck_where P names end i s.left.now s.shares (told e) (p q (λ none. let no = is in cc)) (rw is at (h q))) x.on;
-  }
+  word_at {i} p h x = reads_as (λ q none r. r)
+      (λ q e is r. stuck_where P names end i s.left.now s.shares (told e) (p q (λ none. let no = is in cc)) (rw is at (h q))) x
 
   pub word_where : {i : Item} {to : List Item} {f : Naming → List Mark} → ((t.refused ≡ None → ⊥) → P (i ∷ []) s.left.now)
       → (s.refused ≡ None → IfSome t.refused (λ e. IsStuckAt names end i s.left.now s.shares (told e))) → Reads names end (i ∷ []) f to s t → ReadsWhere P names end (i ∷ []) f to s t
@@ -44,11 +41,8 @@ module _ {P : Place} {names : NameTable} {end : ℕ} {s t : Reading} where
   pub sealed_where : {i : Item} {from to : List Item} {f g : Naming → List Mark} {a : Reading} → P (i ∷ []) s.left.now
       → s.refused ≡ None → IfSome t.refused (λ e. IsStuckBehind names end i (f (name_of names)) a.left.now s.left.now a.shares (told e)) → Reads names end from f (i ∷ []) a s
       → Reads names end from g to a t → ReadsWhere P names end from g to a t
-  sealed_where {i} {from} {f = f} {a = a} p none h x y = record {
-    front = y.front;
-    on = goes_as _ _ (IsStopped Anywhere names end from a.left.now a.shares) (IsStopped P names end from a.left.now a.shares) a.refused t.refused (λ q none r. r)
-        (λ q e is r. sealed_stops P names end from i f a.left.now s.left.now a.shares s.shares (told e) p (read_run none x) (rw is at h)) y.on;
-  }
+  sealed_where {i} {from} {f = f} {a = a} p none h x y = reads_as (λ q none r. r)
+      (λ q e is r. sealed_stops P names end from i f a.left.now s.left.now a.shares s.shares (told e) p (read_run none x) (rw is at h)) y
 
   -- a part with an item below it
   pub low_where : {from to : List Item} {f : Naming → List Mark} (low : Item) → ((i : Item) (m : List Item) (q : List ℕ) → P (i ∷ (m ++ low ∷ [])) q) → Reads names end from f to s t
@@ -58,11 +52,8 @@ module _ {P : Place} {names : NameTable} {end : ℕ} {s t : Reading} where
   -- at a place of which less is said
   pub elsewhere : {Q : Place} {from to : List Item} {f : Naming → List Mark} → ((items : List Item) (q : List ℕ) → P items q → Q items q) → ReadsWhere P names end from f to s t
       → ReadsWhere Q names end from f to s t
-  elsewhere {Q} {from} g x = record {
-    front = x.front;
-    on = goes_as _ _ (IsStopped P names end from s.left.now s.shares) (IsStopped Q names end from s.left.now s.shares) s.refused t.refused (λ q none r. r)
-        (λ q e is r items. other_stop (Above P items) (Above Q items) (λ is b k. (k.0, k.1, k.2, g (k.0 ∷ k.1) b k.3)) names end (from ++ items) s.left.now s.shares (told e) (r items)) x.on;
-  }
+  elsewhere {Q} {from} g x = reads_as (λ q none r. r)
+      (λ q e is r items. other_stop (Above P items) (Above Q items) (λ is b k. (k.0, k.1, k.2, g (k.0 ∷ k.1) b k.3)) names end (from ++ items) s.left.now s.shares (told e) (r items)) x
 
   pub anywhere : {from to : List Item} {f : Naming → List Mark} → ReadsWhere P names end from f to s t → ReadsWhere Anywhere names end from f to s t
   anywhere x = elsewhere (λ items q h. tt) x

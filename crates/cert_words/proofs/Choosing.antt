@@ -4,7 +4,7 @@ use Rattle.cert_words.proofs.Prelude.{◌≡◌, ◌<◌, ◌≤◌, ◌+◌, �
 use Rattle.cert_words.proofs.Prelude.{◌∙◌, subst, arith, NameTable, Naming, Mark, fixed, scan, syntax, mode_of, text, Item, Lead, leads, is_there, first_there, longest, CertError, Reading, told, Run}
 use Rattle.cert_words.proofs.Prelude.{IsStuckAt, bare, IsLeadRead, Reads, Choice, lead_of, bare_of, Chosen, Missed, IsFirst, WordReads, IsMissed, Finds, IsJudged, Found}
 use Rattle.cert_words.proofs.Walking.{front_same, went, stopped, stuck_stops}
-use Rattle.cert_words.proofs.Stepping.{same_there, front_of, stuck_among, one_stop, is_told, name_run, number_run, in_range_then, keyword_keeps, still_keeps, check_run, variable_run, bar_read, spelling_of}
+use Rattle.cert_words.proofs.Stepping.{same_plain, front_of, stuck_among, one_stop, is_told, name_run, number_run, in_range_then, keyword_keeps, still_keeps, check_run, variable_run, bar_read, spelling_of}
 use Rattle.cert_words.proofs.Sharings.{end_keeps, end_stop}
 use Rattle.cert_words.proofs.Prelude.{Demand, verdict, demands_of, mark_of, CertificateCause, name_lead, symbol, name_of, number_of, IsStill, numeral_lead, in_range, word, numeral, value, unknown_name}
 use Rattle.cert_words.proofs.Prelude.{keyword, check, has_arity, behind, holds, all_used, shares, bad_share, IsVerdict, IsWhy, IsWithin, Front, plain}
@@ -18,15 +18,11 @@ use Rattle.cert_words.specs.declared.leads.Lead as code
 none_of : (bytes : List ℕ) (ks : List Lead) (k : ℕ) → length ks ≤ k → Missed bytes k (map plain ks) → first_there ks bytes ≡ None
 none_of bytes [] k h m = refl
 none_of bytes (a ∷ ks) zero h m = absurd (omega (arith, h))
-none_of bytes (a ∷ ks) (suc k) h m = rw (sym (same_there a bytes) ∙ m.0) (none_of bytes ks k (omega (arith, h)) m.1)
-
-same_size : (a : Lead) (bytes : List ℕ) → (scan (mode_of a) bytes).size ≡ (scan (mode_of (plain a)) bytes).size
-same_size (text w new) bytes = refl
-same_size _ bytes = refl
+none_of bytes (a ∷ ks) (suc k) h m = rw (sym (same_plain a bytes).there ∙ m.0) (none_of bytes ks k (omega (arith, h)) m.1)
 
 same_longest : (bytes : List ℕ) (ks : List Lead) → longest ks bytes ≡ longest (map plain ks) bytes
 same_longest bytes [] = refl
-same_longest bytes (a ∷ ks) = ap₂ max (same_size a bytes) (same_longest bytes ks)
+same_longest bytes (a ∷ ks) = ap₂ max (sym (same_plain a bytes).size) (same_longest bytes ks)
 
 module _ {end : ℕ} {s : Reading} where
   pub not_there : {e : CertError} (ls : List code.Lead) → s.refused ≡ None → Missed s.left.now (length ls) (map bare ls)
@@ -48,8 +44,8 @@ module _ {end : ℕ} {s : Reading} where
 first_at : (bytes w rest : List ℕ) (ks : List Lead) (k : ℕ) (d : Lead) → IsFirst bytes (map plain ks) k w rest
     → (first_there ks bytes ≡ Some (get_or ks k d)) × IsLeadRead (plain (get_or ks k d)) bytes w rest
 first_at bytes w rest [] k d h = absurd h
-first_at bytes w rest (a ∷ ks) zero d h = (rw (sym (same_there a bytes) ∙ h.there) refl, h)
-first_at bytes w rest (a ∷ ks) (suc k) d h = let r = first_at bytes w rest ks k d h.1 in (rw (sym (same_there a bytes) ∙ h.0) r.0, r.1)
+first_at bytes w rest (a ∷ ks) zero d h = (rw (sym (same_plain a bytes).there ∙ h.there) refl, h)
+first_at bytes w rest (a ∷ ks) (suc k) d h = let r = first_at bytes w rest ks k d h.1 in (rw (sym (same_plain a bytes).there ∙ h.0) r.0, r.1)
 
 pub which_below : (bytes w rest : List ℕ) (ls : List Lead) (k : ℕ) → IsFirst bytes ls k w rest → k < length ls
 which_below bytes w rest [] k h = absurd h

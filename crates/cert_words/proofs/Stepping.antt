@@ -105,29 +105,31 @@ pub some_now : {A : Type 0} {r : Option A} {t : Bool} → t ≡ is_some r → t 
 some_now {r = None} e f = absurd cc
 some_now {r = Some x} e f = (x, refl)
 
-pub same_there : (a : Lead) (bytes : List ℕ) → is_there (plain a) bytes ≡ is_there a bytes
-same_there (text w new) bytes = refl
-same_there _ bytes = refl
+-- it is there as the lead is, and as long
+pub record SamePlain (a : Lead) (bytes : List ℕ) : Type 0 where
+  pub there : is_there (plain a) bytes ≡ is_there a bytes
+  pub taken : taken (plain a) bytes ≡ taken a bytes
+  pub size : (scan (mode_of (plain a)) bytes).size ≡ (scan (mode_of a) bytes).size
 
-same_taken : (a : Lead) (bytes : List ℕ) → taken (plain a) bytes ≡ taken a bytes
-same_taken (text w new) bytes = refl
-same_taken _ bytes = refl
+pub same_plain : (a : Lead) (bytes : List ℕ) → SamePlain a bytes
+same_plain (text w new) bytes = record { there = refl; taken = refl; size = refl }
+same_plain _ bytes = record { there = refl; taken = refl; size = refl }
 
 pub front_of : {bytes w rest : List ℕ} {i : Item} (a : Lead) → first_there (leads i) bytes ≡ Some a → IsLeadRead (plain a) bytes w rest → Front bytes i a w rest
 front_of {bytes} a e h =
-    let same = same_taken a bytes in
+    let same = (same_plain a bytes).taken in
     record { first = e; word = h.word ∙ ap (λ (n : ℕ). take n bytes) same; rest = h.rest ∙ ap (λ (n : ℕ). drop n bytes) same; within = omega (arith, same, h.within) }
 
 -- the first lead is there, or the second, or the third
 module _ {bytes w rest : List ℕ} {i : Item} where
   pub one : {a : Lead} {others : List Lead} → leads i ≡ a ∷ others → IsLeadRead (plain a) bytes w rest → Front bytes i a w rest
-  one {a} e h = front_of a (ap (λ (ls : List Lead). first_there ls bytes) e ∙ rw (sym (same_there a bytes) ∙ h.there) refl) h
+  one {a} e h = front_of a (ap (λ (ls : List Lead). first_there ls bytes) e ∙ rw (sym (same_plain a bytes).there ∙ h.there) refl) h
 
   pub two : {a b : Lead} {others : List Lead} → leads i ≡ a ∷ b ∷ others → is_there a bytes ≡ false → IsLeadRead (plain b) bytes w rest → Front bytes i b w rest
-  two {a} {b} e g h = front_of b (ap (λ (ls : List Lead). first_there ls bytes) e ∙ rw g (rw (sym (same_there b bytes) ∙ h.there) refl)) h
+  two {a} {b} e g h = front_of b (ap (λ (ls : List Lead). first_there ls bytes) e ∙ rw g (rw (sym (same_plain b bytes).there ∙ h.there) refl)) h
 
   pub three : {a b d : Lead} {others : List Lead} → leads i ≡ a ∷ b ∷ d ∷ others → is_there a bytes ≡ false → is_there b bytes ≡ false → IsLeadRead (plain d) bytes w rest → Front bytes i d w rest
-  three {a} {b} {d} e g k h = front_of d (ap (λ (ls : List Lead). first_there ls bytes) e ∙ rw g (rw k (rw (sym (same_there d bytes) ∙ h.there) refl))) h
+  three {a} {b} {d} e g k h = front_of d (ap (λ (ls : List Lead). first_there ls bytes) e ∙ rw g (rw k (rw (sym (same_plain d bytes).there ∙ h.there) refl))) h
 
 -- where no lead is there
 module _ (names : NameTable) (end : ℕ) (bytes : List ℕ) (s : Shared) (i : Item) where

@@ -203,26 +203,28 @@ module _ {P : Place} {names : NameTable} {end : ℕ} {from to : List Item} {f : 
         (λ o h k items. stop_behind (Above P items) names end from to f s.left.now t.left.now s.shares t.shares o items h (k items)) x.on y.on;
   }
 
+  -- the same of others
+  pub reads_as : {Q : Place} {front after : List Item} {g : Naming → List Mark} → (s.refused ≡ None → t.refused ≡ None → Run names end from f to s.left.now t.left.now s.shares t.shares
+      → Run names end front g after s.left.now t.left.now s.shares t.shares)
+      → (s.refused ≡ None → (e : CertError) → t.refused ≡ Some e → IsStopped P names end from s.left.now s.shares (told e) → IsStopped Q names end front s.left.now s.shares (told e))
+      → ReadsWhere P names end from f to s t → ReadsWhere Q names end front g after s t
+  reads_as {Q} {front} g h x = record {
+    front = x.front;
+    on = goes_as _ _ (IsStopped P names end from s.left.now s.shares) (IsStopped Q names end front s.left.now s.shares) s.refused t.refused g h x.on;
+  }
+
   -- items that stand behind all that is read
   pub framed_where : {Q : Place} (more : List Item) → ((i : Item) (m : List Item) (q : List ℕ) → P (i ∷ m) q → Q (i ∷ (m ++ more)) q) → ReadsWhere P names end from f to s t
       → ReadsWhere Q names end (from ++ more) f (to ++ more) s t
-  framed_where {Q} more g x = record {
-    front = x.front;
-    on = goes_as _ _ (IsStopped P names end from s.left.now s.shares) (IsStopped Q names end (from ++ more) s.left.now s.shares) s.refused t.refused
-        (λ q none. framed_run names end from to more f s.left.now t.left.now s.shares t.shares)
-        (λ q e is h items. subst (λ (is : List Item). IsStoppedWhere (Above Q items) names end is s.left.now s.shares (told e)) (sym (append_assoc from more items))
-        (other_stop (Above P (more ++ items)) (Above Q items) (λ is r k. (k.0, k.1 ++ more, k.2 ∙ ap (λ (y : List Item). k.0 ∷ y) (sym (append_assoc k.1 more items)), g k.0 k.1 r k.3))
-        names end (from ++ (more ++ items)) s.left.now s.shares (told e) (h (more ++ items)))) x.on;
-  }
+  framed_where {Q} more g x = reads_as (λ q none. framed_run names end from to more f s.left.now t.left.now s.shares t.shares)
+      (λ q e is h items. subst (λ (is : List Item). IsStoppedWhere (Above Q items) names end is s.left.now s.shares (told e)) (sym (append_assoc from more items))
+      (other_stop (Above P (more ++ items)) (Above Q items) (λ is r k. (k.0, k.1 ++ more, k.2 ∙ ap (λ (y : List Item). k.0 ∷ y) (sym (append_assoc k.1 more items)), g k.0 k.1 r k.3))
+      names end (from ++ (more ++ items)) s.left.now s.shares (told e) (h (more ++ items)))) x
 
   -- other marks and items, where they are the same if nothing is refused
   pub as_reads : {other : List Item} {g : Naming → List Mark} → ((t.refused ≡ None) → (to ≡ other) × ((u : Naming) → f u ≡ g u)) → ReadsWhere P names end from f to s t
       → ReadsWhere P names end from g other s t
-  as_reads {other} {g} e x = record {
-    front = x.front;
-    on = goes_as _ _ (IsStopped P names end from s.left.now s.shares) (IsStopped P names end from s.left.now s.shares) s.refused t.refused
-        (λ q none. as_run names end from to other f g s.left.now t.left.now s.shares t.shares (e none).0 (e none).1) (λ q o is h. h) x.on;
-  }
+  as_reads {other} {g} e x = reads_as (λ q none. as_run names end from to other f g s.left.now t.left.now s.shares t.shares (e none).0 (e none).1) (λ q o is h. h) x
 
   -- other marks
   pub as_marks : {g : Naming → List Mark} → ((t.refused ≡ None) → (u : Naming) → f u ≡ g u) → ReadsWhere P names end from f to s t → ReadsWhere P names end from g to s t
