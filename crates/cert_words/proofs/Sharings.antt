@@ -61,9 +61,6 @@ not_among : (v w : Bool) → v ≡ not w → v ≡ true → w ≡ false
 not_among v true e f = absurd (let q = sym e ∙ f in cc)
 not_among v false e f = refl
 
-with_new_text : (text : List ℕ) (s : Shared) → is_among text s.texts ≡ false → behind_end text s ≡ record { texts = s.texts ++ text ∷ []; begun = s.begun; used = s.used; unfolds_to = s.unfolds_to }
-with_new_text text s e = ap (λ (v : Bool). record { texts = cond {A = List (List ℕ)} v s.texts (s.texts ++ text ∷ []); begun = s.begun; used = s.used; unfolds_to = s.unfolds_to }) e
-
 front_if : (v : Bool) (text : List ℕ) (ts : List (List ℕ)) → IsFront ts (cond {A = List (List ℕ)} v ts (ts ++ text ∷ []))
 front_if true text ts = front_same ts ts refl
 front_if false text ts = (text ∷ [], refl)
@@ -112,13 +109,11 @@ module _ {names : NameTable} {end : ℕ} {from : List Item} {f : Naming → List
             let there = behind_all le b in
             let is = text_is le in
             let new_one : is_among text s.shares.texts ≡ false = not_among good (is_among text s.shares.texts) g kept in
-            let here = subst (λ (w : List ℕ). is_among w s.shares.texts ≡ false) is new_one in (
-              pass_join done (closed (shares automaton_ends) ∷ []) (with_begun b a.shares) (run.shares le b).0 (subst (λ (z : Shared). PassShares z (closed (shares automaton_ends) ∷ [])) (sym there)
+            let here = rw is at new_one in (
+              pass_join done (closed (shares automaton_ends) ∷ []) (with_begun b a.shares) (run.shares le b).0 (rw there
                   (alone_met (not (is_among (marks_text done) s.shares.texts)) (bad_share, 0 - length (marks_text done)) (ap not here), tt)),
-              ap (with_begun []) (behind_both done (closed (shares automaton_ends) ∷ []) (with_begun b a.shares))
-                  ∙ ap (λ (z : Shared). with_begun [] (behind_marks (closed (shares automaton_ends) ∷ []) z)) there
-                  ∙ ap (λ (w : List ℕ). with_begun [] (record { texts = s.shares.texts ++ w ∷ []; begun = []; used = s.shares.used; unfolds_to = s.shares.unfolds_to })) (sym is)
-                  ∙ ap (with_begun []) (sym (known ∙ with_new_text text s.shares new_one)),
+              ap (with_begun []) (behind_both done (closed (shares automaton_ends) ∷ []) (with_begun b a.shares) ∙ ap (behind_marks (closed (shares automaton_ends) ∷ [])) there)
+                  ∙ rw (← is, known, new_one) refl,
             );
       }))
 

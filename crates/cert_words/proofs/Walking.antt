@@ -104,13 +104,9 @@ module _ (names : NameTable) (end : ℕ) where
   }
 
   -- items that stand behind all that is read
-  framed_walk : (a more items : List Item) (b : List ℕ) → left_at end (a ++ (more ++ items)) b ≡ left_at end ((a ++ more) ++ items) b
-  framed_walk a more items b = ap (λ (x : List Item). left_at end x b) (sym (append_assoc a more items))
-
   pub framed_run : (from to more : List Item) (f : Naming → List Mark) (b r : List ℕ) (s t : Shared) → Run names end from f to b r s t → Run names end (from ++ more) f (to ++ more) b r s t
   framed_run from to more f b r s t x = record {
-    walks = λ le items. subst (λ (l : Left). Walks names (f (name_of names)) l (left_at end ((to ++ more) ++ items) r)) (framed_walk from more items b)
-        (subst (Walks names (f (name_of names)) (left_at end (from ++ (more ++ items)) b)) (framed_walk to more items r) (x.walks le (more ++ items)));
+    walks = λ le items. rw (append_assoc from more items, append_assoc to more items) (x.walks le (more ++ items));
     found = x.found;
     shares = x.shares;
   }
@@ -119,9 +115,8 @@ module _ (names : NameTable) (end : ℕ) where
   pub as_run : (from to other : List Item) (f g : Naming → List Mark) (b r : List ℕ) (s t : Shared) → to ≡ other → ((u : Naming) → f u ≡ g u) → Run names end from f to b r s t
       → Run names end from g other b r s t
   as_run from to other f g b r s t e same h = record {
-    walks = λ le items. subst (λ (o : List Item). Walks names (g (name_of names)) (left_at end (from ++ items) b) (left_at end (o ++ items) r)) e
-        (subst (λ (ms : List Mark). Walks names ms (left_at end (from ++ items) b) (left_at end (to ++ items) r)) (same (name_of names)) (h.walks le items));
-    found = subst (AreFound names) (same tagged) h.found;
+    walks = λ le items. rw (← e, ← same (name_of names)) (h.walks le items);
+    found = rw (← same tagged) h.found;
     shares = λ le. subst (λ (ms : List Mark). Keeps s ms t) (same (name_of names)) (h.shares le);
   }
 
@@ -217,7 +212,7 @@ module _ {P : Place} {names : NameTable} {end : ℕ} {from to : List Item} {f : 
   pub framed_where : {Q : Place} (more : List Item) → ((i : Item) (m : List Item) (q : List ℕ) → P (i ∷ m) q → Q (i ∷ (m ++ more)) q) → ReadsWhere P names end from f to s t
       → ReadsWhere Q names end (from ++ more) f (to ++ more) s t
   framed_where {Q} more g x = reads_as (λ q none. framed_run names end from to more f s.left.now t.left.now s.shares t.shares)
-      (λ q e is h items. subst (λ (is : List Item). IsStoppedWhere (Above Q items) names end is s.left.now s.shares (told e)) (sym (append_assoc from more items))
+      (λ q e is h items. rw (append_assoc from more items)
       (other_stop (Above P (more ++ items)) (Above Q items) (λ is r k. (k.0, k.1 ++ more, k.2 ∙ ap (λ (y : List Item). k.0 ∷ y) (sym (append_assoc k.1 more items)), g k.0 k.1 r k.3))
       names end (from ++ (more ++ items)) s.left.now s.shares (told e) (h (more ++ items)))) x
 

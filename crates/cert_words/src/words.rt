@@ -145,13 +145,8 @@ pub fn counted(end: usize, at: &mut Reading, least: u32, what: CertCount) -> u32
 pub fn counted_steps(end: usize, at: &mut Reading) -> u32
     ensures { (names : NameTable) (i : Item) (new : ℕ → List Item) → leads i ≡ spec.numeral_lead (λ n. in_range 0 1 (suc largest) n ∷ is_few simplifications n ∷ []) new ∷ [] → Reads names end (i ∷ []) (λ u. word (numeral result) (in_range 0 1 (suc largest) result ∷ is_few simplifications result ∷ []) ∷ []) (new result) at.old at.new }
 {
-    few(
-        end,
-        at,
-        1,
-        CertCount::Entries,
-        MOST_SIMPLIFICATIONS as usize,
-    )
+    let most = MOST_SIMPLIFICATIONS as usize;
+    few(end, at, 1, CertCount::Entries, most)
 }
 
 // The same of what has this limit, and is told as that.
