@@ -1,5 +1,5 @@
 -- What a run along the marks of an opening and of entries has read, and where a run refuses a text.
-use Rattle.cert_text.proofs.Prelude.{◌≡◌, ◌+◌, ◌-◌, ◌==◌, ℕ, Bool, true, false, List, [], ◌∷◌, length, drop, Option, Some, refl, sym, ap, ◌∙◌, subst, arith, length-append, false≢true}
+use Rattle.cert_text.proofs.Prelude.{◌≡◌, ◌+◌, ◌-◌, ◌==◌, ℕ, Bool, true, false, List, [], ◌∷◌, length, drop, Option, Some, None, refl, sym, ap, ◌∙◌, subst, arith, length-append, false≢true}
 use Rattle.cert_text.proofs.Prelude.{nil_from_length, Automaton, PairEntry, NameTable, name_of, Version, IsCertificateRefused, CertificateCause, syntax, Naming, Mark, marks_text, Item, opening}
 use Rattle.cert_text.proofs.Prelude.{Shared, nothing_shared, behind_marks, Opening, certificate_for, uses_with, IsReadTo, CertError, told, IsRefusedAs, left_at, Run, walks_text, walks_pass, walks_at}
 use Rattle.cert_text.proofs.Prelude.{start_at, refused_at, IsPlainBy, ArePlainAutomata, CanShare, Anywhere, StopsWhere, IsStoppedWhere, walks_named, front_found, place_of, read_marks}
