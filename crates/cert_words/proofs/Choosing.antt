@@ -1,17 +1,18 @@
 -- Which of some leads is there, and what is read with it.
 use Rattle.std.proofs.lemmas.List.{length-map}
-use Rattle.cert_words.proofs.Prelude.{◌≡◌, ◌<◌, ◌≤◌, ◌+◌, ◌-◌, ℕ, zero, suc, true, false, List, [], ◌∷◌, length, map, get_or, max, Option, Some, None, MatchOption, refl, sym, ap, ap₂}
-use Rattle.cert_words.proofs.Prelude.{◌∙◌, subst, arith, NameTable, Naming, Mark, fixed, scan, syntax, mode_of, text, Item, Lead, leads, is_there, first_there, longest, CertError, Reading, told, Run}
-use Rattle.cert_words.proofs.Prelude.{IsStuckAt, bare, IsLeadRead, Reads, Choice, lead_of, bare_of, Chosen, Missed, IsFirst, WordReads, IsMissed, Finds, IsJudged, Found}
+use Rattle.cert_words.proofs.Prelude.{◌≡◌, ◌<◌, ◌≤◌, ◌+◌, ◌-◌, ℕ, zero, suc, true, false, List, [], ◌∷◌, length, map, get_or, max, Option, Some, None, MatchOption, refl, sym, ap, ap₂, ◌∙◌, subst}
+use Rattle.cert_words.proofs.Prelude.{arith, NameTable, Naming, Mark, fixed, scan, syntax, mode_of, text, Item, Lead, leads, is_there, first_there, longest, CertError, Reading, told, Run, IsStuckAt}
+use Rattle.cert_words.proofs.Prelude.{bare, IsLeadRead, Reads, Choice, lead_of, bare_of, Chosen, Missed, IsFirst, WordReads, IsMissed, Finds, IsJudged, Found, Demand, verdict, demands_of, mark_of}
+use Rattle.cert_words.proofs.Prelude.{CertificateCause, name_lead, symbol, name_of, number_of, IsStill, numeral_lead, in_range, word, numeral, value, unknown_name, keyword, check, has_arity, behind}
+use Rattle.cert_words.proofs.Prelude.{holds, all_used, shares, bad_share, IsVerdict, IsWhy, IsWithin, Front, plain, variable_lead, codes, largest, ◌++◌, bad_number, drop, nat_le, nat_lt, ◌&&◌}
+use Rattle.cert_words.proofs.Prelude.{le-leb, le-ltb}
 use Rattle.cert_words.proofs.Walking.{front_same, went, stopped, stuck_stops}
-use Rattle.cert_words.proofs.Stepping.{same_plain, front_of, stuck_among, one_stop, is_told, name_run, number_run, in_range_then, keyword_keeps, still_keeps, check_run, variable_run, bar_read, spelling_of}
+use Rattle.cert_words.proofs.Stepping.{same_plain, front_of, stuck_among, one_stop, is_told, name_run, number_run, in_range_then, keyword_keeps, still_keeps, check_run, variable_run, bar_read}
+use Rattle.cert_words.proofs.Stepping.{spelling_of}
 use Rattle.cert_words.proofs.Sharings.{end_keeps, end_stop}
-use Rattle.cert_words.proofs.Prelude.{Demand, verdict, demands_of, mark_of, CertificateCause, name_lead, symbol, name_of, number_of, IsStill, numeral_lead, in_range, word, numeral, value, unknown_name}
-use Rattle.cert_words.proofs.Prelude.{keyword, check, has_arity, behind, holds, all_used, shares, bad_share, IsVerdict, IsWhy, IsWithin, Front, plain}
 use Rattle.cert_words.specs.declared.error.CertError.TheVariants.{UnknownName, BadNumber}
 use Rattle.cert_grammar.proofs.ScanWords.{bar_is}
 use Rattle.cert_words.specs.Nodes.{IsBarNumber}
-use Rattle.cert_words.proofs.Prelude.{variable_lead, codes, largest, ◌++◌, bad_number, drop, nat_le, nat_lt, ◌&&◌, le-leb, le-ltb}
 use Rattle.cert_words.specs.declared.leads.Lead as code
 
 -- none of them is there
@@ -122,7 +123,8 @@ pub bad_bar : {names : NameTable} {end : ℕ} {i : Item} {marks : Naming → Lis
     → Finds end ls x s u → Front s.left.now i (variable_lead ds new) x.word.now x.rest.now → IsBarNumber x.word.now None
     → WordReads names end i marks to s (record { left = u.left; refused = Some (BadNumber (x.here + 1)); shares = u.shares })
 bad_bar {names} {end} {s = s} {x = x} h f low =
-    refused_word h (one_stop names end f s.shares (Some (bad_number, x.here + 1)) (rw (bar_low x.word.now (bar_is x.word.now (spelling_of f f.word)) low) (ap (λ (k : ℕ). Some (bad_number, k + 1)) (sym h.place))))
+    refused_word h (one_stop names end f s.shares (Some (bad_number, x.here + 1))
+    (rw (bar_low x.word.now (bar_is x.word.now (spelling_of f f.word)) low) (ap (λ (k : ℕ). Some (bad_number, k + 1)) (sym h.place))))
   where
     bar_low : (w : List ℕ) → w ≡ 124 ∷ numeral (value (drop 1 w)) → IsBarNumber w None → (nat_le 0 (value (drop 1 w)) && nat_lt (value (drop 1 w)) (suc largest)) ≡ false
     bar_low [] e k = absurd cc

@@ -27,7 +27,8 @@ step_on names l k m z s v =
 -- where a step goes
 pub goes_where : (names : NameTable) (l k : Left) (m : Mark) → (s : StepsOver names l m k) → k ≡ behind_lead l s.lead s.others
 goes_where names l k m s =
-    sym (judged_on _ (behind_lead l s.lead s.others) k (sym (ap (λ (x : Option Lead). step_lead names l x s.item s.others) s.first) ∙ sym (ap (λ (x : List Item). step_items names l x) s.items) ∙ s.goes)).1
+    sym (judged_on _ (behind_lead l s.lead s.others) k
+    (sym (ap (λ (x : Option Lead). step_lead names l x s.item s.others) s.first) ∙ sym (ap (λ (x : List Item). step_items names l x) s.items) ∙ s.goes)).1
 
 pub walks_shorter : (names : NameTable) (ms : List Mark) (l k : Left) → Walks names ms l k → length k.bytes ≤ length l.bytes
 walks_shorter names [] l k w = let e : length k.bytes ≡ length l.bytes = ap (λ (x : Left). length x.bytes) (sym w) in omega (arith, e)

@@ -9,10 +9,10 @@ returns-then-found-eq0-clause-opened c = λ t names f n i new comma close e. (ju
 
 pub returns-then-found-eq1-clause-comma : goal.returns-then-found-eq1-clause-comma
 returns-then-found-eq1-clause-comma c = λ t names f n i new comma close e m. (judged_word c.in-Some.ensures c.judged-2.ensures
-    (check_why names c.args.end c.args.at.now f c.wrong_arity.result c.in-Some.ensures.place (c.wrong_arity.ensures names (name_of names f) n m) _ _ (front_at 1 e refl c.in-Some.ensures c.if-found-eq1.true))).read
+    (check_why names _ c.args.at.now f _ c.in-Some.ensures.place (c.wrong_arity.ensures names (name_of names f) n m) _ _ (front_at 1 e refl c.in-Some.ensures c.if-found-eq1.true))).read
 
 pub returns-else-found-eq1-clause-close : goal.returns-else-found-eq1-clause-close
 returns-else-found-eq1-clause-close c = λ t names f n i new comma close e m.
     let less = below c.in-Some.ensures in
-    (judged_word c.in-Some.ensures c.judged-2.ensures (check_why names c.args.end c.args.at.now f c.wrong_arity.result c.in-Some.ensures.place (c.wrong_arity.ensures names (name_of names f) n m) _ _
+    (judged_word c.in-Some.ensures c.judged-2.ensures (check_why names _ c.args.at.now f _ c.in-Some.ensures.place (c.wrong_arity.ensures names (name_of names f) n m) _ _
     (front_at 2 e refl c.in-Some.ensures (omega (arith, less, c.if-found-eq0.false, c.if-found-eq1.false))))).read

@@ -6,4 +6,4 @@ returns-clause-opened c = λ t names f n i new other e. (c.one_of.ensures.one t 
 
 pub returns-clause-none : goal.returns-clause-none
 returns-clause-none c = λ t names f n i new other e m.
-    (c.one_of.ensures.other t names i _ _ _ _ e refl refl (check_why names c.args.end c.args.at.now f c.wrong_arity-missed.result c.place.ensures (c.wrong_arity-missed.ensures names (name_of names f) n m))).read
+    (c.one_of.ensures.other t names i _ _ _ _ e refl refl (check_why names _ c.args.at.now f _ c.place.ensures (c.wrong_arity-missed.ensures names (name_of names f) n m))).read
