@@ -1,5 +1,5 @@
 -- The names that other crates cite, passed on from one place. Declares nothing.
-pub use Rattle.cert_grammar.specs.Words.{largest, IsIdentifier, IsNamed, IsSpelt, AreSpelt, name_of, term_text, arguments_text, further_text, parts_text, position_text, ArePlaces}
+pub use Rattle.cert_grammar.specs.Words.{largest, IsIdentifier, IsNamed, IsSpelt, AreSpelt, name_of, term_text, arguments_text, further_text, each_behind, parts_text, position_text, ArePlaces}
 pub use Rattle.cert_grammar.specs.Versions.{Version, first_version, second_version, Uses, in_full, by_number, version_of, HasMeasure, IsUnsimplified, CanSimplify, IsOfVersion, used_by}
 pub use Rattle.cert_grammar.specs.Versions.{used_by_evidence, used_by_pairs, used_by_redexes, used_by_apart, used_by_steps, automata_of}
 pub use Rattle.cert_grammar.specs.Sharing.{Shared, nothing_shared, text_at, holds, share_cause, share_place, share_judged, first_of, share_verdict, share_effect, effects, behind_mark}

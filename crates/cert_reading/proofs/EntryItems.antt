@@ -1,10 +1,11 @@
 -- Behind the entries of a measure, where an overlap or the last line begins, the text goes on as behind nothing.
 use Rattle.cert_grammar.specs.Prelude.{Step}
-use Rattle.cert_reading.proofs.Prelude.{◌≡◌, inl, inr, ℕ, List, [], ◌∷◌, codes, max, arith, Option, Some, None, refl, sym, ap, ◌∙◌, subst, NameTable, name_of}
-use Rattle.cert_reading.proofs.Prelude.{CertificateCause, Naming, Mark, Item, Lead, keyword, leads, pair_or_end, pairs_from, space, between, any_number, Version}
-use Rattle.cert_reading.proofs.Prelude.{is_few, entries, first_there, longest, Left, accepts, refuses, goes_on, step, Shared, behind_marks, PassShares}
-use Rattle.cert_reading.proofs.Prelude.{after_step, shared_step, with_begun, BeginsEntry, left_at, Walks, Run, RefusesAt}
-use Rattle.cert_reading.proofs.Prelude.{SymbolAt, Place, StopsWhere, IsStoppedWhere}
+use Rattle.cert_reading.proofs.Prelude.{◌≡◌, inl, inr, ℕ, List, [], ◌∷◌, codes, max, arith, Option, Some, None, refl, sym, ap, ◌∙◌, subst, NameTable, name_of, CertificateCause, Naming}
+use Rattle.cert_reading.proofs.Prelude.{Mark, Item, Lead, keyword, leads, pair_or_end, pairs_from, space, between, any_number, Version, is_few, entries, first_there, longest, Left}
+use Rattle.cert_reading.proofs.Prelude.{accepts, refuses, goes_on, step, Shared, behind_marks, PassShares, after_step, shared_step, with_begun, BeginsEntry, left_at, Walks, Run}
+use Rattle.cert_reading.proofs.Prelude.{RefusesAt, SymbolAt, Place, StopsWhere, IsStoppedWhere, ◌+◌, ◌-◌, suc, ◌++◌, length, syntax, first_version, second_version, Reading, reads_as}
+use Rattle.cert_reading.proofs.Prelude.{Above, IsStopped, ReadsWhere, told}
+use Rattle.cert_reading.proofs.Opening.{entry_at, head_at}
 
 zero_most : (x : ℕ) → max 0 (max 0 x) ≡ x
 zero_most x = omega arith
@@ -55,25 +56,25 @@ module _ (names : NameTable) (end : ℕ) (v : Version) (symbol : Item) (b : List
       let first : first_there (leads symbol) b ≡ Some s.lead = (let e : s.item ≡ pairs_from v 1 = (let is = s.items in cc) in same.0 ∙ (rw e at s.first)) in
       (w.0, record { item = symbol; others = items; items = refl; lead = s.lead; first = first; mark = s.mark; goes = step_same items ∙ s.goes }, w.2)
 
-  stop_same : (P : Place) (ms : List Mark) (i : Item) (more : List Item) (rest : List ℕ) (sa : Shared) (e : CertificateCause × ℕ) → P (symbol ∷ []) b
-      → Walks names ms (left_at end (pairs_from v 1 ∷ []) b) (left_at end (i ∷ more) rest)
+  stop_same : (P : Place) (ms : List Mark) (items : List Item) (i : Item) (more : List Item) (rest : List ℕ) (sa : Shared) (e : CertificateCause × ℕ) → P (symbol ∷ items) b
+      → Walks names ms (left_at end (pairs_from v 1 ∷ items) b) (left_at end (i ∷ more) rest)
       → ((k : List ℕ) → PassShares (with_begun k sa) ms × RefusesAt names (left_at end (i ∷ more) rest) (behind_marks ms (with_begun k sa)) e) → P (i ∷ more) rest
-      → StopsWhere P names end (symbol ∷ []) b sa e
-  stop_same P [] i more rest sa e p w r q = record {
+      → StopsWhere P names end (symbol ∷ items) b sa e
+  stop_same P [] items i more rest sa e p w r q = record {
     marks = [];
     item = symbol;
-    more = [];
+    more = items;
     rest = b;
     walks = refl;
-    stops = λ k. (tt, shared_same [] (with_begun k sa) ∙ ap (λ (l : Left). shared_step names l (with_begun k sa)) w ∙ (r k).1);
+    stops = λ k. (tt, shared_same items (with_begun k sa) ∙ ap (λ (l : Left). shared_step names l (with_begun k sa)) w ∙ (r k).1);
     place = p;
   }
-  stop_same P (m ∷ ms) i more rest sa e p w r q = record { marks = m ∷ ms; item = i; more = more; rest = rest; walks = walk_same (m ∷ ms) [] _ (λ x. cc) w; stops = r; place = q }
+  stop_same P (m ∷ ms) items i more rest sa e p w r q = record { marks = m ∷ ms; item = i; more = more; rest = rest; walks = walk_same (m ∷ ms) items _ (λ x. cc) w; stops = r; place = q }
 
-  pub symbol_stopped : (P : Place) (sa : Shared) (t : Option (CertificateCause × ℕ)) → P (symbol ∷ []) b → IsStoppedWhere P names end (pairs_from v 1 ∷ []) b sa t
-      → IsStoppedWhere P names end (symbol ∷ []) b sa t
-  symbol_stopped P sa None p x = tt
-  symbol_stopped P sa (Some e) p x = λ le. let there = x le in stop_same P there.marks there.item there.more there.rest sa e p there.walks there.stops there.place
+  pub symbol_stopped : (P : Place) (items : List Item) (sa : Shared) (t : Option (CertificateCause × ℕ)) → P (symbol ∷ items) b → IsStoppedWhere P names end (pairs_from v 1 ∷ items) b sa t
+      → IsStoppedWhere P names end (symbol ∷ items) b sa t
+  symbol_stopped P items sa None p x = tt
+  symbol_stopped P items sa (Some e) p x = λ le. let there = x le in stop_same P there.marks items there.item there.more there.rest sa e p there.walks there.stops there.place
 
   pub symbol_run : (f : Naming → List Mark) (to : List Item) (r : List ℕ) (sa sb : Shared) → (f (name_of names) ≡ [] → ⊥) → Run names end (pairs_from v 1 ∷ []) f to b r sa sb
       → Run names end (symbol ∷ []) f to b r sa sb

@@ -26,9 +26,9 @@ pub use Rattle.cert_reading.specs.Arguments.{argument_end, behind_argument}
 pub use Rattle.cert_reading.specs.Headings.{item_by, first_marks, kind_mark}
 pub use Rattle.cert_reading.specs.Lines.{line_marks}
 pub use Rattle.cert_reading.specs.Measures.{SymbolAt}
-pub use Rattle.cert_reading.specs.Plain.{EvidenceUses, PairsUse, RedexesUse, StepsUse, IsUsed, IsPlainBy}
-pub use Rattle.cert_reading.specs.Shared.{shared_marks, ArePlainAutomata, sealed_marks}
-pub use Rattle.cert_reading.specs.Stops.{Place, ReadsWhere, IsBehind, AreBehind, BeginsList, BeforeEntries, WithinOpening, StopsWhere, IsStoppedWhere, ReadsOnWhere, Anywhere, lowest, WithinEntry}
+pub use Rattle.cert_reading.specs.Plain.{EvidenceUses, PairsUse, RedexesUse, StepsUse, IsUsed, IsPlainBy, HasUsed, ApartUses}
+pub use Rattle.cert_reading.specs.Shared.{shared_marks, ArePlainAutomata, sealed_marks, IsKnown}
+pub use Rattle.cert_reading.specs.Stops.{Place, ReadsWhere, IsBehind, AreBehind, BeginsList, BeforeEntries, WithinOpening, StopsWhere, IsStoppedWhere, Anywhere, lowest, WithinEntry}
 pub use Rattle.cert_reading.specs.Uses.{AreShared, use_between, use_item, version_by, automata_by, uses_by, AreKnown}
 pub use Rattle.cert_reading.specs.declared.headings.Kind.{Kind}
 pub use Rattle.cert_reading.specs.declared.headings.Kind.TheVariants.{Ortho, Quasi, Peak}
@@ -39,11 +39,13 @@ pub use Rattle.cert_sharing.proofs.UseMarks.{counts_put, counts_use, still_both,
 pub use Rattle.cert_sharing.proofs.UseMarks.{measure_still}
 pub use Rattle.cert_words.proofs.NodeReads.{suc_is, node_leads, refused_node, any_frame, frames, frames_deep}
 pub use Rattle.cert_words.proofs.Stepping.{keyword_run, one_stop, some_now, none_now, one, two, stuck_among, counted_there, counted_out, go, stop, arity_met, text_run, three, front_of}
-pub use Rattle.cert_words.proofs.Walking.{then_reads, as_marks, then_nothing, as_reads, open_before, goes_as, already, walks_then, walks_shorter, stops_then, goes_then, goes_open, not_both}
-pub use Rattle.cert_words.proofs.Walking.{run_then, framed_run, as_run, front_then, read_run, framed}
+pub use Rattle.cert_words.proofs.Stepping.{Front}
+pub use Rattle.cert_words.proofs.Walking.{then_reads, as_marks, then_nothing, as_reads, open_before, goes_as, already, walks_then, walks_shorter, stops_then, goes_then, goes_open}
+pub use Rattle.cert_words.proofs.Walking.{not_both, run_then, framed_run, as_run, front_then, read_run, framed, front_same, went, stopped, reads_as, stuck_stops, stuck_where}
+pub use Rattle.cert_words.proofs.Walking.{sealed_stops, other_stop, framed_where}
 pub use Rattle.cert_words.proofs.Whole.{walks_pass, walks_text}
 pub use Rattle.cert_words.specs.Choices.{Choice, Chosen, lead_of}
-pub use Rattle.cert_words.specs.Walks.{Reads, Run, IsStuckAt, Walks, AreWithoutStates, left_at, RefusesAt, BeginsAnew, IsStuckBehind, IsStopped, ReadsOn}
+pub use Rattle.cert_words.specs.Walks.{Reads, Run, IsStuckAt, Walks, AreWithoutStates, left_at, RefusesAt, BeginsAnew, IsStuckBehind, IsStopped, HasNoStates, Above}
 pub use Rattle.cert_words.specs.Words.{told}
 pub use Rattle.cert_words.specs.declared.error.CertError.{CertError}
 pub use Rattle.cert_words.specs.declared.reading.Reading.{Reading}

@@ -3,7 +3,7 @@ use Rattle.cert_reading.proofs.Prelude.{◌≡◌, ◌≤◌, ◌-◌, ℕ, List
 use Rattle.cert_reading.proofs.Prelude.{first_version, second_version, Naming, Mark, fixed, demands_of, use_mark, texts_of, number_in, AllNew, Shared, Item, texts_length, pick, pick_number}
 use Rattle.cert_reading.proofs.Prelude.{IsStill, places_still, Counts, counts_still, counts_both, counts_put, counts_use, pick_stands, Reading, left_at, Run, Reads, read_run, open_before}
 use Rattle.cert_reading.proofs.Prelude.{walks_shorter, line_marks, AreShared, Place, ReadsWhere, AreStill}
-use Rattle.cert_reading.proofs.Stopping.{open_before_where, ran, reads_anywhere}
+use Rattle.cert_reading.proofs.Stopping.{open_before_where, ran}
 use Rattle.rewriting.proofs.Once.{same_some}
 
 pub run_shorter : (names : NameTable) (end : ℕ) (from to : List Item) (f : Naming → List Mark) (b r : List ℕ) (s t : Shared) → length b ≤ end → Run names end from f to b r s t → length r ≤ end
@@ -24,7 +24,7 @@ known_where {P} {names} {end} {from} {to} {f} {s} {t} second_version all x ns c 
 
 pub known_behind : {names : NameTable} {end : ℕ} {from to : List Item} {f : Naming → List Mark} {s t : Reading} (v : Version) (all : List Automaton) → Reads names end from f to s t
     → (ns : List ℕ) → Counts (f (name_of names)) ns → AreShared v names all end s → AreShared v names all end t
-known_behind v all x ns c h = known_where v all (reads_anywhere x) ns c h
+known_behind v all x ns c h = known_where v all x ns c h
 
 -- the same of marks that ask nothing of shared automata
 pub known_still : {names : NameTable} {end : ℕ} {from to : List Item} {f : Naming → List Mark} {s t : Reading} (v : Version) (all : List Automaton) → Reads names end from f to s t

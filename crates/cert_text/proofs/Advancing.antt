@@ -55,7 +55,7 @@ next_stop : (names : NameTable) (end : ℕ) (v : Version) (n : ℕ) (item : Item
 next_stop names end v n item b sa t (inl e) h = subst (λ (i : Item). IsStoppedWhere (WithinEntry v n b) names end (i ∷ []) b sa t) (sym e) h
 next_stop names end v n item b sa t (inr x) h =
     subst (λ (k : ℕ). IsStoppedWhere (WithinEntry v k b) names end (item ∷ []) b sa t) (sym x.1)
-    (symbol_stopped names end v item b (same_at v item x.0 b x.2) (WithinEntry v 1 b) sa t (symbols_place v item b b (are_symbols v item x.0))
+    (symbol_stopped names end v item b (same_at v item x.0 b x.2) (WithinEntry v 1 b) [] sa t (symbols_place v item b b (are_symbols v item x.0))
     (subst (λ (k : ℕ). IsStoppedWhere (WithinEntry v k b) names end (pairs_from v k ∷ []) b sa t) x.1 h))
 
 next_run : (names : NameTable) (end : ℕ) (v : Version) (n : ℕ) (item : Item) (f : Naming → List Mark) (to : List Item) (b r : List ℕ) (sa sb : Shared) → IsNext v item n b
@@ -257,7 +257,7 @@ module _ {v : Version} {shared : List Automaton} {names : NameTable} {bytes left
         refused_as names bytes e refl
         (other_stop (WithinEntry v n left) Anywhere (λ items q h. tt) names (length bytes) (Items.opening ∷ []) bytes nothing_shared (told e)
         (stop_behind (WithinEntry v n left) names (length bytes) (Items.opening ∷ []) (u.item ∷ [])
-        (λ x. read_marks x (uses_with v names shared) shared u.given u.opening u.entries) bytes left nothing_shared now (told e) u.run stop))
+        (λ x. read_marks x (uses_with v names shared) shared u.given u.opening u.entries) bytes left nothing_shared now (told e) [] u.run stop))
 
     -- nothing is told of a text that goes on
     pub not_told : (o : Opening) (es : List math.PairEntry) → HasRead (up_to names bytes left) o es → IsAll (up_to names bytes left) o es → told e ≡ None

@@ -16,8 +16,10 @@ pub use Rattle.cert_grammar.specs.WordMarks.{numeral}
 pub use Rattle.cert_laws.proofs.Paths.{found_there, text_is, first_sound, lead_there}
 pub use Rattle.cert_shares.specs.SharesView.{with_begun, behind_end}
 pub use Rattle.cert_sharing.proofs.UseMarks.{IsStill, still_marks, still_pass, places_still, behind_both, pass_join, alone_met, two_met}
-pub use Rattle.cert_words.specs.Choices.{Choice, lead_of, bare_of, Chosen, Missed, IsFirst}
+pub use Rattle.cert_words.specs.Choices.{Choice, lead_of, bare_of, Chosen, Missed, IsFirst, WordReads, IsMissed, Finds, IsJudged, Front, plain, IsVerdict, IsWhy, IsNumeral}
+pub use Rattle.cert_words.specs.declared.choices.Found.{Found}
 pub use Rattle.cert_words.specs.Walks.{left_at, Walks, tagged, AreFound, Keeps, Run, RefusesAt, IsStuckAt, IsStopped, Reads, IsFront, BeginsAnew, IsStuckBehind, StepsOver, GoesOn}
+pub use Rattle.cert_words.specs.Walks.{IsWithin, Place, Above, Anywhere, IsStoppedWhere, ReadsWhere}
 pub use Rattle.cert_words.specs.Words.{IsLeadRead, told, IsTold, counted_view, mode_view, bare}
 pub use Rattle.cert_words.specs.declared.error.CertError.{CertError}
 pub use Rattle.cert_words.specs.declared.reading.Reading.{Reading}

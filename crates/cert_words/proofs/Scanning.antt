@@ -8,12 +8,9 @@ pub record ScansOn (begins : Mode) (bytes : List ℕ) (m : Mode) (at : ℕ) : Ty
   pub size : (scan begins bytes).size ≡ at + (scan m (drop at bytes)).size
   pub mode : (scan begins bytes).mode ≡ (scan m (drop at bytes)).mode
 
--- with the first byte
-pub scan_cons : (m : Mode) (b : ℕ) (bs rest : List ℕ) (n : Option Mode) → rest ≡ b ∷ bs → next m b ≡ n → scan m rest ≡ scan_next m n (λ k. scan k bs)
-scan_cons m b bs rest n e f = rw e (ap (λ (k : Option Mode). scan_next m k (λ j. scan j bs)) f)
-
+-- with the byte here
 here : (m : Mode) (bytes : List ℕ) (at : ℕ) (n : Option Mode) → at < length bytes → n ≡ next m (get_or bytes at 0) → scan m (drop at bytes) ≡ scan_next m n (λ k. scan k (drop (at + 1) bytes))
-here m bytes at n h e = rw add-one (scan_cons m (get_or bytes at 0) (drop (suc at) bytes) (drop at bytes) n (drop-cons bytes at 0 h) (sym e))
+here m bytes at n h e = rw (add-one, drop-cons bytes at 0 h) (ap (λ (k : Option Mode). scan_next m k (λ j. scan j (drop (suc at) bytes))) (sym e))
 
 -- no word goes on with the byte here
 pub scan_stops : (begins m : Mode) (bytes : List ℕ) (at : ℕ) (r : Option code.Mode) → ScansOn begins bytes m at → at < length bytes

@@ -1,12 +1,12 @@
 -- Words at which shared automata are judged.
-use Rattle.cert_words.proofs.Prelude.{◌≡◌, ◌≤◌, ◌-◌, nat_le, nat_lt, ℕ, suc, Bool, true, false, not, cond, ◌&&◌, List, [], ◌∷◌, ◌++◌, length, take, Option, Some, None, refl, sym, ap, ◌∙◌}
+use Rattle.cert_words.proofs.Prelude.{◌≡◌, ◌≤◌, ◌-◌, nat_le, nat_lt, ℕ, suc, Bool, true, false, not, cond, ◌&&◌, List, [], ◌∷◌, ◌++◌, length, take, Some, None, refl, sym, ap, ◌∙◌}
 use Rattle.cert_words.proofs.Prelude.{subst, arith, length-append, take-append_seam, NameTable, largest, name_of, CertificateCause, bad_share, too_many, unfolded, automaton_begins}
 use Rattle.cert_words.proofs.Prelude.{automaton_ends, is_use, is_light, all_used, Demand, shares, Naming, Mark, word, closed, marks_text, verdict, use_mark, value, Item, Lead, at_once}
-use Rattle.cert_words.proofs.Prelude.{keyword, numeral_lead, is_short, leads, is_among, Shared, holds, first_of, share_verdict, share_effect, behind_marks, PassShares, is_there, first_there}
-use Rattle.cert_words.proofs.Prelude.{numeral, with_begun, behind_end, behind_both, pass_join, alone_met, two_met, CertError, Reading, told, left_at, tagged, Keeps, Run, RefusesAt}
-use Rattle.cert_words.proofs.Prelude.{IsStuckAt, IsStopped, IsFront, Reads, BeginsAnew, IsStuckBehind}
+use Rattle.cert_words.proofs.Prelude.{keyword, numeral_lead, is_short, leads, is_among, Shared, holds, share_verdict, share_effect, behind_marks, PassShares, is_there, first_there}
+use Rattle.cert_words.proofs.Prelude.{with_begun, behind_end, behind_both, pass_join, alone_met, two_met, CertError, Reading, told, left_at, tagged, Keeps, Run, RefusesAt}
+use Rattle.cert_words.proofs.Prelude.{IsStuckAt, IsStopped, Anywhere, IsFront, Reads, BeginsAnew, IsStuckBehind}
 use Rattle.cert_words.proofs.Stepping.{one_walk, number_keeps, shared_stop, in_range_then, Front}
-use Rattle.cert_words.proofs.Walking.{walks_then, walks_shorter, same_begun, found_then, front_same, front_then, went, stopped, open_before, read_run}
+use Rattle.cert_words.proofs.Walking.{walks_then, walks_shorter, same_begun, found_then, front_same, front_then, went, stopped, sealed_stops, open_before, read_run}
 use Rattle.cert_words.proofs.Whole.{walks_text}
 
 -- ---- the first word of an automaton, and the last line
@@ -14,33 +14,21 @@ use Rattle.cert_words.proofs.Whole.{walks_text}
 pub begins_keeps : (w : List ℕ) (s : Shared) → Keeps s (word w (shares automaton_begins ∷ []) ∷ []) s
 begins_keeps w s = λ b. ((refl, tt), refl)
 
-pub end_keeps : (w : List ℕ) (s : Shared) (v : Bool) → v ≡ holds s all_used → v ≡ true → Keeps s (word w (shares all_used ∷ []) ∷ []) s
-end_keeps w s v e h = λ b. ((alone_met (holds s all_used) (bad_share, 0) (sym e ∙ h), tt), refl)
+pub end_keeps : (w : List ℕ) (s : Shared) → holds s all_used ≡ true → Keeps s (word w (shares all_used ∷ []) ∷ []) s
+end_keeps w s h = λ b. ((alone_met (holds s all_used) (bad_share, 0) h, tt), refl)
 
-first_out : (v : Bool) (x : CertificateCause × ℕ) (o : Option (CertificateCause × ℕ)) → v ≡ false → first_of (cond {A = Option (CertificateCause × ℕ)} v None (Some x)) o ≡ Some x
-first_out v x o e = ap (λ (t : Bool). first_of (cond {A = Option (CertificateCause × ℕ)} t None (Some x)) o) e
-
-pub end_stop : (names : NameTable) (end : ℕ) {bytes : List ℕ} (s : Shared) {i : Item} {w v rest : List ℕ} {new : List Item} {t : Bool}
-    → Front bytes i (keyword w (shares all_used ∷ []) new) v rest → t ≡ holds s all_used → t ≡ false → IsStuckAt names end i bytes s (Some (bad_share, end - length bytes))
-end_stop names end {bytes} s f e missed = λ items b.
-    shared_stop names end f (bad_share, end - length bytes) items (with_begun b s) refl (first_out (holds s all_used) (bad_share, end - length bytes) None (sym e ∙ missed))
+pub end_stop : (names : NameTable) (end : ℕ) {bytes : List ℕ} (s : Shared) {i : Item} {w v rest : List ℕ} {new : List Item}
+    → Front bytes i (keyword w (shares all_used ∷ []) new) v rest → holds s all_used ≡ false → IsStuckAt names end i bytes s (Some (bad_share, end - length bytes))
+end_stop names end {bytes} s f missed = λ items b.
+    shared_stop names end f (bad_share, end - length bytes) items (with_begun b s) refl (rw missed refl)
 
 -- ---- a use
-
-second_out : (v w : Bool) (x y : CertificateCause × ℕ) → v ≡ true → w ≡ false
-    → first_of (cond {A = Option (CertificateCause × ℕ)} v None (Some x)) (first_of (cond {A = Option (CertificateCause × ℕ)} w None (Some y)) None) ≡ Some y
-second_out v w x y e f = ap (λ (t : Bool). first_of (cond {A = Option (CertificateCause × ℕ)} t None (Some x))
-    (first_of (cond {A = Option (CertificateCause × ℕ)} w None (Some y)) None)) e ∙ first_out w y None f
 
 abbrev pub use_demands : ℕ → List Demand
 use_demands n = is_short n ∷ shares (is_use n) ∷ shares (is_light n) ∷ []
 
 abbrev pub use_lead : (ℕ → List Item) → Lead
 use_lead new = numeral_lead use_demands new
-
-use_keeps : (w : List ℕ) (n : ℕ) (s t : Shared) → holds s (is_use n) ≡ true → holds s (is_light n) ≡ true → t ≡ share_effect (is_light n) (share_effect (is_use n) s)
-    → Keeps s (word w (use_demands n) ∷ []) t
-use_keeps w n s t h k e = λ b. ((two_met (holds s (is_use n)) (holds s (is_light n)) (bad_share, 0) (too_many unfolded, 0) h k, tt), ap (with_begun []) (sym e))
 
 pub use_met : (names : NameTable) (v n : ℕ) → n ≡ v → (nat_le 0 v && nat_lt v (suc largest)) ≡ true → (at : ℕ) → verdict names at (use_demands v) ≡ None
 use_met names v n e h at = in_range_then names at 0 (suc largest) v (shares (is_use v) ∷ shares (is_light v) ∷ []) None h refl
@@ -49,18 +37,19 @@ module _ (names : NameTable) (end : ℕ) (s : Reading) {i : Item} {v rest : List
     (k : (n ≡ value v) × ((nat_le 0 (value v) && nat_lt (value v) (suc largest)) ≡ true)) where
   pub use_run : {t : Shared} → (holds s.shares (is_use n) ≡ true) × (holds s.shares (is_light n) ≡ true) × (t ≡ share_effect (is_light n) (share_effect (is_use n) s.shares))
       → Run names end (i ∷ []) (λ u. use_mark n ∷ []) (new n) s.left.now rest s.shares t
-  use_run {t} m = number_keeps f k.0 (use_met names (value v) n k.0 k.1) (use_keeps (numeral n) n s.shares t m.0 m.1 m.2)
+  use_run m = number_keeps f k.0 (use_met names (value v) n k.0 k.1 _)
+      (λ b. ((two_met (holds s.shares (is_use n)) (holds s.shares (is_light n)) (bad_share, 0) (too_many unfolded, 0) m.0 m.1, tt), ap (with_begun []) (sym m.2)))
 
   out : (x : CertificateCause × ℕ) → ((b : List ℕ) → share_verdict (with_begun b s.shares) (end - length s.left.now) (use_demands n) ≡ Some x) → IsStuckAt names end i s.left.now s.shares (Some x)
   out x w = λ items b. shared_stop names end f x items (with_begun b s.shares) (use_met names (value v) n k.0 k.1 (end - length s.left.now))
       (subst (λ (j : ℕ). share_verdict (with_begun b s.shares) (end - length s.left.now) (use_demands j) ≡ Some x) k.0 (w b))
 
   pub use_bad : holds s.shares (is_use n) ≡ false → IsStuckAt names end i s.left.now s.shares (Some (bad_share, end - length s.left.now))
-  use_bad missed = out (bad_share, end - length s.left.now) (λ b. first_out (holds s.shares (is_use n)) (bad_share, end - length s.left.now) _ missed)
+  use_bad missed = out (bad_share, end - length s.left.now) (λ b. rw missed refl)
 
   pub use_heavy : holds s.shares (is_use n) ≡ true → holds s.shares (is_light n) ≡ false → IsStuckAt names end i s.left.now s.shares (Some (too_many unfolded, end - length s.left.now))
   use_heavy kept missed = out (too_many unfolded, end - length s.left.now)
-      (λ b. second_out (holds s.shares (is_use n)) (holds s.shares (is_light n)) (bad_share, end - length s.left.now) (too_many unfolded, end - length s.left.now) kept missed)
+      (λ b. rw (kept, missed) refl)
 
 -- ---- an automaton's end
 
@@ -71,9 +60,6 @@ here_there d new (b ∷ bytes) = refl
 not_among : (v w : Bool) → v ≡ not w → v ≡ true → w ≡ false
 not_among v true e f = absurd (let q = sym e ∙ f in cc)
 not_among v false e f = refl
-
-with_new_text : (text : List ℕ) (s : Shared) → is_among text s.texts ≡ false → behind_end text s ≡ record { texts = s.texts ++ text ∷ []; begun = s.begun; used = s.used; unfolds_to = s.unfolds_to }
-with_new_text text s e = ap (λ (v : Bool). record { texts = cond {A = List (List ℕ)} v s.texts (s.texts ++ text ∷ []); begun = s.begun; used = s.used; unfolds_to = s.unfolds_to }) e
 
 front_if : (v : Bool) (text : List ℕ) (ts : List (List ℕ)) → IsFront ts (cond {A = List (List ℕ)} v ts (ts ++ text ∷ []))
 front_if true text ts = front_same ts ts refl
@@ -123,13 +109,11 @@ module _ {names : NameTable} {end : ℕ} {from : List Item} {f : Naming → List
             let there = behind_all le b in
             let is = text_is le in
             let new_one : is_among text s.shares.texts ≡ false = not_among good (is_among text s.shares.texts) g kept in
-            let here = subst (λ (w : List ℕ). is_among w s.shares.texts ≡ false) is new_one in (
-              pass_join done (closed (shares automaton_ends) ∷ []) (with_begun b a.shares) (run.shares le b).0 (subst (λ (z : Shared). PassShares z (closed (shares automaton_ends) ∷ [])) (sym there)
+            let here = rw is at new_one in (
+              pass_join done (closed (shares automaton_ends) ∷ []) (with_begun b a.shares) (run.shares le b).0 (rw there
                   (alone_met (not (is_among (marks_text done) s.shares.texts)) (bad_share, 0 - length (marks_text done)) (ap not here), tt)),
-              ap (with_begun []) (behind_both done (closed (shares automaton_ends) ∷ []) (with_begun b a.shares))
-                  ∙ ap (λ (z : Shared). with_begun [] (behind_marks (closed (shares automaton_ends) ∷ []) z)) there
-                  ∙ ap (λ (w : List ℕ). with_begun [] (record { texts = s.shares.texts ++ w ∷ []; begun = []; used = s.shares.used; unfolds_to = s.shares.unfolds_to })) (sym is)
-                  ∙ ap (with_begun []) (sym (known ∙ with_new_text text s.shares new_one)),
+              ap (with_begun []) (behind_both done (closed (shares automaton_ends) ∷ []) (with_begun b a.shares) ∙ ap (behind_marks (closed (shares automaton_ends) ∷ [])) there)
+                  ∙ rw (← is, known, new_one) refl,
             );
       }))
 
@@ -139,18 +123,11 @@ module _ {names : NameTable} {end : ℕ} {from : List Item} {f : Naming → List
       let there : (end - length s.left.now) - length (marks_text done) ≡ at = omega (arith, long, place) in
       subst (λ (z : Shared). RefusesAt names (left_at end (i ∷ items) s.left.now) z (bad_share, at)) (sym (behind_all le b))
       (shared_stop names end at_end (bad_share, at) items (with_begun (marks_text done) s.shares) refl
-      (first_out (not (is_among (marks_text done) s.shares.texts)) (bad_share, (end - length s.left.now) - length (marks_text done)) None
-      (subst (λ (w : List ℕ). not (is_among w s.shares.texts) ≡ false) (text_is le) (sym g ∙ missed)) ∙ ap (λ (k : ℕ). Some (bad_share, k)) there))
+      (let out : not (is_among (marks_text done) s.shares.texts) ≡ false = subst (λ (w : List ℕ). not (is_among w s.shares.texts) ≡ false) (text_is le) (sym g ∙ missed) in rw (out, there) refl))
 
   pub end_stopped : {t : Reading} {e : CertError} (at : ℕ) → t.refused ≡ Some e → told e ≡ Some (bad_share, at) → at ≡ end - length a.left.now → good ≡ false
       → t.shares ≡ behind_end text s.shares → Reads names end from (λ u. f u ++ closed (shares automaton_ends) ∷ []) new a t
   end_stopped {t} {e} at some tells place missed known =
       stopped e (open_before x none) some (front_then a.shares.texts s.shares.texts t.shares.texts x.front (front_ended text s.shares t.shares known))
-      (subst (IsStopped names end from a.left.now a.shares) (sym tells) (λ le items. record {
-        marks = done;
-        item = i;
-        more = [];
-        rest = s.left.now;
-        walks = run.walks le items;
-        stops = λ b. ((run.shares le b).0, end_stuck at place missed le items b);
-      }))
+      (subst (IsStopped Anywhere names end from a.left.now a.shares) (sym tells) (sealed_stops Anywhere names end from i f a.left.now s.left.now a.shares s.shares (Some (bad_share, at)) tt run
+      (end_stuck at place missed)))

@@ -1,20 +1,20 @@
 -- One word, which is let through or refused.
 use Rattle.std.specs.Option.{option_and_then}
 use Rattle.cert_words.proofs.Prelude.{◌≡◌, ◌≤◌, ◌<◌, ◌+◌, ◌-◌, nat_le, nat_lt, ℕ, suc, Bool, true, false, ◌&&◌, List, [], ◌∷◌, ◌++◌, length, take, drop, codes, Option, Some, None, is_some}
-use Rattle.cert_words.proofs.Prelude.{unwrap_or, Bor, refl, sym, ap, ◌∙◌, subst, arith, length-drop, lt-leb, le-leb, lt-ltb, le-ltb, and_parts, drop-append_seam, NameTable, number_of}
-use Rattle.cert_words.proofs.Prelude.{arity_at, largest, name_of, IsIdentifier, is_number, Counted, limit, counted_as, CertificateCause, syntax, unknown_name, wrong_arity, bad_number}
-use Rattle.cert_words.proofs.Prelude.{too_many, too_deep, has_arity, in_range, is_few, is_shallow, Naming, Demand, meets, Mark, fixed, word, symbol, behind, demands_of, verdict, are_places}
-use Rattle.cert_words.proofs.Prelude.{places_text, position, scan, is_word, value, places, Item, Lead, text, check, keyword, numeral_lead, position_lead, variable_lead, name_lead, is_short}
+use Rattle.cert_words.proofs.Prelude.{unwrap_or, Bor, refl, sym, ap, ◌∙◌, subst, arith, length-drop, lt-leb, le-leb, lt-ltb, and_parts, drop-append_seam, NameTable, number_of}
+use Rattle.cert_words.proofs.Prelude.{arity_at, largest, name_of, IsIdentifier, is_number, Counted, limit, counted_as, CertificateCause, syntax, bad_number}
+use Rattle.cert_words.proofs.Prelude.{too_many, has_arity, in_range, is_few, Naming, Demand, meets, Mark, fixed, word, symbol, behind, demands_of, verdict, are_places}
+use Rattle.cert_words.proofs.Prelude.{places_text, position, scan, is_word, value, places, Item, Lead, text, check, keyword, numeral_lead, position_lead, variable_lead, name_lead}
 use Rattle.cert_words.proofs.Prelude.{leads, is_there, taken, mark_of, items_of, longest, first_there, Left, Step, goes_on, behind_lead, judged, step, step_lead, Shared, share_verdict}
-use Rattle.cert_words.proofs.Prelude.{behind_mark, ends, next_lead, shared_judged, behind_lead_shared, after_step, mode_of, ends_lead, refuses, at_once, numeral, with_begun, IsStill}
+use Rattle.cert_words.proofs.Prelude.{behind_mark, ends, next_lead, shared_judged, behind_lead_shared, after_step, mode_of, ends_lead, refuses, numeral, with_begun, IsStill}
 use Rattle.cert_words.proofs.Prelude.{still_marks, still_pass, places_still, found_there, text_is, first_sound, CertError, Reading, IsLeadRead, told, IsTold, counted_view, left_at, Walks}
-use Rattle.cert_words.proofs.Prelude.{tagged, AreFound, Keeps, Run, RefusesAt, IsStuckAt, IsStopped, Reads}
+use Rattle.cert_words.proofs.Prelude.{tagged, AreFound, Keeps, Run, RefusesAt, IsStuckAt, Reads}
 use Rattle.cert_grammar.proofs.Names.{found_is_named}
 use Rattle.cert_grammar.proofs.ScanLaws.{IsWordOf, scanned}
 use Rattle.cert_grammar.proofs.ScanWords.{number_is, place_is, bar_is, name_is}
-use Rattle.cert_words.proofs.Walking.{front_same, went, stopped}
+use Rattle.cert_words.proofs.Walking.{front_same, went, stopped, stuck_stops}
 use Rattle.cert_words.specs.Nodes.{IsBarNumber}
-use Rattle.cert_words.specs.declared.error.CertError.TheVariants.{BadNumber, UnknownName, WrongArity}
+pub use Rattle.cert_words.specs.Choices.{Front, plain}
 use Rattle.cert_grammar.specs.FirstRefusal as machine
 use Rattle.cert_words.specs.declared.error.CertCount as counts
 use Rattle.cert_words.specs.declared.error.CertCount.TheVariants as counting
@@ -23,15 +23,8 @@ same_left : (m n : ℕ) (s t : List Item) (b c : List ℕ) → m ≡ n → s ≡
 same_left m n s t b c p q r = cc
 
 -- a mark at which nothing of shared automata is judged
-still_keeps : (m : Mark) (s : Shared) → IsStill (demands_of m) → Keeps s (m ∷ []) s
+pub still_keeps : (m : Mark) (s : Shared) → IsStill (demands_of m) → Keeps s (m ∷ []) s
 still_keeps m s h = λ b. (still_pass (m ∷ []) (with_begun b s) (h, tt), ap (with_begun []) (still_marks (m ∷ []) s.texts b s.used s.unfolds_to (h, tt)))
-
--- a lead that is there, with its word and the bytes behind it
-pub record Front (bytes : List ℕ) (i : Item) (a : Lead) (w back : List ℕ) : Type 0 where
-  pub first : first_there (leads i) bytes ≡ Some a
-  pub word : w ≡ take (taken a bytes) bytes
-  pub rest : back ≡ drop (taken a bytes) bytes
-  pub within : taken a bytes ≤ length bytes
 
 -- the word of a lead that is there
 spelt_by : (a : Lead) (bytes w : List ℕ) → is_there a bytes ≡ true → w ≡ take (scan (mode_of a) bytes).size bytes → IsWordOf (mode_of a) w
@@ -40,12 +33,6 @@ spelt_by a bytes w h e = subst (IsWordOf (mode_of a)) (sym e) (record {
   goes = (scanned bytes (mode_of a)).goes;
   whole = (and_parts (is_word (scan (mode_of a) bytes).mode) (ends_lead a (drop (scan (mode_of a) bytes).size bytes)) h).0;
 })
-
-pub named : {bytes v rest : List ℕ} → IsLeadRead (name_lead [] (λ k. [])) bytes v rest → IsIdentifier v
-named {bytes} {v} h = name_is v (spelt_by (name_lead [] (λ k. [])) bytes v h.there h.word)
-
-pub spelt_place : {bytes v rest : List ℕ} → IsLeadRead (position_lead []) bytes v rest → v ≡ places_text (places v)
-spelt_place {bytes} {v} h = place_is v (spelt_by (position_lead []) bytes v h.there h.word)
 
 -- the number behind a bar
 pub bar_read : (v : List ℕ) (x : ℕ) → IsBarNumber v (Some x) → (x ≡ value (drop 1 v)) × ((nat_le 0 (value (drop 1 v)) && nat_lt (value (drop 1 v)) (suc largest)) ≡ true)
@@ -99,8 +86,14 @@ module _ (names : NameTable) (end : ℕ) {bytes : List ℕ} {i : Item} {a : Lead
       stops_here items z e _ (step_here items None met) (ap (λ (x : Option Lead). behind_lead_shared l z x (behind_lead l a items)) f.first
       ∙ ap (λ (o : Option (CertificateCause × ℕ)). shared_judged o (behind_lead l a items) (behind_mark (mark_of a (take (taken a bytes) bytes)) z)) there)
 
-spelling_of : {bytes w rest : List ℕ} {i : Item} {a : Lead} → Front bytes i a w rest → w ≡ take (scan (mode_of a) bytes).size bytes → IsWordOf (mode_of a) w
+pub spelling_of : {bytes w rest : List ℕ} {i : Item} {a : Lead} → Front bytes i a w rest → w ≡ take (scan (mode_of a) bytes).size bytes → IsWordOf (mode_of a) w
 spelling_of {bytes} {w} {i = i} {a} f e = spelt_by a bytes w (first_sound (leads i) a bytes f.first).1 e
+
+pub named : {bytes v rest : List ℕ} {i : Item} {ds : List Demand} {new : List ℕ → List Item} → Front bytes i (name_lead ds new) v rest → IsIdentifier v
+named {v = v} f = name_is v (spelling_of f f.word)
+
+pub spelt_place : {bytes v rest : List ℕ} → IsLeadRead (position_lead []) bytes v rest → v ≡ places_text (places v)
+spelt_place {bytes} {v} h = place_is v (spelt_by (position_lead []) bytes v h.there h.word)
 
 -- ---- each kind of lead
 
@@ -112,40 +105,31 @@ pub some_now : {A : Type 0} {r : Option A} {t : Bool} → t ≡ is_some r → t 
 some_now {r = None} e f = absurd cc
 some_now {r = Some x} e f = (x, refl)
 
--- a lead with nothing that it must meet and nothing behind it
-abbrev pub plain : Lead → Lead
-plain (text w new) = text w []
-plain (check d b new) = check (is_short 0) b []
-plain (at_once d new) = at_once d []
-plain (keyword w ds new) = keyword w [] []
-plain (numeral_lead ds new) = numeral_lead (λ k. []) (λ k. [])
-plain (position_lead new) = position_lead []
-plain (variable_lead ds new) = variable_lead [] []
-plain (name_lead ds new) = name_lead [] (λ k. [])
+-- it is there as the lead is, and as long
+pub record SamePlain (a : Lead) (bytes : List ℕ) : Type 0 where
+  pub there : is_there (plain a) bytes ≡ is_there a bytes
+  pub taken : taken (plain a) bytes ≡ taken a bytes
+  pub size : (scan (mode_of (plain a)) bytes).size ≡ (scan (mode_of a) bytes).size
 
-same_there : (a : Lead) (bytes : List ℕ) → is_there (plain a) bytes ≡ is_there a bytes
-same_there (text w new) bytes = refl
-same_there _ bytes = refl
-
-same_taken : (a : Lead) (bytes : List ℕ) → taken (plain a) bytes ≡ taken a bytes
-same_taken (text w new) bytes = refl
-same_taken _ bytes = refl
+pub same_plain : (a : Lead) (bytes : List ℕ) → SamePlain a bytes
+same_plain (text w new) bytes = record { there = refl; taken = refl; size = refl }
+same_plain _ bytes = record { there = refl; taken = refl; size = refl }
 
 pub front_of : {bytes w rest : List ℕ} {i : Item} (a : Lead) → first_there (leads i) bytes ≡ Some a → IsLeadRead (plain a) bytes w rest → Front bytes i a w rest
 front_of {bytes} a e h =
-    let same = same_taken a bytes in
+    let same = (same_plain a bytes).taken in
     record { first = e; word = h.word ∙ ap (λ (n : ℕ). take n bytes) same; rest = h.rest ∙ ap (λ (n : ℕ). drop n bytes) same; within = omega (arith, same, h.within) }
 
 -- the first lead is there, or the second, or the third
 module _ {bytes w rest : List ℕ} {i : Item} where
   pub one : {a : Lead} {others : List Lead} → leads i ≡ a ∷ others → IsLeadRead (plain a) bytes w rest → Front bytes i a w rest
-  one {a} e h = front_of a (ap (λ (ls : List Lead). first_there ls bytes) e ∙ rw (sym (same_there a bytes) ∙ h.there) refl) h
+  one {a} e h = front_of a (ap (λ (ls : List Lead). first_there ls bytes) e ∙ rw (sym (same_plain a bytes).there ∙ h.there) refl) h
 
   pub two : {a b : Lead} {others : List Lead} → leads i ≡ a ∷ b ∷ others → is_there a bytes ≡ false → IsLeadRead (plain b) bytes w rest → Front bytes i b w rest
-  two {a} {b} e g h = front_of b (ap (λ (ls : List Lead). first_there ls bytes) e ∙ rw g (rw (sym (same_there b bytes) ∙ h.there) refl)) h
+  two {a} {b} e g h = front_of b (ap (λ (ls : List Lead). first_there ls bytes) e ∙ rw g (rw (sym (same_plain b bytes).there ∙ h.there) refl)) h
 
   pub three : {a b d : Lead} {others : List Lead} → leads i ≡ a ∷ b ∷ d ∷ others → is_there a bytes ≡ false → is_there b bytes ≡ false → IsLeadRead (plain d) bytes w rest → Front bytes i d w rest
-  three {a} {b} {d} e g k h = front_of d (ap (λ (ls : List Lead). first_there ls bytes) e ∙ rw g (rw k (rw (sym (same_there d bytes) ∙ h.there) refl))) h
+  three {a} {b} {d} e g k h = front_of d (ap (λ (ls : List Lead). first_there ls bytes) e ∙ rw g (rw k (rw (sym (same_plain d bytes).there ∙ h.there) refl))) h
 
 -- where no lead is there
 module _ (names : NameTable) (end : ℕ) (bytes : List ℕ) (s : Shared) (i : Item) where
@@ -158,14 +142,6 @@ module _ (names : NameTable) (end : ℕ) (bytes : List ℕ) (s : Shared) (i : It
       λ items. ap (λ (x : Option Lead). step_lead names (left_at end (i ∷ items) bytes) x i items) (ap (λ (x : List Lead). first_there x bytes) is ∙ f) ∙ ap (refuses syntax) far in
       subst (IsStuckAt names end i bytes s) (sym t) (λ items b. ap (after_step (left_at end (i ∷ items) bytes) (with_begun b s) (next_lead (i ∷ items) bytes)) (step_none items))
 
-  pub stuck_one : (e : CertError) (a : Lead) → leads i ≡ a ∷ [] → is_there a bytes ≡ false → told e ≡ Some (syntax, (end - length bytes) + longest (a ∷ []) bytes)
-      → IsStuckAt names end i bytes s (told e)
-  stuck_one e a is f t = stuck_among e (a ∷ []) (a ∷ []) is (rw f refl) refl t
-
-  pub stuck_two : (e : CertError) (a b : Lead) → leads i ≡ a ∷ b ∷ [] → is_there a bytes ≡ false → is_there b bytes ≡ false
-      → told e ≡ Some (syntax, (end - length bytes) + longest (a ∷ b ∷ []) bytes) → IsStuckAt names end i bytes s (told e)
-  stuck_two e a b is f g t = stuck_among e (a ∷ b ∷ []) (a ∷ b ∷ []) is (rw f (rw g refl)) refl t
-
 pub name_found : (names : NameTable) (v : List ℕ) (g : ℕ) → number_of names.symbols v ≡ Some g → number_of names.symbols (name_of names g) ≡ Some g
 name_found names v g e = let same : name_of names g ≡ v = ap (λ o. unwrap_or o []) (found_is_named names v g e) in ap (number_of names.symbols) same ∙ e
 
@@ -175,59 +151,47 @@ module _ {names : NameTable} {end : ℕ} {bytes v rest : List ℕ} {s : Shared} 
   text_run {w} f = one_step names end f s s (λ u. fixed w ∷ []) refl (still_keeps (fixed w) s tt) refl tt
 
   pub number_keeps : {t : Shared} {ds : ℕ → List Demand} {new : ℕ → List Item} {n : ℕ} → Front bytes i (numeral_lead ds new) v rest → n ≡ value v
-      → ((at : ℕ) → verdict names at (ds (value v)) ≡ None) → Keeps s (word (numeral n) (ds n) ∷ []) t → Run names end (i ∷ []) (λ u. word (numeral n) (ds n) ∷ []) (new n) bytes rest s t
-  number_keeps {t} {ds} {new} {n} f e met keeps =
-      let spelt = number_is v (spelling_of f f.word) in
-      subst (λ (k : ℕ). Run names end (i ∷ []) (λ u. word (numeral k) (ds k) ∷ []) (new k) bytes rest s t) (sym e)
-      (one_step names end f s t (λ u. word (numeral (value v)) (ds (value v)) ∷ []) (met (end - length bytes))
-      (subst (λ (w : List ℕ). Keeps s (word w (ds (value v)) ∷ []) t) (sym spelt) (subst (λ (k : ℕ). Keeps s (word (numeral k) (ds k) ∷ []) t) e keeps))
+      → verdict names (end - length bytes) (ds (value v)) ≡ None → Keeps s (word (numeral n) (ds n) ∷ []) t → Run names end (i ∷ []) (λ u. word (numeral n) (ds n) ∷ []) (new n) bytes rest s t
+  number_keeps {t} {ds} f e met keeps =
+      let spelt : v ≡ numeral (value v) = number_is v (spelling_of f f.word) in
+      rw e (one_step names end f s t (λ u. word (numeral (value v)) (ds (value v)) ∷ []) met (subst (λ (w : List ℕ). Keeps s (word w (ds (value v)) ∷ []) t) (sym spelt) (rw e at keeps))
       (ap (λ (w : List ℕ). word w (ds (value v)) ∷ []) (sym spelt)) tt)
 
   pub number_run : {ds : ℕ → List Demand} {new : ℕ → List Item} {n : ℕ} → Front bytes i (numeral_lead ds new) v rest → n ≡ value v
-      → ((at : ℕ) → verdict names at (ds (value v)) ≡ None) → ((k : ℕ) → IsStill (ds k)) → Run names end (i ∷ []) (λ u. word (numeral n) (ds n) ∷ []) (new n) bytes rest s s
+      → verdict names (end - length bytes) (ds (value v)) ≡ None → ((k : ℕ) → IsStill (ds k)) → Run names end (i ∷ []) (λ u. word (numeral n) (ds n) ∷ []) (new n) bytes rest s s
   number_run {ds} {n = n} f e met still = number_keeps f e met (still_keeps (word (numeral n) (ds n)) s (still n))
 
-  pub keyword_keeps : {t : Shared} {w : List ℕ} {ds : List Demand} {new : List Item} → Front bytes i (keyword w ds new) v rest → ((at : ℕ) → verdict names at ds ≡ None)
+  pub keyword_keeps : {t : Shared} {w : List ℕ} {ds : List Demand} {new : List Item} → Front bytes i (keyword w ds new) v rest → verdict names (end - length bytes) ds ≡ None
       → Keeps s (word w ds ∷ []) t → Run names end (i ∷ []) (λ u. word w ds ∷ []) new bytes rest s t
-  keyword_keeps {t} {w} {ds} f met keeps = one_step names end f s t (λ u. word w ds ∷ []) (met (end - length bytes)) keeps refl tt
+  keyword_keeps {t} {w} {ds} f met keeps = one_step names end f s t (λ u. word w ds ∷ []) met keeps refl tt
 
   pub keyword_run : {w : List ℕ} {ds : List Demand} {new : List Item} → Front bytes i (keyword w ds new) v rest → ((at : ℕ) → verdict names at ds ≡ None) → IsStill ds
       → Run names end (i ∷ []) (λ u. word w ds ∷ []) new bytes rest s s
-  keyword_run {w} {ds} f met still = keyword_keeps f met (still_keeps (word w ds) s still)
+  keyword_run {w} {ds} f met still = keyword_keeps f (met (end - length bytes)) (still_keeps (word w ds) s still)
 
-  pub check_run : {d : Naming → Demand} {b : ℕ} {new : List Item} → Front bytes i (check (d (name_of names)) b new) v rest → meets names (d (name_of names)) ≡ true
-      → IsStill (d (name_of names) ∷ []) → Run names end (i ∷ []) (λ u. behind (d u) ∷ []) new bytes bytes s s
-  check_run {d} {b} {new} f met still =
-      let here : Front bytes i (check (d (name_of names)) b new) v bytes = record { first = f.first; word = f.word; rest = refl; within = f.within } in
-      one_step names end here s s (λ u. behind (d u) ∷ []) (rw met refl) (still_keeps (behind (d (name_of names))) s still) refl tt
+  pub check_run : {d : Naming → Demand} {b : ℕ} {new : List Item} → Front bytes i (check (d (name_of names)) b new) v rest
+      → verdict names (end - length bytes) (d (name_of names) ∷ []) ≡ None → IsStill (d (name_of names) ∷ []) → Run names end (i ∷ []) (λ u. behind (d u) ∷ []) new bytes rest s s
+  check_run {d} f met still = one_step names end f s s (λ u. behind (d u) ∷ []) met (still_keeps (behind (d (name_of names))) s still) refl tt
 
   pub name_run : {ds : List Demand} {new : List ℕ → List Item} {g : ℕ} → Front bytes i (name_lead ds new) v rest → number_of names.symbols v ≡ Some g
       → verdict names (end - length bytes) ds ≡ None → IsStill ds → Run names end (i ∷ []) (λ u. symbol (u g) ds ∷ []) (new (name_of names g)) bytes rest s s
-  name_run {ds} {new} {g} f e met still =
+  name_run {ds} {g = g} f e met still =
       let same : name_of names g ≡ v = ap (λ o. unwrap_or o []) (found_is_named names v g e) in
-      subst (λ (k : List ℕ). Run names end (i ∷ []) (λ u. symbol (u g) ds ∷ []) (new k) bytes rest s s) (sym same)
-      (one_step names end f s s (λ u. symbol (u g) ds ∷ []) (rw e met) (still_keeps (symbol v ds) s still) (ap (λ (k : List ℕ). symbol k ds ∷ []) same) (name_found names v g e, tt))
+      rw same (one_step names end f s s (λ u. symbol (u g) ds ∷ []) (rw e met) (still_keeps (symbol v ds) s still) (rw same refl) (name_found names v g e, tt))
 
   pub variable_run : {ds : List Demand} {new : List Item} {x : ℕ} → Front bytes i (variable_lead ds new) v rest → IsBarNumber v (Some x) → verdict names (end - length bytes) ds ≡ None
       → IsStill ds → Run names end (i ∷ []) (λ u. word (codes "|" ++ numeral x) (in_range 1 0 (suc largest) x ∷ ds) ∷ []) new bytes rest s s
-  variable_run {ds} {new} {x} f e met still =
+  variable_run {ds} {x = x} f e met still =
       let read = bar_read v x e in
       let spelt = bar_is v (spelling_of f f.word) in
-      subst (λ (k : ℕ). Run names end (i ∷ []) (λ u. word (codes "|" ++ numeral k) (in_range 1 0 (suc largest) k ∷ ds) ∷ []) new bytes rest s s) (sym read.0)
-      (one_step names end f s s (λ u. word (codes "|" ++ numeral (value (drop 1 v))) (in_range 1 0 (suc largest) (value (drop 1 v)) ∷ ds) ∷ []) (rw read.1 met)
+      rw read.0 (one_step names end f s s (λ u. word (codes "|" ++ numeral (value (drop 1 v))) (in_range 1 0 (suc largest) (value (drop 1 v)) ∷ ds) ∷ []) (rw read.1 met)
       (still_keeps (word v (in_range 1 0 (suc largest) (value (drop 1 v)) ∷ ds)) s still) (ap (λ (w : List ℕ). word w (in_range 1 0 (suc largest) (value (drop 1 v)) ∷ ds) ∷ []) (sym spelt)) tt)
 
   pub position_run : {new : List Item} {p : List ℕ} → Front bytes i (position_lead new) v rest → p ≡ places v → verdict names (end - length bytes) (are_places 0 (places v)) ≡ None
       → Run names end (i ∷ []) (λ u. position p ∷ []) new bytes rest s s
-  position_run {new} f e met =
-      subst (λ (q : List ℕ). Run names end (i ∷ []) (λ u. position q ∷ []) new bytes rest s s) (sym e)
-      (one_step names end f s s (λ u. position (places v) ∷ []) met (still_keeps (word v (are_places 0 (places v))) s (places_still (places v) 0))
+  position_run f e met =
+      rw e (one_step names end f s s (λ u. position (places v) ∷ []) met (still_keeps (word v (are_places 0 (places v))) s (places_still (places v) 0))
       (ap (λ (w : List ℕ). word w (are_places 0 (places v)) ∷ []) (sym (place_is v (spelling_of f f.word)))) tt)
-
--- a refusal at the first item
-pub stuck_stops : (names : NameTable) (end : ℕ) (i : Item) (bytes : List ℕ) (s : Shared) (t : Option (CertificateCause × ℕ)) → IsStuckAt names end i bytes s t → IsStopped names end (i ∷ []) bytes s t
-stuck_stops names end i bytes s None h = tt
-stuck_stops names end i bytes s (Some e) h = λ le items. record { marks = []; item = i; more = []; rest = bytes; walks = refl; stops = λ b. (tt, h items b) }
 
 pub is_told : (v t : Option (CertificateCause × ℕ)) → v ≡ t → IsTold v t
 is_told v None e = tt
@@ -245,80 +209,11 @@ module _ {names : NameTable} {end : ℕ} {marks : Naming → List Mark} {s : Rea
       → Reads names end from marks to s (record { left = rest; refused = s.refused; shares = s.shares })
   go e q r = went (none_now e q) (none_now e q) (front_same s.shares.texts s.shares.texts refl) r
 
-  -- a refusal, with what is known of shared automata then
-  pub stop_as : {i : Item} {to : List Item} {e : CertError} {z : Shared} → t ≡ is_some s.refused → t ≡ false → z.texts ≡ s.shares.texts
-      → IsStuckAt names end i s.left.now s.shares (told e) → Reads names end (i ∷ []) marks to s (record { left = s.left; refused = Some e; shares = z })
-  stop_as {i} {e = e} {z} some q k h = stopped e (none_now some q) refl (front_same s.shares.texts z.texts k) (stuck_stops names end i s.left.now s.shares (told e) h)
-
   pub stop : {i : Item} {to : List Item} {e : CertError} → t ≡ is_some s.refused → t ≡ false → IsStuckAt names end i s.left.now s.shares (told e)
       → Reads names end (i ∷ []) marks to s (record { left = s.left; refused = Some e; shares = s.shares })
-  stop some q h = stop_as some q refl h
-
-  -- a word that does not meet what it must
-  pub bad_word : {i : Item} {to : List Item} {a : Lead} {w rest : List ℕ} {e : CertError} → t ≡ is_some s.refused → t ≡ false → Front s.left.now i a w rest
-      → IsTold (verdict names (end - length s.left.now) (demands_of (mark_of a w))) (told e) → Reads names end (i ∷ []) marks to s (record { left = s.left; refused = Some e; shares = s.shares })
-  bad_word {e = e} some q f v = stop some q (one_stop names end f s.shares (told e) v)
-
-  pub bad_numeral : {i : Item} {to : List Item} {least bound place : ℕ} {ds : ℕ → List Demand} {new : ℕ → List Item} {v rest : List ℕ} → t ≡ is_some s.refused → t ≡ false
-      → Front s.left.now i (numeral_lead (λ n. in_range 0 least bound n ∷ ds n) new) v rest → place ≡ end - length s.left.now
-      → (nat_le least (value v) && nat_lt (value v) bound) ≡ false → Reads names end (i ∷ []) marks to s (record { left = s.left; refused = Some (BadNumber place); shares = s.shares })
-  bad_numeral {least = least} {bound} {ds = ds} {v = v} some q f p h = bad_word some q f (out_of_range names _ least bound (value v) _ (ds (value v)) p h)
-
-  pub bad_bar : {i : Item} {to : List Item} {place : ℕ} {ds : List Demand} {new : List Item} {v rest : List ℕ} → t ≡ is_some s.refused → t ≡ false
-      → Front s.left.now i (variable_lead ds new) v rest → place ≡ end - length s.left.now → IsBarNumber v None
-      → Reads names end (i ∷ []) marks to s (record { left = s.left; refused = Some (BadNumber (place + 1)); shares = s.shares })
-  bad_bar {v = v} some q f p h = bad_word some q f (rw (bar_low v (bar_is v (spelling_of f f.word)) h) (ap (λ (k : ℕ). Some (bad_number, k + 1)) (sym p)))
-    where
-      bar_low : (w : List ℕ) → w ≡ 124 ∷ numeral (value (drop 1 w)) → IsBarNumber w None → (nat_le 0 (value (drop 1 w)) && nat_lt (value (drop 1 w)) (suc largest)) ≡ false
-      bar_low [] e k = absurd cc
-      bar_low (b ∷ w) e k = rw (le-leb 0 (value w) (omega arith), le-ltb (value w) (suc largest) k) refl
-
-  pub bad_name : {i : Item} {to : List Item} {place : ℕ} {ds : List Demand} {new : List ℕ → List Item} {v rest : List ℕ} → t ≡ is_some s.refused → t ≡ false
-      → Front s.left.now i (name_lead ds new) v rest → place ≡ end - length s.left.now → number_of names.symbols v ≡ None
-      → Reads names end (i ∷ []) marks to s (record { left = s.left; refused = Some (UnknownName place); shares = s.shares })
-  bad_name some q f p h = bad_word some q f (rw h (ap (λ (k : ℕ). Some (unknown_name, k)) (sym p)))
-
-  pub bad_arity : {i : Item} {to new : List Item} {n b place : ℕ} {name v rest : List ℕ} {met : Bool} → t ≡ is_some s.refused → t ≡ false
-      → Front s.left.now i (check (has_arity name n) b new) v rest → meets names (has_arity name n) ≡ met → place ≡ end - length s.left.now → met ≡ false
-      → Reads names end (i ∷ []) marks to s (record { left = s.left; refused = Some (WrongArity place); shares = s.shares })
-  bad_arity some q f m p h = bad_word some q f (rw (m ∙ h) (ap (λ (k : ℕ). Some (wrong_arity, k)) (sym p)))
-
-  -- no word that may stand here
-  pub no_word : {i : Item} {to : List Item} {a : Lead} {e : CertError} → t ≡ is_some s.refused → t ≡ false → leads i ≡ a ∷ [] → is_there a s.left.now ≡ false
-      → told e ≡ Some (syntax, (end - length s.left.now) + longest (a ∷ []) s.left.now) → Reads names end (i ∷ []) marks to s (record { left = s.left; refused = Some e; shares = s.shares })
-  no_word {i} {a = a} {e} some q is f h = stop some q (stuck_one names end s.left.now s.shares i e a is f h)
-
-  pub neither_word : {i : Item} {to : List Item} {a b : Lead} {e : CertError} → t ≡ is_some s.refused → t ≡ false → leads i ≡ a ∷ b ∷ [] → is_there a s.left.now ≡ false
-      → is_there b s.left.now ≡ false → told e ≡ Some (syntax, (end - length s.left.now) + longest (a ∷ b ∷ []) s.left.now)
-      → Reads names end (i ∷ []) marks to s (record { left = s.left; refused = Some e; shares = s.shares })
-  neither_word {i} {a = a} {b} {e} some q is f g h = stop some q (stuck_two names end s.left.now s.shares i e a b is f g h)
-
-  pub none_of_three : {i : Item} {to : List Item} {a b d : Lead} {e : CertError} → t ≡ is_some s.refused → t ≡ false → leads i ≡ a ∷ b ∷ d ∷ [] → is_there a s.left.now ≡ false
-      → is_there b s.left.now ≡ false → is_there d s.left.now ≡ false → told e ≡ Some (syntax, (end - length s.left.now) + longest (a ∷ b ∷ d ∷ []) s.left.now)
-      → Reads names end (i ∷ []) marks to s (record { left = s.left; refused = Some e; shares = s.shares })
-  none_of_three {i} {a = a} {b} {d} {e} some q is f g k h = stop some q (stuck_among names end s.left.now s.shares i e (a ∷ b ∷ d ∷ []) (a ∷ b ∷ d ∷ []) is (rw f (rw g (rw k refl))) refl h)
-
--- the arity is what it must be
-pub good_arity : {names : NameTable} {end : ℕ} {s : Reading} {t : Bool} {i : Item} {to : List Item} {f n b : ℕ} {v rest : List ℕ} {met : Bool} → t ≡ is_some s.refused → t ≡ false
-    → Front s.left.now i (check (has_arity (name_of names f) n) b to) v rest → meets names (has_arity (name_of names f) n) ≡ met → met ≡ true
-    → Reads names end (i ∷ []) (λ u. behind (has_arity (u f) n) ∷ []) to s s
-good_arity {s = s} {f = f} {n} some q h m e = went (none_now some q) (none_now some q) (front_same s.shares.texts s.shares.texts refl) (check_run {d = λ u. has_arity (u f) n} h (m ∙ e) tt)
+  stop {i} {e = e} some q h = stopped e (none_now some q) refl (front_same s.shares.texts s.shares.texts refl) (stuck_stops names end i s.left.now s.shares (told e) h)
 
 -- ---- demands of several words
-
-pub too_many_there : (names : NameTable) (place least n v q most : ℕ) (what seen : Counted) → q ≡ place → (n ≡ v) × ((nat_le least v && nat_lt v (suc largest)) ≡ true)
-    → most ≡ limit what → most < n → counted_as what ≡ seen → verdict names place (in_range 0 least (suc largest) v ∷ is_few what v ∷ []) ≡ Some (too_many seen, q)
-too_many_there names place least n v q most what seen e h m lt same = rw (h.1, lt-leb v (limit what) (omega (arith, m, lt, h.0))) cc
-
-pub few_there : (names : NameTable) (place least n v most : ℕ) (what : Counted) → (n ≡ v) × ((nat_le least v && nat_lt v (suc largest)) ≡ true) → most ≡ limit what → n ≤ most
-    → verdict names place (in_range 0 least (suc largest) v ∷ is_few what v ∷ []) ≡ None
-few_there names place least n v most what h m le = let n_is = h.0 in rw (h.1, le-leb v (limit what) (omega (arith, m, le, n_is))) refl
-
-pub too_deep_there : (names : NameTable) (place level q : ℕ) → q ≡ place → 50 < level → verdict names place (is_shallow 50 level ∷ []) ≡ Some (too_deep, q)
-too_deep_there names place level q e h = rw (lt-leb level 50 h) cc
-
-pub shallow_there : (names : NameTable) (place level : ℕ) → level ≤ 50 → verdict names place (is_shallow 50 level ∷ []) ≡ None
-shallow_there names place level h = rw (le-leb level 50 h) refl
 
 pub in_range_then : (names : NameTable) (place least bound n : ℕ) (ds : List Demand) (t : Option (CertificateCause × ℕ)) → (nat_le least n && nat_lt n bound) ≡ true
     → verdict names place ds ≡ t → verdict names place (in_range 0 least bound n ∷ ds) ≡ t

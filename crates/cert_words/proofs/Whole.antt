@@ -1,11 +1,11 @@
 -- A text that is read whole, or refused.
-use Rattle.cert_words.proofs.Prelude.{◌≡◌, ◌-◌, ℕ, List, [], ◌∷◌, ◌++◌, length, drop, Option, Some, None, refl, sym, ap, ◌∙◌, subst, arith, append_assoc, NameTable, CertificateCause, Mark}
-use Rattle.cert_words.proofs.Prelude.{mark_text, marks_text, demands_of, verdict, Pass, IsCertificateRefused, Item, opening, Lead, leads, taken, Left, goes_on, behind_lead, judged}
+use Rattle.cert_words.proofs.Prelude.{◌≡◌, ◌-◌, ℕ, List, [], ◌∷◌, ◌++◌, length, drop, Option, None, refl, sym, ap, ◌∙◌, subst, arith, append_assoc, NameTable, CertificateCause, Mark}
+use Rattle.cert_words.proofs.Prelude.{mark_text, marks_text, demands_of, verdict, Pass, IsCertificateRefused, Item, opening, Lead, leads, taken, Left, behind_lead}
 use Rattle.cert_words.proofs.Prelude.{step_lead, step_items, Shared, nothing_shared, behind_mark, behind_marks, PassShares, first_sound, left_at, StepsOver, Walks, RefusesAt}
 use Rattle.cert_laws.proofs.FirstRefusals.{move_text}
 use Rattle.cert_laws.proofs.OneRefusal.{passed_anywhere}
 use Rattle.cert_sharing.proofs.ExactShared.{At, IsSharedStepOf, shared_step_is}
-use Rattle.cert_words.proofs.Walking.{goes_where, step_on}
+use Rattle.cert_words.proofs.Walking.{goes_where, step_on, judged_on}
 
 -- what the marks spell
 step_text : (names : NameTable) (l k : Left) (m : Mark) → StepsOver names l m k → l.bytes ≡ mark_text m ++ k.bytes
@@ -18,15 +18,11 @@ walks_text names [] l k w = ap (λ (x : Left). x.bytes) w
 walks_text names (m ∷ ms) l k w = step_text names l w.0 m w.1 ∙ ap (λ (b : List ℕ). mark_text m ++ b) (walks_text names ms w.0 k w.2) ∙ sym (append_assoc (mark_text m) (marks_text ms) k.bytes)
 
 -- what they ask is met
-judged_none : (v : Option (CertificateCause × ℕ)) (l k : Left) → judged v l ≡ goes_on k → v ≡ None
-judged_none None l k e = refl
-judged_none (Some x) l k e = absurd cc
-
 step_passes : (names : NameTable) (l k : Left) (m : Mark) → StepsOver names l m k → verdict names 0 (demands_of m) ≡ None
 step_passes names l k m s =
     passed_anywhere names l.at 0 (demands_of m) (ap (λ (n : Mark). verdict names l.at (demands_of n)) s.mark
-    ∙ judged_none _ (behind_lead l s.lead s.others) k (sym (ap (λ (x : Option Lead). step_lead names l x s.item s.others) s.first)
-    ∙ sym (ap (λ (x : List Item). step_items names l x) s.items) ∙ s.goes))
+    ∙ (judged_on _ (behind_lead l s.lead s.others) k (sym (ap (λ (x : Option Lead). step_lead names l x s.item s.others) s.first)
+    ∙ sym (ap (λ (x : List Item). step_items names l x) s.items) ∙ s.goes)).0)
 
 pub walks_pass : (names : NameTable) (ms : List Mark) (l k : Left) → Walks names ms l k → Pass names ms
 walks_pass names [] l k w = tt

@@ -57,19 +57,35 @@ abbrev pub IsStuckBehind : NameTable → ℕ → Item → List Mark → List ℕ
 IsStuckBehind names end i marks begun bytes s None = Unit {0}
 IsStuckBehind names end i marks begun bytes s (Some e) = length begun ≤ end → (items : List Item) (b : List ℕ) → RefusesAt names (left_at end (i ∷ items) bytes) (behind_marks marks (with_begun b s)) e
 
--- a refusal before the items behind these
-pub record StopsAt (names : NameTable) (end : ℕ) (from items : List Item) (bytes : List ℕ) (s : Shared) (e : CertificateCause × ℕ) : Type 0 where
+-- what is true of the items and of the bytes that are left
+abbrev pub Place : Type 1
+Place = List Item → List ℕ → Type 0
+
+abbrev pub Anywhere : Place
+Anywhere items bytes = Unit {0}
+
+-- the same of the items above these
+abbrev pub Above : Place → List Item → Place
+Above P items whole bytes = (i : Item) × (more : List Item) × (whole ≡ i ∷ (more ++ items)) × P (i ∷ more) bytes
+
+-- a refusal at such a place
+pub record StopsWhere (P : Place) (names : NameTable) (end : ℕ) (from : List Item) (bytes : List ℕ) (s : Shared) (e : CertificateCause × ℕ) : Type 0 where
   pub marks : List Mark
   pub item : Item
   pub more : List Item
   pub rest : List ℕ
-  pub walks : Walks names marks (left_at end (from ++ items) bytes) (left_at end (item ∷ (more ++ items)) rest)
-  pub stops : (b : List ℕ) → PassShares (with_begun b s) marks × RefusesAt names (left_at end (item ∷ (more ++ items)) rest) (behind_marks marks (with_begun b s)) e
+  pub walks : Walks names marks (left_at end from bytes) (left_at end (item ∷ more) rest)
+  pub stops : (b : List ℕ) → PassShares (with_begun b s) marks × RefusesAt names (left_at end (item ∷ more) rest) (behind_marks marks (with_begun b s)) e
+  pub place : P (item ∷ more) rest
 
 -- the same of what is told; wanting memory tells nothing
-abbrev pub IsStopped : NameTable → ℕ → List Item → List ℕ → Shared → Option (CertificateCause × ℕ) → Type 0
-IsStopped names end from bytes s None = Unit {0}
-IsStopped names end from bytes s (Some e) = length bytes ≤ end → (items : List Item) → StopsAt names end from items bytes s e
+abbrev pub IsStoppedWhere : Place → NameTable → ℕ → List Item → List ℕ → Shared → Option (CertificateCause × ℕ) → Type 0
+IsStoppedWhere P names end from bytes s None = Unit {0}
+IsStoppedWhere P names end from bytes s (Some e) = length bytes ≤ end → StopsWhere P names end from bytes s e
+
+-- before the items behind these, whatever they are
+abbrev pub IsStopped : Place → NameTable → ℕ → List Item → List ℕ → Shared → Option (CertificateCause × ℕ) → Type 0
+IsStopped P names end from bytes s t = (items : List Item) → IsStoppedWhere (Above P items) names end (from ++ items) bytes s t
 
 -- what was refused stays so; else the part is read, or refused
 abbrev pub GoesOn : Type 0 → (Option (CertificateCause × ℕ) → Type 0) → Option CertError → Option CertError → Type 0
@@ -78,16 +94,17 @@ GoesOn IsRead IsRefused (Some d) None = ⊥
 GoesOn IsRead IsRefused None (Some e) = IsRefused (told e)
 GoesOn IsRead IsRefused (Some d) (Some e) = told e ≡ told d
 
-abbrev pub ReadsOn : NameTable → ℕ → List Item → (Naming → List Mark) → List Item → List ℕ → List ℕ → Shared → Shared → Option CertError → Option CertError → Type 0
-ReadsOn names end from marks to bytes rest s t = GoesOn (Run names end from marks to bytes rest s t) (IsStopped names end from bytes s)
-
 -- texts of shared automata stay in front of those that come
 abbrev pub IsFront : List (List ℕ) → List (List ℕ) → Type 0
 IsFront old new = (more : List (List ℕ)) × (new ≡ old ++ more)
 
-pub record Reads (names : NameTable) (end : ℕ) (from : List Item) (marks : Naming → List Mark) (to : List Item) (old new : Reading) : Type 0 where
+-- what is read from these items on to those, or refused at such a place
+pub record ReadsWhere (P : Place) (names : NameTable) (end : ℕ) (from : List Item) (marks : Naming → List Mark) (to : List Item) (old new : Reading) : Type 0 where
   pub front : IsFront old.shares.texts new.shares.texts
-  pub on : ReadsOn names end from marks to old.left.now new.left.now old.shares new.shares old.refused new.refused
+  pub on : GoesOn (Run names end from marks to old.left.now new.left.now old.shares new.shares) (IsStopped P names end from old.left.now old.shares) old.refused new.refused
+
+abbrev pub Reads : NameTable → ℕ → List Item → (Naming → List Mark) → List Item → Reading → Reading → Type 0
+Reads names end from marks to old new = ReadsWhere Anywhere names end from marks to old new
 
 -- the number that digits spell, where it is in a range
 abbrev pub IsWithin : ℕ → ℕ → List ℕ → Option ℕ → Type 0

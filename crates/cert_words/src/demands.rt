@@ -51,22 +51,12 @@ pub fn value(digits: &[u8]) -> Option<u32>
     Some(value as u32)
 }
 
-// the name, and the symbol that it is of
-fn numbered<'a>(names: &Names, name: &'a str) -> Option<(&'a str, u32)>
-    ensures { MatchOption result (number_of names.now.symbols name.now ≡ None) (λ x. (x.0.now ≡ name.now) × (number_of names.now.symbols name.now ≡ Some x.1)) }
-{
-    match names.symbol_number(name) {
-        Some(f) => Some((name, f)),
-        None => None,
-    }
-}
-
-// the name as text, and the symbol that it is of
-pub fn symbol<'a>(names: &Names, name: &'a [u8]) -> Option<(&'a str, u32)>
-    ensures { MatchOption result (IsIdentifier name.now → number_of names.now.symbols name.now ≡ None) (λ x. (x.0.now ≡ name.now) × (number_of names.now.symbols name.now ≡ Some x.1)) }
+// the symbol that the name is of
+pub fn symbol(names: &Names, name: &[u8]) -> Option<u32>
+    ensures { MatchOption result (IsIdentifier name.now → number_of names.now.symbols name.now ≡ None) (λ f. number_of names.now.symbols name.now ≡ Some f) }
 {
     match str::from_utf8(name) {
-        Ok(text) => numbered(names, text),
+        Ok(text) => names.symbol_number(text),
         Err(_) => None,
     }
 }

@@ -4,15 +4,17 @@ ghost use Rattle.std.specs.Prelude.{◌≡◌, ◌≤◌, ◌+◌, ℕ, true, fa
 ghost use Rattle.cops_names.specs.NameTable.{NameTable};
 ghost use Rattle.cert_grammar.specs.Prelude.{name_of, meets, verdict, has_arity, fixed, behind, is_node, Item, leads};
 ghost use Rattle.cert_grammar.specs.Items as spec;
-ghost use Rattle.cert_words.specs.Words.{told};
+ghost use Rattle.cert_words.specs.Choices.{IsVerdict};
 ghost use Rattle.cert_words.specs.Walks.{Reads};
 ghost use Rattle.cert_words.specs.Nodes.{NodeRead, IsFoundNode, IsBarNumber};
 ghost use Rattle.cert_words.specs.declared.nodes.Next.TheVariants as next;
 
+use crate::choices::{first, judged, one_of};
 use crate::demands::{symbol, value};
 use crate::error::{CertCount, CertError};
-use crate::leads::{Lead, front, stuck};
+use crate::leads::Lead;
 use crate::reading::Reading;
+use crate::words::{place, wrong_arity};
 use cops_names::Names;
 use term_core::{MAX_DEPTH, MAX_NODES};
 
@@ -33,7 +35,7 @@ pub enum Next {
 
 // why a node may not have this depth and this number
 fn missed(depth: usize, n: usize, at: usize) -> Option<CertError>
-    ensures refused { MatchOption result ((names : NameTable) → verdict names at (is_node depth n) ≡ None) (λ e. (names : NameTable) → verdict names at (is_node depth n) ≡ told e) }
+    ensures refused { (names : NameTable) → IsVerdict names at (is_node depth n) result }
     ensures shallow { result ≡ None → depth ≤ MAX_DEPTH }
     ensures few { result ≡ None → n ≤ MAX_NODES }
 {
@@ -66,33 +68,22 @@ pub fn next_node(names: &Names, end: usize, at: &mut Reading, depth: usize, n: u
     ensures shallow { at.new.refused ≡ None → depth ≤ MAX_DEPTH }
     ensures few { at.new.refused ≡ None → n ≤ MAX_NODES }
 {
-    if at.refused.is_some() {
+    let Some(found) = first(end, at, &[Lead::Name, Lead::Variable]) else {
         return Node::Variable(0);
-    }
-    let place = end.saturating_sub(at.left.len());
-    if let Some((name, rest)) = front(Lead::Name, at.left) {
-        let Some((_, f)) = symbol(names, name) else {
-            at.refused = Some(CertError::UnknownName { at: place });
+    };
+    if found.which == 0 {
+        let Some(f) = symbol(names, found.word) else {
+            at.refused = Some(CertError::UnknownName { at: found.here });
             return Node::Variable(0);
         };
-        match missed(depth, n, place) {
-            Some(refused) => at.refused = Some(refused),
-            None => at.left = rest,
-        }
+        judged(at, found, missed(depth, n, found.here));
         return Node::Symbol(f);
     }
-    let Some((word, rest)) = front(Lead::Variable, at.left) else {
-        at.refused = Some(stuck(&[Lead::Name, Lead::Variable], at.left, end));
+    let Some(x) = bar_number(found.word) else {
+        at.refused = Some(CertError::BadNumber { at: found.here + 1 });
         return Node::Variable(0);
     };
-    let Some(x) = bar_number(word) else {
-        at.refused = Some(CertError::BadNumber { at: place + 1 });
-        return Node::Variable(0);
-    };
-    match missed(depth, n, place) {
-        Some(refused) => at.refused = Some(refused),
-        None => at.left = rest,
-    }
+    judged(at, found, missed(depth, n, found.here));
     Node::Variable(x)
 }
 
@@ -102,29 +93,20 @@ pub fn opened_or(end: usize, at: &mut Reading, met: bool) -> Next
     ensures comma { result ≡ next.Comma → (names : NameTable) (f n : ℕ) (i : Item) (new comma close : List Item) → leads i ≡ spec.text (codes "(") new ∷ spec.check (has_arity (name_of names f) n) 44 comma ∷ spec.check (has_arity (name_of names f) n) 41 close ∷ [] → meets names (has_arity (name_of names f) n) ≡ met → Reads names end (i ∷ []) (λ u. behind (has_arity (u f) n) ∷ []) comma at.old at.new }
     ensures close { result ≡ next.Close → (names : NameTable) (f n : ℕ) (i : Item) (new comma close : List Item) → leads i ≡ spec.text (codes "(") new ∷ spec.check (has_arity (name_of names f) n) 44 comma ∷ spec.check (has_arity (name_of names f) n) 41 close ∷ [] → meets names (has_arity (name_of names f) n) ≡ met → Reads names end (i ∷ []) (λ u. behind (has_arity (u f) n) ∷ []) close at.old at.new }
 {
-    if at.refused.is_some() {
-        return Next::Close;
-    }
-    if let Some((_, rest)) = front(Lead::Text(b"("), at.left) {
-        at.left = rest;
-        return Next::Open;
-    }
-    let place = end.saturating_sub(at.left.len());
-    if let Some(_) = front(Lead::Check(b','), at.left) {
-        if !met {
-            at.refused = Some(CertError::WrongArity { at: place });
-        }
-        return Next::Comma;
-    }
-    let Some(_) = front(Lead::Check(b')'), at.left) else {
-        let leads = [Lead::Text(b"("), Lead::Check(b','), Lead::Check(b')')];
-        at.refused = Some(stuck(&leads, at.left, end));
+    let leads = [Lead::Text(b"("), Lead::Check(b','), Lead::Check(b')')];
+    let Some(found) = first(end, at, &leads) else {
         return Next::Close;
     };
-    if !met {
-        at.refused = Some(CertError::WrongArity { at: place });
+    if found.which == 0 {
+        judged(at, found, None);
+        return Next::Open;
     }
-    Next::Close
+    judged(at, found, wrong_arity(met, found.here));
+    if found.which == 1 {
+        Next::Comma
+    } else {
+        Next::Close
+    }
 }
 
 /// Whether a comma comes next, or else the bracket, behind a symbol with so many arguments.
@@ -132,22 +114,14 @@ pub fn closed_or(end: usize, at: &mut Reading, met: bool) -> bool
     ensures comma { result ≡ true → (names : NameTable) (f n : ℕ) (i : Item) (comma close : List Item) → leads i ≡ spec.check (has_arity (name_of names f) n) 44 comma ∷ spec.check (has_arity (name_of names f) n) 41 close ∷ [] → meets names (has_arity (name_of names f) n) ≡ met → Reads names end (i ∷ []) (λ u. behind (has_arity (u f) n) ∷ []) comma at.old at.new }
     ensures close { result ≡ false → (names : NameTable) (f n : ℕ) (i : Item) (comma close : List Item) → leads i ≡ spec.check (has_arity (name_of names f) n) 44 comma ∷ spec.check (has_arity (name_of names f) n) 41 close ∷ [] → meets names (has_arity (name_of names f) n) ≡ met → Reads names end (i ∷ []) (λ u. behind (has_arity (u f) n) ∷ []) close at.old at.new }
 {
-    if at.refused.is_some() {
-        return false;
-    }
-    let place = end.saturating_sub(at.left.len());
-    if let Some(_) = front(Lead::Check(b','), at.left) {
-        if !met {
-            at.refused = Some(CertError::WrongArity { at: place });
-        }
-        return true;
-    }
-    let Some(_) = front(Lead::Check(b')'), at.left) else {
-        at.refused = Some(stuck(&[Lead::Check(b','), Lead::Check(b')')], at.left, end));
-        return false;
-    };
-    if !met {
-        at.refused = Some(CertError::WrongArity { at: place });
-    }
-    false
+    let here = place(end, at.left);
+    let (comma, close) = (Lead::Check(b','), Lead::Check(b')'));
+    one_of(
+        end,
+        at,
+        comma,
+        wrong_arity(met, here),
+        close,
+        wrong_arity(met, here),
+    )
 }

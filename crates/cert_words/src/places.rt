@@ -6,9 +6,10 @@ ghost use Rattle.cert_grammar.specs.Prelude.{position, places_text, places, Item
 ghost use Rattle.cert_grammar.specs.Items as spec;
 ghost use Rattle.cert_words.specs.Walks.{Reads, IsPlaces};
 
+use crate::choices::{first, judged};
 use crate::demands::LARGEST;
 use crate::error::CertError;
-use crate::leads::{Lead, front, stuck};
+use crate::leads::Lead;
 use crate::reading::Reading;
 use cert_grammar::behind;
 use std::alloc::Global;
@@ -50,16 +51,12 @@ fn places_of(alloc: Global, word: &[u8], at: usize) -> Result<Vec<u32>, CertErro
 pub fn position(alloc: Global, end: usize, at: &mut Reading) -> Vec<u32>
     ensures { (names : NameTable) (i : Item) (new : List Item) → leads i ≡ spec.position_lead new ∷ [] → Reads names end (i ∷ []) (λ u. position result.items ∷ []) new at.old at.new }
 {
-    if at.refused.is_some() {
-        return Vec::new(alloc);
-    }
-    let Some((word, rest)) = front(Lead::Position, at.left) else {
-        at.refused = Some(stuck(&[Lead::Position], at.left, end));
+    let Some(found) = first(end, at, &[Lead::Position]) else {
         return Vec::new(alloc);
     };
-    match places_of(alloc, word, end.saturating_sub(at.left.len())) {
+    match places_of(alloc, found.word, found.here) {
         Ok(places) => {
-            at.left = rest;
+            judged(at, found, None);
             places
         }
         Err(refused) => {

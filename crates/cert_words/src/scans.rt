@@ -1,6 +1,6 @@
 //! The words of a certificate byte by byte: how each word may go on.
 
-ghost use Rattle.std.specs.Prelude.{◌≡◌, ◌≤◌, ◌==◌, if◌then◌else◌, None, ◌∷◌, [], option_map, length};
+ghost use Rattle.std.specs.Prelude.{◌≡◌, ◌≤◌, ◌==◌, if◌then◌else◌, Some, None, ◌∷◌, [], option_map, length};
 ghost use Rattle.cert_grammar.specs.Scans as spec;
 ghost use Rattle.cert_words.specs.Words.{mode_view};
 
@@ -47,20 +47,11 @@ fn spelling_next(left: &'static [u8], b: u8) -> Option<Mode>
     }
 }
 
-fn byte_next(left: u8, b: u8) -> Option<Mode>
-    ensures { option_map mode_view result ≡ spec.spelling_next (left ∷ []) b }
+// this one, where a byte fits
+fn when(fits: bool, mode: Mode) -> Option<Mode>
+    ensures { option_map mode_view result ≡ (if fits then Some (mode_view mode) else None) }
 {
-    if left == b {
-        Some(Mode::Spelling(b""))
-    } else {
-        None
-    }
-}
-
-fn digit_next(mode: Mode, b: u8) -> Option<Mode>
-    ensures { option_map mode_view result ≡ spec.digit_next (mode_view mode) b }
-{
-    if is_digit(b) { Some(mode) } else { None }
+    if fits { Some(mode) } else { None }
 }
 
 // a number begins, with or without the digit 0
@@ -70,18 +61,7 @@ fn number_next(zero: Mode, more: Mode, b: u8) -> Option<Mode>
     if b == b'0' {
         Some(zero)
     } else {
-        digit_next(more, b)
-    }
-}
-
-// the next number of a position, behind a dot
-fn dot_next(b: u8) -> Option<Mode>
-    ensures { option_map mode_view result ≡ spec.dot_next b }
-{
-    if b == b'.' {
-        Some(Mode::PlaceNumber)
-    } else {
-        None
+        when(is_digit(b), more)
     }
 }
 
@@ -107,29 +87,13 @@ fn name_next_but(other: u8, b: u8) -> Option<Mode>
     if b == other { None } else { name_next(b) }
 }
 
-fn bar_next(b: u8) -> Option<Mode>
-    ensures { option_map mode_view result ≡ spec.next spec.bar_begins b }
-{
-    if b == b'|' {
-        Some(Mode::NumberBegins)
-    } else {
-        None
-    }
-}
-
-fn place_next(b: u8) -> Option<Mode>
-    ensures { option_map mode_view result ≡ spec.next spec.place_number b }
-{
-    number_next(Mode::PlaceZero, Mode::PlaceMore, b)
-}
-
 fn place_begins_next(b: u8) -> Option<Mode>
     ensures { option_map mode_view result ≡ spec.next spec.place_begins b }
 {
     if b == b'e' {
         Some(Mode::PlaceRoot)
     } else {
-        place_next(b)
+        number_next(Mode::PlaceZero, Mode::PlaceMore, b)
     }
 }
 
@@ -139,7 +103,7 @@ fn place_more_next(b: u8) -> Option<Mode>
     if is_digit(b) {
         Some(Mode::PlaceMore)
     } else {
-        dot_next(b)
+        when(b == b'.', Mode::PlaceNumber)
     }
 }
 
@@ -149,14 +113,14 @@ fn next(mode: Mode, b: u8) -> Option<Mode>
 {
     match mode {
         Mode::Spelling(left) => spelling_next(left, b),
-        Mode::Byte(left) => byte_next(left, b),
-        Mode::BarBegins => bar_next(b),
+        Mode::Byte(left) => when(left == b, Mode::Spelling(b"")),
+        Mode::BarBegins => when(b == b'|', Mode::NumberBegins),
         Mode::NumberBegins => number_next(Mode::NumberZero, Mode::NumberMore, b),
         Mode::NumberZero | Mode::PlaceRoot => None,
-        Mode::NumberMore => digit_next(Mode::NumberMore, b),
+        Mode::NumberMore => when(is_digit(b), Mode::NumberMore),
         Mode::PlaceBegins => place_begins_next(b),
-        Mode::PlaceNumber => place_next(b),
-        Mode::PlaceZero => dot_next(b),
+        Mode::PlaceNumber => number_next(Mode::PlaceZero, Mode::PlaceMore, b),
+        Mode::PlaceZero => when(b == b'.', Mode::PlaceNumber),
         Mode::PlaceMore => place_more_next(b),
         Mode::NameBegins | Mode::NameMore => name_next(b),
         Mode::NameDash => name_next_but(b'>', b),

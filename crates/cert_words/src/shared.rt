@@ -9,11 +9,12 @@ ghost use Rattle.cert_words.specs.declared.reading.Reading as read;
 ghost use Rattle.cert_words.specs.Words.{told};
 ghost use Rattle.cert_words.specs.Walks.{Reads, IsStuckAt, BeginsAnew, IsStuckBehind};
 
+use crate::choices::alone;
 use crate::demands::BOUND;
 use crate::error::{CertCount, CertError};
-use crate::leads::{Lead, front, stuck};
+use crate::leads::Lead;
 use crate::reading::Reading;
-use crate::words::{place, within};
+use crate::words::{digits, place, unused};
 use cert_shares::Share;
 
 /// The word with which an automaton begins.
@@ -21,33 +22,15 @@ pub fn begins(end: usize, at: &mut Reading, bytes: &'static [u8])
     ensures read { (names : NameTable) (i : Item) (new : List Item) → leads i ≡ spec.keyword bytes.now (shares automaton_begins ∷ []) new ∷ [] → Reads names end (i ∷ []) (λ u. word bytes.now (shares automaton_begins ∷ []) ∷ []) new at.old at.new }
     ensures here { at.old.refused ≡ None → (names : NameTable) (i : Item) (new : List Item) → leads i ≡ spec.keyword bytes.now (shares automaton_begins ∷ []) new ∷ [] → IfSome at.new.refused (λ e. IsStuckAt names end i at.old.left.now at.old.shares (told e)) }
 {
-    if at.refused.is_some() {
-        return;
-    }
-    match front(Lead::Keyword(bytes), at.left) {
-        Some((_, rest)) => at.left = rest,
-        None => at.refused = Some(stuck(&[Lead::Keyword(bytes)], at.left, end)),
-    }
+    alone(end, at, Lead::Keyword(bytes), None);
 }
 
 /// The word of the last line, at which each shared automaton is used.
 pub fn last_word(end: usize, at: &mut Reading, bytes: &'static [u8])
     ensures { (names : NameTable) (i : Item) (new : List Item) → leads i ≡ spec.keyword bytes.now (shares all_used ∷ []) new ∷ [] → Reads names end (i ∷ []) (λ u. word bytes.now (shares all_used ∷ []) ∷ []) new at.old at.new }
 {
-    if at.refused.is_some() {
-        return;
-    }
-    let Some((_, rest)) = front(Lead::Keyword(bytes), at.left) else {
-        at.refused = Some(stuck(&[Lead::Keyword(bytes)], at.left, end));
-        return;
-    };
-    if !at.shares.all_used() {
-        at.refused = Some(CertError::BadShare {
-            at: place(end, at.left),
-        });
-        return;
-    }
-    at.left = rest;
+    let missed = unused(&at.shares, place(end, at.left));
+    alone(end, at, Lead::Keyword(bytes), missed);
 }
 
 /// The number of a shared automaton, which is used.
@@ -56,33 +39,19 @@ pub fn used(end: usize, at: &mut Reading) -> u32
     ensures used { at.new.refused ≡ None → holds at.old.shares (is_use result) ≡ true }
     ensures known { at.new.refused ≡ None → at.new.shares ≡ share_effect (is_light result) (share_effect (is_use result) at.old.shares) }
 {
-    if at.refused.is_some() {
-        return 0;
-    }
-    let here = place(end, at.left);
-    let Some((word, rest)) = front(Lead::Number, at.left) else {
-        at.refused = Some(stuck(&[Lead::Number], at.left, end));
+    let Some((n, found)) = digits(end, at, 0, BOUND) else {
         return 0;
     };
-    let Some(n) = within(word, 0, BOUND) else {
-        at.refused = Some(CertError::BadNumber { at: here });
-        return 0;
-    };
+    let what = CertCount::Unfolded;
     match at.shares.take(n) {
-        Share::Good => {
-            at.left = rest;
-            n
-        }
-        Share::Bad => {
-            at.refused = Some(CertError::BadShare { at: here });
-            n
-        }
-        Share::Heavy => {
-            let what = CertCount::Unfolded;
-            at.refused = Some(CertError::TooMany { what, at: here });
-            n
-        }
+        Share::Good => at.left = found.rest,
+        Share::Bad => at.refused = Some(CertError::BadShare { at: found.here }),
+        Share::Heavy => at.refused = Some(CertError::TooMany {
+            what,
+            at: found.here,
+        }),
     }
+    n
 }
 
 /// The end of an automaton that began where these bytes were left: it differs from those before.

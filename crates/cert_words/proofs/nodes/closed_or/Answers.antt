@@ -1,18 +1,10 @@
-use Rattle.cert_words.proofs.Lemmas.{bad_arity, good_arity, neither_word, one, two}
+use Rattle.cert_words.proofs.Lemmas.{check_why, refl, name_of}
 use Rattle.cert_words.proofs.nodes.closed_or.Goals as goal
 
-pub returns-then-not-met-clause-comma : goal.returns-then-not-met-clause-comma
-returns-then-not-met-clause-comma c = λ t names f n i comma close e m. bad_arity c.is_some.ensures c.if-is_some.false (one e c.in-Some.ensures) m c.saturating_sub-place.ensures c.if-not-met.true
+pub returns-clause-comma : goal.returns-clause-comma
+returns-clause-comma c = λ t names f n i comma close e m.
+    (c.one_of.ensures.one t names i _ _ _ _ e refl refl (check_why names _ c.args.at.now f _ c.place-here.ensures (c.wrong_arity.ensures names (name_of names f) n m))).read
 
-pub returns-else-not-met-clause-comma : goal.returns-else-not-met-clause-comma
-returns-else-not-met-clause-comma c = λ t names f n i comma close e m. good_arity c.is_some.ensures c.if-is_some.false (one e c.in-Some.ensures) m c.if-not-met.false
-
-pub returns-in_default-front-clause-close : goal.returns-in_default-front-clause-close
-returns-in_default-front-clause-close c = λ t names f n i comma close e m. neither_word c.is_some.ensures c.if-is_some.false e c.in_default.ensures c.in_default-front.ensures c.stuck.ensures
-
-pub returns-then-not-met-2-clause-close : goal.returns-then-not-met-2-clause-close
-returns-then-not-met-2-clause-close c = λ t names f n i comma close e m. bad_arity c.is_some.ensures c.if-is_some.false (two e c.in_default.ensures c.in-Some-front.ensures) m
-    c.saturating_sub-place.ensures c.if-not-met-2.true
-
-pub returns-else-not-met-2-clause-close : goal.returns-else-not-met-2-clause-close
-returns-else-not-met-2-clause-close c = λ t names f n i comma close e m. good_arity c.is_some.ensures c.if-is_some.false (two e c.in_default.ensures c.in-Some-front.ensures) m c.if-not-met-2.false
+pub returns-clause-close : goal.returns-clause-close
+returns-clause-close c = λ t names f n i comma close e m.
+    (c.one_of.ensures.other t names i _ _ _ _ e refl refl (check_why names _ c.args.at.now f _ c.place-here.ensures (c.wrong_arity-2.ensures names (name_of names f) n m))).read

@@ -1,32 +1,24 @@
-use Rattle.cert_words.proofs.Lemmas.{bad_bar, bad_name, bad_word, bar_read, go, is_told, name_found, name_run, named, neither_word, one, two, variable_run}
+use Rattle.cert_words.proofs.Lemmas.{bad_bar, bad_name, front_at, name_found, name_read, named, second, variable_read, refl, ap, map, plain}
 use Rattle.cert_words.proofs.nodes.next_node.Goals as goal
 
+pub returns-in_default-clause-read : goal.returns-in_default-clause-read
+returns-in_default-clause-read c = λ i new other e. (c.in_default.ensures.at c.args.names.now i (ap (map plain) e) _ _).read
+
 pub returns-in_default-symbol-clause-read : goal.returns-in_default-symbol-clause-read
-returns-in_default-symbol-clause-read c = λ i new other e. bad_name c.is_some.ensures c.if-is_some.false (one e c.in-Some.ensures) c.saturating_sub-place.ensures
-    (c.in_default-symbol.ensures (named c.in-Some.ensures))
+returns-in_default-symbol-clause-read c = λ i new other e.
+    let f = front_at 0 e refl c.in-Some.ensures c.if-found-eq0.true in
+    (bad_name c.in-Some.ensures f (c.in_default-symbol.ensures (named f))).read
 
-pub returns-in-Some-missed-clause-read : goal.returns-in-Some-missed-clause-read
-returns-in-Some-missed-clause-read c = λ i new other e. bad_word c.is_some.ensures c.if-is_some.false (one e c.in-Some.ensures)
-    (rw c.in-Some-symbol.ensures.1 (is_told _ _ (rw c.saturating_sub-place.ensures at (c.in-Some-missed.ensures.refused c.args.names.now))))
+pub returns-then-found-eq0-clause-read : goal.returns-then-found-eq0-clause-read
+returns-then-found-eq0-clause-read c = λ i new other e. (name_read c.in-Some.ensures c.judged.ensures (front_at 0 e refl c.in-Some.ensures c.if-found-eq0.true) c.in-Some-symbol.ensures
+    (c.missed.ensures.refused c.args.names.now) tt).read
 
-pub returns-in-None-clause-read : goal.returns-in-None-clause-read
-returns-in-None-clause-read c = λ i new other e. go c.is_some.ensures c.if-is_some.false (name_run (one e c.in-Some.ensures) c.in-Some-symbol.ensures.1
-    (rw c.saturating_sub-place.ensures at (c.in-None.ensures.refused c.args.names.now)) tt)
-
-pub returns-in-None-clause-found : goal.returns-in-None-clause-found
-returns-in-None-clause-found c = λ none. name_found c.args.names.now _ _ c.in-Some-symbol.ensures.1
-
-pub returns-in_default-front-clause-read : goal.returns-in_default-front-clause-read
-returns-in_default-front-clause-read c = λ i new other e. neither_word c.is_some.ensures c.if-is_some.false e c.in_default.ensures c.in_default-front.ensures c.stuck.ensures
+pub returns-then-found-eq0-clause-found : goal.returns-then-found-eq0-clause-found
+returns-then-found-eq0-clause-found c = λ none. name_found c.args.names.now _ _ c.in-Some-symbol.ensures
 
 pub returns-in_default-bar_number-clause-read : goal.returns-in_default-bar_number-clause-read
-returns-in_default-bar_number-clause-read c = λ i new other e. bad_bar c.is_some.ensures c.if-is_some.false (two e c.in_default.ensures c.in-Some-front.ensures)
-    c.saturating_sub-place.ensures c.in_default-bar_number.ensures
+returns-in_default-bar_number-clause-read c = λ i new other e. (bad_bar c.in-Some.ensures (second e refl c.in-Some.ensures c.if-found-eq0.false) c.in_default-bar_number.ensures).read
 
-pub returns-in-Some-missed-2-clause-read : goal.returns-in-Some-missed-2-clause-read
-returns-in-Some-missed-2-clause-read c = λ i new other e. bad_word c.is_some.ensures c.if-is_some.false (two e c.in_default.ensures c.in-Some-front.ensures)
-    (rw (bar_read _ _ c.in-Some-bar_number.ensures).1 (is_told _ _ (rw c.saturating_sub-place.ensures at (c.in-Some-missed-2.ensures.refused c.args.names.now))))
-
-pub returns-in-None-missed-clause-read : goal.returns-in-None-missed-clause-read
-returns-in-None-missed-clause-read c = λ i new other e. go c.is_some.ensures c.if-is_some.false (variable_run (two e c.in_default.ensures c.in-Some-front.ensures) c.in-Some-bar_number.ensures
-    (rw c.saturating_sub-place.ensures at (c.in-None-missed.ensures.refused c.args.names.now)) tt)
+pub returns-clause-read : goal.returns-clause-read
+returns-clause-read c = λ i new other e. (variable_read c.in-Some.ensures c.judged-2.ensures (second e refl c.in-Some.ensures c.if-found-eq0.false) c.in-Some-bar_number.ensures
+    (c.missed-2.ensures.refused c.args.names.now) tt).read

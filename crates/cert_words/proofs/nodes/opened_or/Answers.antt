@@ -1,24 +1,18 @@
-use Rattle.cert_words.proofs.Lemmas.{bad_arity, go, good_arity, none_of_three, one, text_run, three, two}
+use Rattle.cert_words.proofs.Lemmas.{below, check_why, front_at, judged_word, text_run, refl, ap, map, arith, name_of, plain}
 use Rattle.cert_words.proofs.nodes.opened_or.Goals as goal
 
-pub returns-in-Some-clause-opened : goal.returns-in-Some-clause-opened
-returns-in-Some-clause-opened c = λ t names f n i new comma close e. go c.is_some.ensures c.if-is_some.false (text_run (one e c.in-Some.ensures))
+pub returns-in_default-clause-close : goal.returns-in_default-clause-close
+returns-in_default-clause-close c = λ t names f n i new comma close e m. (c.in_default.ensures.at names i (ap (map plain) e) _ _).read
 
-pub returns-then-not-met-clause-comma : goal.returns-then-not-met-clause-comma
-returns-then-not-met-clause-comma c = λ t names f n i new comma close e m. bad_arity c.is_some.ensures c.if-is_some.false (two e c.in_default.ensures c.in-Some-front.ensures) m
-    c.saturating_sub-place.ensures c.if-not-met.true
+pub returns-then-found-eq0-clause-opened : goal.returns-then-found-eq0-clause-opened
+returns-then-found-eq0-clause-opened c = λ t names f n i new comma close e. (judged_word c.in-Some.ensures c.judged.ensures (text_run (front_at 0 e refl c.in-Some.ensures c.if-found-eq0.true))).read
 
-pub returns-else-not-met-clause-comma : goal.returns-else-not-met-clause-comma
-returns-else-not-met-clause-comma c = λ t names f n i new comma close e m. good_arity c.is_some.ensures c.if-is_some.false (two e c.in_default.ensures c.in-Some-front.ensures) m c.if-not-met.false
+pub returns-then-found-eq1-clause-comma : goal.returns-then-found-eq1-clause-comma
+returns-then-found-eq1-clause-comma c = λ t names f n i new comma close e m. (judged_word c.in-Some.ensures c.judged-2.ensures
+    (check_why names _ c.args.at.now f _ c.in-Some.ensures.place (c.wrong_arity.ensures names (name_of names f) n m) _ _ (front_at 1 e refl c.in-Some.ensures c.if-found-eq1.true))).read
 
-pub returns-in_default-front-2-clause-close : goal.returns-in_default-front-2-clause-close
-returns-in_default-front-2-clause-close c = λ t names f n i new comma close e m. none_of_three c.is_some.ensures c.if-is_some.false e c.in_default.ensures
-    c.in_default-front.ensures c.in_default-front-2.ensures c.stuck.ensures
-
-pub returns-then-not-met-2-clause-close : goal.returns-then-not-met-2-clause-close
-returns-then-not-met-2-clause-close c = λ t names f n i new comma close e m. bad_arity c.is_some.ensures c.if-is_some.false
-    (three e c.in_default.ensures c.in_default-front.ensures c.in-Some-front-2.ensures) m c.saturating_sub-place.ensures c.if-not-met-2.true
-
-pub returns-else-not-met-2-clause-close : goal.returns-else-not-met-2-clause-close
-returns-else-not-met-2-clause-close c = λ t names f n i new comma close e m. good_arity c.is_some.ensures c.if-is_some.false
-    (three e c.in_default.ensures c.in_default-front.ensures c.in-Some-front-2.ensures) m c.if-not-met-2.false
+pub returns-else-found-eq1-clause-close : goal.returns-else-found-eq1-clause-close
+returns-else-found-eq1-clause-close c = λ t names f n i new comma close e m.
+    let less = below c.in-Some.ensures in
+    (judged_word c.in-Some.ensures c.judged-2.ensures (check_why names _ c.args.at.now f _ c.in-Some.ensures.place (c.wrong_arity.ensures names (name_of names f) n m) _ _
+    (front_at 2 e refl c.in-Some.ensures (omega (arith, less, c.if-found-eq0.false, c.if-found-eq1.false))))).read

@@ -4,12 +4,12 @@ use Rattle.cert_words.proofs.places.places_of.Goals as goal
 
 pub returns-then-value-gt-LARGEST : goal.returns-then-value-gt-LARGEST
 returns-then-value-gt-LARGEST c = λ names. found names c.args.at c.args.word.now (Some c.bytes.begins) (not_root c.args.word.now _ _ c.behind.ensures c.if-is_some.ensures)
-    c.requires.spelt (parts_great c.args.word.now c.bytes.place c.bytes.begins c.bytes.value c.bytes-test.true c.bytes.invariant.parts c.if-b-ne46.true
+    c.requires.spelt (parts_great c.args.word.now c.bytes.place c.bytes.begins c.bytes.value c.bytes.invariant.parts c.bytes-test.true c.if-b-ne46.true
     (rw c.saturating_sub.ensures at c.if-value-gt-LARGEST.true))
 
 pub returns-else-value-gt0 : goal.returns-else-value-gt0
 returns-else-value-gt0 c = λ names. found names c.args.at c.args.word.now (Some c.bytes.begins) (not_root c.args.word.now _ _ c.behind.ensures c.if-is_some.ensures)
-    c.requires.spelt (parts_no_number c.args.word.now c.bytes.place c.bytes.begins c.bytes.value c.bytes-test.true c.bytes.invariant.parts c.if-b-ne46.false c.if-value-gt0.false)
+    c.requires.spelt (parts_no_number c.args.word.now c.bytes.place c.bytes.begins c.bytes.value c.bytes.invariant.parts c.bytes-test.true c.if-b-ne46.false c.if-value-gt0.false)
 
 pub returns-then-value-eq0 : goal.returns-then-value-eq0
 returns-then-value-eq0 c = λ names. found names c.args.at c.args.word.now (Some c.bytes.begins) (not_root c.args.word.now _ _ c.behind.ensures c.if-is_some.ensures)

@@ -1,12 +1,9 @@
-use Rattle.cert_words.proofs.Lemmas.{begins_keeps, go, keyword_keeps, no_word, one, stuck_one}
-use Rattle.cert_words.proofs.Prelude.{refl}
+use Rattle.cert_words.proofs.Lemmas.{begins_keeps, keyword_keeps, refl}
 use Rattle.cert_words.proofs.shared.begins.Goals as goal
 
-pub returns-in-Some-clause-read : goal.returns-in-Some-clause-read
-returns-in-Some-clause-read c = λ names i new e. go c.is_some.ensures c.if-is_some.false (keyword_keeps (one e c.in-Some.ensures) (λ at. refl) (begins_keeps c.args.bytes.now c.args.at.now.shares))
+pub returns-clause-read : goal.returns-clause-read
+returns-clause-read c = λ names i new e. (c.alone.ensures.word names i _ _ _ e refl (λ w rest f. keyword_keeps f refl (begins_keeps c.args.bytes.now c.args.at.now.shares))).read
 
-pub returns-in-None-clause-read : goal.returns-in-None-clause-read
-returns-in-None-clause-read c = λ names i new e. no_word c.is_some.ensures c.if-is_some.false e c.in-None.ensures c.stuck.ensures
-
-pub returns-in-None-clause-here : goal.returns-in-None-clause-here
-returns-in-None-clause-here c = λ none names i new e. stuck_one names c.args.end c.args.at.now.left.now c.args.at.now.shares i _ _ e c.in-None.ensures c.stuck.ensures
+pub returns-clause-here : goal.returns-clause-here
+returns-clause-here c = λ none names i new e. (c.alone.ensures.word names i _ (λ u. _) _ e refl
+    (λ w rest f. keyword_keeps f refl (begins_keeps c.args.bytes.now c.args.at.now.shares))).here none

@@ -1,5 +1,4 @@
-use Rattle.cert_words.proofs.Lemmas.{end_read, end_stuck, end_stopped, none_now}
-use Rattle.cert_words.proofs.Prelude.{refl}
+use Rattle.cert_words.proofs.Lemmas.{end_read, end_stuck, end_stopped, none_now, refl}
 use Rattle.cert_words.proofs.shared.ended.Goals as goal
 
 pub returns-in-Ok-true-clause-read : goal.returns-in-Ok-true-clause-read

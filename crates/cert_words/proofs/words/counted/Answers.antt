@@ -1,9 +1,8 @@
-use Rattle.cert_words.proofs.Lemmas.{as_counted}
-use Rattle.cert_words.proofs.Prelude.{sym, counted_view}
+use Rattle.cert_words.proofs.Lemmas.{as_counted, sym, counted_view}
 use Rattle.cert_words.proofs.words.counted.Goals as goal
 
 pub returns-clause-read : goal.returns-clause-read
-returns-clause-read c = λ names i new e. c.few.ensures.read names i new (counted_view c.args.what) (as_counted c.args.what) (sym c.limit.ensures) e
+returns-clause-read c = λ names i new e. (c.few.ensures names i new (counted_view c.args.what) (as_counted c.args.what) (sym c.limit.ensures) e).read
 
 pub returns-clause-here : goal.returns-clause-here
-returns-clause-here c = λ none names i new e. c.few.ensures.here none names i new (counted_view c.args.what) (as_counted c.args.what) (sym c.limit.ensures) e
+returns-clause-here c = λ none names i new e. (c.few.ensures names i new (counted_view c.args.what) (as_counted c.args.what) (sym c.limit.ensures) e).here none

@@ -1,12 +1,13 @@
-use Rattle.cert_words.proofs.Lemmas.{bad_name, go, name_run, named, no_word, one}
-use Rattle.cert_words.proofs.Prelude.{refl}
+use Rattle.cert_words.proofs.Lemmas.{bad_name, name_read, named, only, refl, ap, map, plain}
 use Rattle.cert_words.proofs.words.name.Goals as goal
 
-pub returns-in-Some-symbol : goal.returns-in-Some-symbol
-returns-in-Some-symbol c = λ i new e. go c.is_some.ensures c.if-is_some.false (name_run (one e c.in-Some.ensures) c.in-Some-symbol.ensures.1 refl tt)
-
-pub returns-in-None : goal.returns-in-None
-returns-in-None c = λ i new e. bad_name c.is_some.ensures c.if-is_some.false (one e c.in-Some.ensures) c.place.ensures (c.in-None.ensures (named c.in-Some.ensures))
-
 pub returns-in_default : goal.returns-in_default
-returns-in_default c = λ i new e. no_word c.is_some.ensures c.if-is_some.false e c.in_default.ensures c.stuck.ensures
+returns-in_default c = λ i new e. (c.in_default.ensures.at c.args.names.now i (ap (map plain) e) _ _).read
+
+pub returns-in_default-symbol : goal.returns-in_default-symbol
+returns-in_default-symbol c = λ i new e.
+    let f = only e refl c.in-Some.ensures in
+    (bad_name c.in-Some.ensures f (c.in_default-symbol.ensures (named f))).read
+
+pub returns : goal.returns
+returns c = λ i new e. (name_read c.in-Some.ensures c.judged.ensures (only e refl c.in-Some.ensures) c.in-Some-symbol.ensures refl tt).read

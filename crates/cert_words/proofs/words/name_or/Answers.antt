@@ -1,18 +1,20 @@
-use Rattle.cert_words.proofs.Lemmas.{bad_name, go, name_found, name_run, named, neither_word, one, text_run, two}
-use Rattle.cert_words.proofs.Prelude.{refl}
+use Rattle.cert_words.proofs.Lemmas.{bad_name, front_at, judged_word, name_found, name_read, named, second, text_run, refl, ap, map, plain}
 use Rattle.cert_words.proofs.words.name_or.Goals as goal
 
-pub returns-in-Some-symbol-clause-name : goal.returns-in-Some-symbol-clause-name
-returns-in-Some-symbol-clause-name c = λ i new other e. go c.is_some.ensures c.if-is_some.false (name_run (one e c.in-Some.ensures) c.in-Some-symbol.ensures.1 refl tt)
+pub returns-in_default-clause-other : goal.returns-in_default-clause-other
+returns-in_default-clause-other c = λ i new other e. (c.in_default.ensures.at c.args.names.now i (ap (map plain) e) _ _).read
 
-pub returns-in-Some-symbol-clause-found : goal.returns-in-Some-symbol-clause-found
-returns-in-Some-symbol-clause-found c = name_found c.args.names.now _ _ c.in-Some-symbol.ensures.1
+pub returns-then-found-ne0-clause-other : goal.returns-then-found-ne0-clause-other
+returns-then-found-ne0-clause-other c = λ i new other e. (judged_word c.in-Some.ensures c.judged.ensures (text_run (second e refl c.in-Some.ensures c.if-found-ne0.true))).read
 
-pub returns-in-None-clause-other : goal.returns-in-None-clause-other
-returns-in-None-clause-other c = λ i new other e. bad_name c.is_some.ensures c.if-is_some.false (one e c.in-Some.ensures) c.place.ensures (c.in-None.ensures (named c.in-Some.ensures))
+pub returns-in_default-symbol-clause-other : goal.returns-in_default-symbol-clause-other
+returns-in_default-symbol-clause-other c = λ i new other e.
+    let f = front_at 0 e refl c.in-Some.ensures c.if-found-ne0.false in
+    (bad_name c.in-Some.ensures f (c.in_default-symbol.ensures (named f))).read
 
-pub returns-in-Some-front-clause-other : goal.returns-in-Some-front-clause-other
-returns-in-Some-front-clause-other c = λ i new other e. go c.is_some.ensures c.if-is_some.false (text_run (two e c.in_default.ensures c.in-Some-front.ensures))
+pub returns-clause-name : goal.returns-clause-name
+returns-clause-name c = λ i new other e.
+    (name_read c.in-Some.ensures c.judged-2.ensures (front_at 0 e refl c.in-Some.ensures c.if-found-ne0.false) c.in-Some-symbol.ensures refl tt).read
 
-pub returns-in-None-front-clause-other : goal.returns-in-None-front-clause-other
-returns-in-None-front-clause-other c = λ i new other e. neither_word c.is_some.ensures c.if-is_some.false e c.in_default.ensures c.in-None-front.ensures c.stuck.ensures
+pub returns-clause-found : goal.returns-clause-found
+returns-clause-found c = name_found c.args.names.now _ _ c.in-Some-symbol.ensures

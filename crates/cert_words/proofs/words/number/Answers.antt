@@ -1,13 +1,8 @@
-use Rattle.cert_words.proofs.Lemmas.{bad_numeral, go, no_word, number_run, one}
-use Rattle.cert_words.proofs.Prelude.{refl}
+use Rattle.cert_words.proofs.Lemmas.{numeral_read, refl}
 use Rattle.cert_words.proofs.words.number.Goals as goal
 
 pub returns-in_default-clause-read : goal.returns-in_default-clause-read
-returns-in_default-clause-read c = λ names i new e. no_word c.is_some.ensures c.if-is_some.false e c.in_default.ensures c.stuck.ensures
+returns-in_default-clause-read c = λ names i new e. (c.in_default.ensures.at names i (_, new, e) _ _).read
 
-pub returns-in-Some-within-clause-read : goal.returns-in-Some-within-clause-read
-returns-in-Some-within-clause-read c = λ names i new e. go c.is_some.ensures c.if-is_some.false
-    (number_run (one e c.in-Some.ensures) c.in-Some-within.ensures.0 (λ at. rw c.in-Some-within.ensures.1 refl) (λ k. tt))
-
-pub returns-in-None-clause-read : goal.returns-in-None-clause-read
-returns-in-None-clause-read c = λ names i new e. bad_numeral c.is_some.ensures c.if-is_some.false (one e c.in-Some.ensures) c.place.ensures c.in-None.ensures
+pub returns-clause-read : goal.returns-clause-read
+returns-clause-read c = λ names i new e. (numeral_read c.in-Some.ensures.0 c.judged.ensures e refl c.in-Some.ensures.1 refl (λ k. tt)).read

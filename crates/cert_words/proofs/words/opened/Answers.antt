@@ -1,15 +1,9 @@
-use Rattle.cert_words.proofs.Lemmas.{bad_arity, go, good_arity, neither_word, one, text_run, two}
+use Rattle.cert_words.proofs.Lemmas.{check_why, text_run, refl, name_of}
 use Rattle.cert_words.proofs.words.opened.Goals as goal
 
-pub returns-in-Some-clause-opened : goal.returns-in-Some-clause-opened
-returns-in-Some-clause-opened c = λ t names f n i new other e. go c.is_some.ensures c.if-is_some.false (text_run (one e c.in-Some.ensures))
+pub returns-clause-opened : goal.returns-clause-opened
+returns-clause-opened c = λ t names f n i new other e. (c.one_of.ensures.one t names i _ _ _ _ e refl refl (λ w rest g. text_run g)).read
 
-pub returns-in_default-front-clause-none : goal.returns-in_default-front-clause-none
-returns-in_default-front-clause-none c = λ t names f n i new other e m. neither_word c.is_some.ensures c.if-is_some.false e c.in_default.ensures c.in_default-front.ensures c.stuck.ensures
-
-pub returns-then-not-met-clause-none : goal.returns-then-not-met-clause-none
-returns-then-not-met-clause-none c = λ t names f n i new other e m. bad_arity c.is_some.ensures c.if-is_some.false
-    (two e c.in_default.ensures c.in-Some-front.ensures) m c.place.ensures c.if-not-met.true
-
-pub returns-else-not-met-clause-none : goal.returns-else-not-met-clause-none
-returns-else-not-met-clause-none c = λ t names f n i new other e m. good_arity c.is_some.ensures c.if-is_some.false (two e c.in_default.ensures c.in-Some-front.ensures) m c.if-not-met.false
+pub returns-clause-none : goal.returns-clause-none
+returns-clause-none c = λ t names f n i new other e m.
+    (c.one_of.ensures.other t names i _ _ _ _ e refl refl (check_why names _ c.args.at.now f _ c.place.ensures (c.wrong_arity-missed.ensures names (name_of names f) n m))).read
