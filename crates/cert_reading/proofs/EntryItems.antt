@@ -3,9 +3,7 @@ use Rattle.cert_grammar.specs.Prelude.{Step}
 use Rattle.cert_reading.proofs.Prelude.{◌≡◌, inl, inr, ℕ, List, [], ◌∷◌, codes, max, arith, Option, Some, None, refl, sym, ap, ◌∙◌, subst, NameTable, name_of, CertificateCause, Naming}
 use Rattle.cert_reading.proofs.Prelude.{Mark, Item, Lead, keyword, leads, pair_or_end, pairs_from, space, between, any_number, Version, is_few, entries, first_there, longest, Left}
 use Rattle.cert_reading.proofs.Prelude.{accepts, refuses, goes_on, step, Shared, behind_marks, PassShares, after_step, shared_step, with_begun, BeginsEntry, left_at, Walks, Run}
-use Rattle.cert_reading.proofs.Prelude.{RefusesAt, SymbolAt, Place, StopsWhere, IsStoppedWhere, ◌+◌, ◌-◌, suc, ◌++◌, length, syntax, first_version, second_version, Reading, reads_as}
-use Rattle.cert_reading.proofs.Prelude.{Above, IsStopped, ReadsWhere, told}
-use Rattle.cert_reading.proofs.Opening.{entry_at, head_at}
+use Rattle.cert_reading.proofs.Prelude.{RefusesAt, SymbolAt, Place, StopsWhere, IsStoppedWhere}
 
 zero_most : (x : ℕ) → max 0 (max 0 x) ≡ x
 zero_most x = omega arith

@@ -1,8 +1,8 @@
 -- Parts one behind another, with the places where they are refused.
-use Rattle.cert_reading.proofs.Prelude.{inl, inr, codes, ◌≡◌, ◌≤◌, ℕ, suc, List, [], ◌∷◌, ◌++◌, Some, None, IfSome, refl, subst, arith, NameTable, name_of}
+use Rattle.cert_reading.proofs.Prelude.{inl, inr, codes, ◌≡◌, ◌≤◌, ℕ, suc, List, [], ◌∷◌, ◌++◌, None, IfSome, refl, subst, arith, NameTable, name_of}
 use Rattle.cert_reading.proofs.Prelude.{Naming, Mark, Item, between, line, pairs_from, Version, Reading, told, IsStuckAt, Run}
 use Rattle.cert_reading.proofs.Prelude.{IsStuckBehind, Reads, reads_as, stuck_where, sealed_stops, other_stop, Above}
-use Rattle.cert_reading.proofs.Prelude.{framed_where, open_before, read_run, Place, ReadsWhere, Anywhere, lowest, IsBehind, AreBehind, WithinOpening}
+use Rattle.cert_reading.proofs.Prelude.{framed_where, read_run, Place, ReadsWhere, Anywhere, lowest, IsBehind, AreBehind, WithinOpening}
 use Rattle.cert_reading.proofs.Prelude.{WithinEntry, is_some, Bool, true, some_now, framed, then_reads, already}
 pub use Rattle.cert_words.proofs.Walking.{stop_behind, other_stop, stopped_where, then_reads as then_where, as_reads as as_where, as_marks as as_marks_where}
 pub use Rattle.cert_words.proofs.Walking.{then_nothing as then_nothing_where, open_before as open_before_where}
