@@ -249,22 +249,17 @@ module _ {v : Version} {shared : List Automaton} {names : NameTable} {bytes left
         refused_behind names bytes rest (λ x. read_marks x w shared u.given u.opening u.entries ++ closing) at refl some e run
 
   module _ (e : CertError) (s : IsStoppedWhere (WithinEntry v n left) names (length bytes) (pairs_from v n ∷ []) left now (told e)) where
-    stop : IsStoppedWhere (WithinEntry v n left) names (length bytes) (u.item ∷ []) left now (told e)
-    stop = next_stop names (length bytes) v n u.item left now (told e) next s
+    -- seen from the first byte on
+    stops : IsStoppedWhere (WithinEntry v n left) names (length bytes) (Items.opening ∷ []) bytes nothing_shared (told e)
+    stops = stop_behind (WithinEntry v n left) names (length bytes) (Items.opening ∷ []) (u.item ∷ []) (λ x. read_marks x (uses_with v names shared) shared u.given u.opening u.entries)
+        bytes left nothing_shared now (told e) u.run (next_stop names (length bytes) v n u.item left now (told e) next s)
 
     pub refused_there : IsRefusedAs names bytes e
-    refused_there =
-        refused_as names bytes e refl
-        (other_stop (WithinEntry v n left) Anywhere (λ items q h. tt) names (length bytes) (Items.opening ∷ []) bytes nothing_shared (told e)
-        (stop_behind (WithinEntry v n left) names (length bytes) (Items.opening ∷ []) (u.item ∷ [])
-        (λ x. read_marks x (uses_with v names shared) shared u.given u.opening u.entries) bytes left nothing_shared now (told e) u.run stop))
+    refused_there = refused_as names bytes e refl (other_stop (WithinEntry v n left) Anywhere (λ items q h. tt) names (length bytes) (Items.opening ∷ []) bytes nothing_shared (told e) stops)
 
     -- nothing is told of a text that goes on
     pub not_told : (o : Opening) (es : List math.PairEntry) → HasRead (up_to names bytes left) o es → IsAll (up_to names bytes left) o es → told e ≡ None
     not_told o es h k = none_if (told e) (λ x q. never_both names bytes (certificate_for o es) x.0 x.1 k (refused_as_told names bytes e x.0 x.1 refused_there q))
 
     pub not_told_at : (o : Opening) (es : List math.PairEntry) (p : math.PairEntry) (place : ℕ) → HasRead (up_to names bytes left) o es → IsRead names bytes o (es ++ p ∷ []) place → told e ≡ None
-    not_told_at o es p place h k = none_if (told e) (λ x q.
-        let at_item = subst (IsStoppedWhere (WithinEntry v n left) names (length bytes) (u.item ∷ []) left now) q stop in
-        let there = subst (λ (m : ℕ). IsStoppedWhere (WithinEntry v m left) names (length bytes) (u.item ∷ []) left now (Some x)) is_n at_item in
-        in_entry v shared names bytes left count now u x (there within) o es p place h k)
+    not_told_at o es p place h k = none_if (told e) (λ x q. in_entry v shared names bytes left count now u x ((rw (q, is_n) at stops) (omega arith)) o es p place h k)

@@ -10,6 +10,9 @@ use Rattle.cert_laws.proofs.LeadTables.{In}
 use Rattle.cert_laws.proofs.OneRefusal.{passed_anywhere}
 use Rattle.cert_laws.proofs.PassTerms.{pass_append}
 use Rattle.cert_laws.proofs.Moves.{There}
+use Rattle.cert_openings.proofs.Along.{Along}
+use Rattle.cert_sharing.proofs.ExactShared.{At}
+use Rattle.cert_text.proofs.Prelude.{name_of, Opening, PairEntry, Gone, gone_along, Place, StopsWhere, opening, nothing_shared, read_marks, walks_at, start_at, length}
 use Rattle.cert_grammar.specs.FirstRefusal as machine
 
 -- ---- two readers of the same bytes
@@ -39,18 +42,29 @@ never_refused names end i s m b behind new z e h v w r =
     let on = step_on names l (behind_lead l k.lead s) m z (record { item = i; others = s; items = refl; lead = k.lead; first = first; mark = sym mark; goes = goes }) w in
     ends_or_further (machine.refused e.0 e.1) (behind_lead l k.lead s) (behind_mark m z) (sym on ∙ r)
 
--- a reader that stops has gone along what passes
-pub stops_ahead : (names : NameTable) (end : ℕ) (f g : List Mark) (s t : List Item) (b r : List ℕ) (i : Item) (more : List Item) (q : List ℕ) (a z : Shared)
-    (e : CertificateCause × ℕ) → Moves f s b t r → Pass names f → PassShares a f → Moves g s b (i ∷ more) q → z ≡ behind_marks g a → RefusesAt names (left_at end (i ∷ more) q) z e
-    → (ms : List Mark) × Moves ms t r (i ∷ more) q
-stops_ahead names end f g s t b r i more q a z e h p w k is x = by (meet f g s t (i ∷ more) b r q h k)
+-- a reader that stops has gone along an opening and entries that stand there
+pub past : {names : NameTable} {bytes : List ℕ} {o : Opening} {es : List PairEntry} {end : ℕ} {P : Place} {e : CertificateCause × ℕ} (a : Gone names bytes o es end)
+    (s : StopsWhere P names (length bytes) (opening ∷ []) bytes nothing_shared e) → (ms : List Mark) × Moves ms ((gone_along names bytes o es end a).item ∷ []) a.rest (s.item ∷ s.more) s.rest
+past {names} {bytes} {o} {es} {end} {e = e} a s = by (meet own r.reached.front (opening ∷ []) (al.item ∷ []) (s.item ∷ s.more) bytes a.rest s.rest al.moves r.reached.moves)
   where
-    by : Meet f g t r (i ∷ more) q → (ms : List Mark) × Moves ms t r (i ∷ more) q
-    by (ahead ms e y) = (ms, y)
-    by (behind_it m ms v y) =
-        let there = (pass_split g (m ∷ ms) a (subst (PassShares a) v w)).1.0 in
-        absurd (never_refused names end i more m q y.1 y.0 (behind_marks g a) e y.2 (pass_append names g (m ∷ ms) (subst (Pass names) v p)).1.0 there
-        (subst (λ (c : Shared). RefusesAt names (left_at end (i ∷ more) q) c e) is x))
+    own : List Mark
+    own = read_marks (name_of names) a.uses a.shared a.answer o es
+
+    al : Along own bytes a.rest
+    al = gone_along names bytes o es end a
+
+    z : Shared
+    z = behind_marks s.marks nothing_shared
+
+    r : At names bytes (left_at (length bytes) (s.item ∷ s.more) s.rest) z
+    r = walks_at names bytes s.marks _ _ nothing_shared (start_at names bytes) s.walks (s.stops []).0
+
+    by : Meet own r.reached.front (al.item ∷ []) a.rest (s.item ∷ s.more) s.rest → (ms : List Mark) × Moves ms (al.item ∷ []) a.rest (s.item ∷ s.more) s.rest
+    by (ahead ms q y) = (ms, y)
+    by (behind_it m ms q y) =
+        let front = r.reached.front in
+        absurd (never_refused names (length bytes) s.item s.more m s.rest y.1 y.0 z e y.2 (pass_append names front (m ∷ ms) (subst (Pass names) q a.spells.passed)).1.0
+        (rw (← r.is) at (pass_split front (m ∷ ms) nothing_shared (subst (PassShares nothing_shared) q a.pass_shared)).1.0) (s.stops []).1)
 
 -- ---- the items behind a mark, by each lead of an item
 

@@ -1,5 +1,5 @@
 -- Texts that are read up to a body, or behind the word of its kind.
-use Rattle.cert_text.proofs.Prelude.{◌≡◌, ℕ, Bool, List, [], ◌∷◌, ◌++◌, length, Option, Some, None, codes, refl, sym, ap, ◌∙◌, subst, arith, append_assoc, append-nil, Automaton, PairEntry}
+use Rattle.cert_text.proofs.Prelude.{◌≡◌, ℕ, Bool, List, [], ◌∷◌, ◌++◌, length, Option, Some, None, codes, refl, sym, ap, ◌∙◌, arith, append_assoc, append-nil, Automaton, PairEntry}
 use Rattle.cert_text.proofs.Prelude.{Simplification, Certificate, simplified_certificate, NameTable, name_of, Version, first_version, second_version, Uses, number_in, CertificateCause, Naming, Mark}
 use Rattle.cert_text.proofs.Prelude.{fixed, marks_text, answer_marks, heading_marks, body_marks, closing, certificate_marks, HaveNames, Item, opening, between, line, nothing_shared, AreStill}
 use Rattle.cert_text.proofs.Prelude.{counts_still, lines_text, Opening, certificate_for, uses_with, IsOpeningEnd, IsOpened, no_peak, CertError, told, IsRefusedAs, Run, Reads, walks_text, kind_mark}
@@ -154,10 +154,7 @@ module _ {names : NameTable} {bytes : List ℕ} {v : Version} {shared : List Aut
 
   -- before it
   pub none_before : (d : CertError) → s.refused ≡ Some d → (x : CertificateCause × ℕ) → told d ≡ Some x → (o : Opening) (end : ℕ) → IsOpened names bytes o end → ⊥
-  none_before d q x t o end h =
-      let P = WithinOpening (version_in names bytes o end h.read) in
-      unopened names bytes x o end h (subst (IsStoppedWhere P names (length bytes) (opening ∷ []) bytes nothing_shared) t
-      (stop_of d q (elsewhere (λ is r p. p (version_in names bytes o end h.read)) b.read)) (omega arith))
+  none_before d q x t o end h = unopened names bytes o end h (told d) x t (stop_of d q (elsewhere (λ is r p. p (version_in names bytes o end h.read)) b.read))
 
   -- or behind it
   pub none_behind : {f : Naming → List Mark} {to : List Item} {t : Reading} (e : CertError) → t.refused ≡ Some e → ReadsWhere (WithinOpening v) names (length bytes) items f to s t
@@ -167,11 +164,7 @@ module _ {names : NameTable} {bytes : List ℕ} {v : Version} {shared : List Aut
       by : (r : Option CertError) → s.refused ≡ r → ⊥
       by (Some d) r = none_before d r x (sym (same_told h d e r q) ∙ told_is) o end i
       by None r =
-          let stop = stop_of e q (then_where (elsewhere (λ is k p. p v) b.read) h) in
-          let P = WithinOpening (version_in names bytes o end i.read) in
-          unopened names bytes x o end i (subst (IsStoppedWhere P names (length bytes) (opening ∷ []) bytes nothing_shared) told_is
-          (subst (λ (w : Version). IsStoppedWhere (WithinOpening w) names (length bytes) (opening ∷ []) bytes nothing_shared (told e)) (sym (version_there r o end i)) stop)
-          (omega arith))
+          unopened names bytes o end i (told e) x told_is (rw (version_there r o end i) (stop_of e q (then_where (elsewhere (λ is k p. p v) b.read) h)))
 
 -- ---- peaks
 
