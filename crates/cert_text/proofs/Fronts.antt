@@ -1,15 +1,15 @@
 -- Texts that are read up to a body, or behind the word of its kind.
-use Rattle.cert_text.proofs.Prelude.{◌≡◌, ℕ, Bool, List, [], ◌∷◌, ◌++◌, length, Option, Some, None, codes, refl, sym, ap, ◌∙◌, arith, append_assoc, append-nil, Automaton, PairEntry}
+use Rattle.cert_text.proofs.Prelude.{◌≡◌, ℕ, Bool, List, [], ◌∷◌, ◌++◌, length, Option, Some, None, codes, refl, sym, ap, ◌∙◌, arith, append_assoc, append-nil, Automaton}
 use Rattle.cert_text.proofs.Prelude.{Simplification, Certificate, simplified_certificate, NameTable, name_of, Version, first_version, second_version, Uses, number_in, CertificateCause, Naming, Mark}
 use Rattle.cert_text.proofs.Prelude.{fixed, marks_text, answer_marks, heading_marks, body_marks, closing, certificate_marks, HaveNames, Item, opening, between, line, nothing_shared, AreStill}
 use Rattle.cert_text.proofs.Prelude.{counts_still, lines_text, Opening, certificate_for, uses_with, IsOpeningEnd, IsOpened, no_peak, CertError, told, IsRefusedAs, Run, Reads, walks_text, kind_mark}
 use Rattle.cert_text.proofs.Prelude.{item_by, Peak, Place, IsStoppedWhere, ReadsWhere, WithinOpening, BeforeEntries, Anywhere, walks_named, kind_item, then_where, as_marks_where, low_where}
-use Rattle.cert_text.proofs.Prelude.{elsewhere, anywhere, reads_anywhere, open_before_where, ran, stopped_where, low_unopened, known_where, read_marks, IsToldBefore, steps_marks, opening_behind}
+use Rattle.cert_text.proofs.Prelude.{elsewhere, anywhere, reads_anywhere, open_before_where, ran, stopped_where, low_unopened, known_where, read_marks, steps_marks, opening_behind}
 use Rattle.cert_text.proofs.Prelude.{CanStep, front_marks, IsBegun, BeginsBody}
 use Rattle.cert_laws.proofs.Spelt.{have_append, text_both}
 use Rattle.cert_openings.proofs.OwnLines.{Own, no_lines, own_marks, own_front, own_simplify}
 use Rattle.cert_sharing.proofs.SpeltShares.{same_version}
-use Rattle.cert_openings.proofs.Bare.{openings_end}
+use Rattle.cert_text.specs.OpenedText.{IsBad}
 use Rattle.cert_openings.proofs.BadOpenings.{bad_openings_are_refused}
 use Rattle.cert_words.specs.declared.reading.Reading.{Reading}
 use Rattle.cert_reading.specs.declared.headings.Kind.{Kind}
@@ -34,18 +34,12 @@ begun_on {names} {bytes} {v} {shared} {given} {steps} {further} {items} {s} {t} 
   can_step = λ none. b.can_step (open_before_where h none);
 }
 
--- behind the line of the kind
-line_behind : {names : NameTable} {bytes : List ℕ} {v : Version} {shared : List Automaton} {kind : Kind} {s t : Reading} → (b : BeginsBody names bytes v shared kind s)
-    → Reads names (length bytes) (between line ∷ []) (λ u. fixed (codes "\n") ∷ []) [] s t
-    → IsBegun names bytes v shared b.given b.steps (kind_mark b.given kind ∷ fixed (codes "\n") ∷ []) (item_by v kind ∷ []) t
-line_behind {v = v} {kind = kind} b h = begun_on (fixed (codes "\n") ∷ []) (item_by v kind ∷ []) b.begun (tt, tt)
-    (low_where (item_by v kind) (λ i m q w. low_unopened w (item_by v kind) (kind_item v w kind) i m q) h)
-
--- of a kind that is known, as the code writes uses
-pub line_of : {names : NameTable} {bytes : List ℕ} {v w : Version} {shared all : List Automaton} {kind : Kind} {s t : Reading} (k : Kind) → kind ≡ k → w ≡ v → all ≡ shared
-    → (b : BeginsBody names bytes v shared kind s) → Reads names (length bytes) (between line ∷ []) (λ u. fixed (codes "\n") ∷ []) [] s t
-    → IsBegun names bytes w all b.given b.steps (kind_mark b.given k ∷ fixed (codes "\n") ∷ []) (item_by w k ∷ []) t
-line_of k e p q b h = rw (← e, p, q) (line_behind b h)
+-- behind the line of a kind that is known, as the code writes uses
+pub line_of : {names : NameTable} {bytes : List ℕ} {v w : Version} {shared all : List Automaton} {steps : Option (List Simplification)} {kind : Kind} {s t : Reading} (k : Kind) → kind ≡ k
+    → w ≡ v → all ≡ shared → (b : BeginsBody names bytes v shared steps kind s) → Reads names (length bytes) (between line ∷ []) (λ u. fixed (codes "\n") ∷ []) [] s t
+    → IsBegun names bytes w all b.given steps (kind_mark b.given k ∷ fixed (codes "\n") ∷ []) (item_by w k ∷ []) t
+line_of {v = v} {kind = kind} k e p q b h = rw (← e, p, q) (begun_on (fixed (codes "\n") ∷ []) (item_by v kind ∷ []) b.begun (tt, tt)
+    (low_where (item_by v kind) (λ i m q w. low_unopened w (item_by v kind) (kind_item v w kind) i m q) h))
 
 -- ---- the marks from the first one on
 
@@ -53,34 +47,15 @@ abbrev pub certificate_behind : Option (List Simplification) → Certificate →
 certificate_behind None c = c
 certificate_behind (Some steps) c = simplified_certificate steps c
 
-front_body : (steps : Option (List Simplification)) (u : Naming) (w : Uses) (shared : List Automaton) (given : Option Bool) (c : Certificate)
-    → front_marks u w shared given steps ++ body_marks u w given c ≡ answer_marks given ++ (heading_marks u w shared ++ body_marks u w given (certificate_behind steps c))
-front_body None u w shared given c = cc (append-nil (heading_marks u w shared), append_assoc (answer_marks given) (heading_marks u w shared) (body_marks u w given c))
-front_body (Some ss) u w shared given c =
-    cc (
-      append_assoc (answer_marks given) (heading_marks u w shared ++ steps_marks u w (Some ss)) (body_marks u w given c),
-      append_assoc (heading_marks u w shared) (steps_marks u w (Some ss)) (body_marks u w given c),
-    )
-
-pub behind_is : (steps : Option (List Simplification)) (o : Opening) (es : List PairEntry) → certificate_behind steps (certificate_for o es) ≡ certificate_for (opening_behind steps o) es
-behind_is None o es = refl
-behind_is (Some ss) o es = refl
-
 front_read : (steps : Option (List Simplification)) (u : Naming) (w : Uses) (shared : List Automaton) (given : Option Bool) (o : Opening)
     → front_marks u w shared given steps ++ body_marks u w given (certificate_for o []) ≡ read_marks u w shared given (opening_behind steps o) []
-front_read steps u w shared given o = front_body steps u w shared given (certificate_for o [])
-    ∙ ap (λ (c : Certificate). answer_marks given ++ (heading_marks u w shared ++ body_marks u w given c)) (behind_is steps o [])
+front_read None u w shared given o = simp (append_assoc, append-nil)
+front_read (Some ss) u w shared given o = simp append_assoc
 
 front_whole : (steps : Option (List Simplification)) (u : Naming) (w : Uses) (shared : List Automaton) (given : Option Bool) (c : Certificate)
     → front_marks u w shared given steps ++ (body_marks u w given c ++ closing) ≡ certificate_marks u w shared given (certificate_behind steps c)
-front_whole steps u w shared given c =
-    let body = body_marks u w given (certificate_behind steps c) in
-    cc (
-      front_body steps u w shared given c,
-      append_assoc (front_marks u w shared given steps) (body_marks u w given c) closing,
-      append_assoc (answer_marks given) (heading_marks u w shared ++ body) closing,
-      append_assoc (heading_marks u w shared) body closing,
-    )
+front_whole None u w shared given c = simp (append_assoc, append-nil)
+front_whole (Some ss) u w shared given c = simp append_assoc
 
 -- ---- what was refused stays so
 
@@ -135,11 +110,6 @@ module _ {names : NameTable} {bytes : List ℕ} {v : Version} {shared : List Aut
       → ReadsWhere P names (length bytes) (opening ∷ []) f to b.start t → IsStoppedWhere P names (length bytes) (opening ∷ []) bytes nothing_shared (told e)
   stop_of e q h = rw (b.all_left, b.fresh) at (stopped_where e b.not_refused q h)
 
-  -- what is refused is the refusal of the text
-  pub refused_behind_it : {P : Place} {f : Naming → List Mark} {to : List Item} {t : Reading} (e : CertError) → t.refused ≡ Some e
-      → ReadsWhere P names (length bytes) (opening ∷ []) f to b.start t → IsRefusedAs names bytes e
-  refused_behind_it e q h = refused_as names bytes e refl (stop_of e q (anywhere h))
-
   -- ---- where it is refused no opening is there
 
   version_there : s.refused ≡ None → (o : Opening) (end : ℕ) → (h : IsOpened names bytes o end) → version_in names bytes o end h.read ≡ v
@@ -147,50 +117,38 @@ module _ {names : NameTable} {bytes : List ℕ} {v : Version} {shared : List Aut
       let x = name_of names in
       let w = uses_with v names shared in
       let text : bytes ≡ marks_text (answer_marks given ++ (heading_marks x w shared ++ (steps_marks x w steps ++ further))) ++ s.left.now =
-      walks_text names _ _ _ ((run_of none b.read).walks (omega arith) [])
-      ∙ ap (λ (ms : List Mark). marks_text ms ++ s.left.now) (append_assoc (answer_marks given) (heading_marks x w shared ++ steps_marks x w steps) further
-      ∙ ap (λ (z : List Mark). answer_marks given ++ z) (append_assoc (heading_marks x w shared) (steps_marks x w steps) further)) in
+      rw (append_assoc (answer_marks given), append_assoc (heading_marks x w shared)) at (walks_text names _ _ _ ((run_of none b.read).walks (omega arith) [])) in
       version_is names bytes s.left.now o end w shared given (steps_marks x w steps ++ further) h.read text ∙ same_version v names shared
 
   -- before it
   pub none_before : (d : CertError) → s.refused ≡ Some d → (x : CertificateCause × ℕ) → told d ≡ Some x → (o : Opening) (end : ℕ) → IsOpened names bytes o end → ⊥
   none_before d q x t o end h = unopened names bytes o end h (told d) x t (stop_of d q (elsewhere (λ is r p. p (version_in names bytes o end h.read)) b.read))
 
-  -- or behind it
-  pub none_behind : {f : Naming → List Mark} {to : List Item} {t : Reading} (e : CertError) → t.refused ≡ Some e → ReadsWhere (WithinOpening v) names (length bytes) items f to s t
-      → (x : CertificateCause × ℕ) → told e ≡ Some x → (o : Opening) (end : ℕ) → IsOpened names bytes o end → ⊥
-  none_behind {f} {to} {t} e q h x told_is o end i = by s.refused refl
+  -- or behind it, if none is there where it goes on
+  pub bad : {P : Place} {f : Naming → List Mark} {to : List Item} {t : Reading} (e : CertError) → t.refused ≡ Some e → ReadsWhere P names (length bytes) items f to s t
+      → (s.refused ≡ None → (x : CertificateCause × ℕ) → told e ≡ Some x → (o : Opening) (end : ℕ) → IsOpened names bytes o end → ⊥) → IsBad names bytes e
+  bad {P} {f} {to} {t} e q h none = (refused, λ cause at x end k. bad_openings_are_refused names bytes end cause at k (by s.refused refl (cause, at) x end) (refused_as_told names bytes e cause at refused x))
     where
-      by : (r : Option CertError) → s.refused ≡ r → ⊥
-      by (Some d) r = none_before d r x (sym (same_told h d e r q) ∙ told_is) o end i
-      by None r =
-          unopened names bytes o end i (told e) x told_is (rw (version_there r o end i) (stop_of e q (then_where (elsewhere (λ is k p. p v) b.read) h)))
+      refused : IsRefusedAs names bytes e
+      refused = refused_as names bytes e refl (stop_of e q (then_where (anywhere b.read) (anywhere h)))
 
--- ---- peaks
+      by : (r : Option CertError) → s.refused ≡ r → (x : CertificateCause × ℕ) → told e ≡ Some x → (end : ℕ) (o : Opening) → IsOpened names bytes o end → ⊥
+      by (Some d) r x k end o = none_before d r x (sym (same_told h d e r q) ∙ k) o end
+      by None r x k end o = none r x k o end
 
-module _ {names : NameTable} {bytes : List ℕ} {v : Version} {shared : List Automaton} {given : Option Bool} {steps : Option (List Simplification)} {items : List Item} {s : Reading}
-    (b : IsBegun names bytes v shared given steps (kind_mark given Peak ∷ fixed (codes "\n") ∷ []) items s) where
-  -- behind the line of a peak there is no end of an opening
-  pub no_end : s.refused ≡ None → (end : ℕ) → IsOpeningEnd bytes end → ⊥
-  no_end none end h =
-      let w = (run_of b none b.read).walks (omega arith) [] in
-      let front = front_marks (name_of names) (uses_with v names shared) shared given steps in
-      let line = kind_mark given Peak ∷ fixed (codes "\n") ∷ [] in
-      let text : bytes ≡ marks_text front ++ (codes "peak" ++ 10 ∷ s.left.now) = walks_text names (front ++ line) _ _ w ∙ ap (λ (z : List ℕ). z ++ s.left.now)
-      (text_both front line) ∙ append_assoc (marks_text front) (codes "peak\n") s.left.now in
-      let own = own_lines v names shared given steps line (b.can_step none) (walks_named names (front ++ line) _ _ w) in
-      no_peak own.lines h.heading h.kind s.left.now (lines_text h.lines ++ h.rest) own.are h.are_heading h.is_kind
-      (ap (λ (z : List ℕ). z ++ (codes "peak" ++ 10 ∷ s.left.now)) (sym own.text) ∙ sym text ∙ h.text)
+  pub entries_bad : {f : Naming → List Mark} {to : List Item} {t : Reading} (e : CertError) → t.refused ≡ Some e → ReadsWhere (WithinOpening v) names (length bytes) items f to s t
+      → IsBad names bytes e
+  entries_bad e q h = bad e q h (λ r x k o end i. unopened names bytes o end i (told e) x k (rw (version_there r o end i) (stop_of e q (then_where (elsewhere (λ is k p. p v) b.read) h))))
 
-  pub none_at_peak : {f : Naming → List Mark} {to : List Item} {t : Reading} (e : CertError) → t.refused ≡ Some e → Reads names (length bytes) items f to s t
-      → (x : CertificateCause × ℕ) → told e ≡ Some x → (o : Opening) (end : ℕ) → IsOpened names bytes o end → ⊥
-  none_at_peak {f} {to} {t} e q h x told_is o end i = by s.refused refl
-    where
-      by : (r : Option CertError) → s.refused ≡ r → ⊥
-      by (Some d) r = none_before b d r x (sym (same_told (reads_anywhere h) d e r q) ∙ told_is) o end i
-      by None r = no_end r end (openings_end names bytes o end i)
-
--- a refusal where no opening is read stands before the end of one
-pub told_before : (names : NameTable) (bytes : List ℕ) (e : CertError) → ((t : CertificateCause × ℕ) → told e ≡ Some t → (o : Opening) (end : ℕ) → IsOpened names bytes o end → ⊥)
-    → IsRefusedAs names bytes e → IsToldBefore bytes e
-told_before names bytes e none h f at t end k = bad_openings_are_refused names bytes end f at k (λ o i. none (f, at) t o end i) (refused_as_told names bytes e f at h t)
+-- behind the line of a peak there is no end of an opening
+pub no_end : {names : NameTable} {bytes : List ℕ} {v : Version} {shared : List Automaton} {given : Option Bool} {steps : Option (List Simplification)} {items : List Item} {s : Reading}
+    → IsBegun names bytes v shared given steps (kind_mark given Peak ∷ fixed (codes "\n") ∷ []) items s → s.refused ≡ None → (end : ℕ) → IsOpeningEnd bytes end → ⊥
+no_end {names} {bytes} {v} {shared} {given} {steps} {items} {s} b none end h =
+    let w = (run_of b none b.read).walks (omega arith) [] in
+    let front = front_marks (name_of names) (uses_with v names shared) shared given steps in
+    let line = kind_mark given Peak ∷ fixed (codes "\n") ∷ [] in
+    let text : bytes ≡ marks_text front ++ (codes "peak" ++ 10 ∷ s.left.now) = walks_text names (front ++ line) _ _ w ∙ ap (λ (z : List ℕ). z ++ s.left.now)
+    (text_both front line) ∙ append_assoc (marks_text front) (codes "peak\n") s.left.now in
+    let own = own_lines v names shared given steps line (b.can_step none) (walks_named names (front ++ line) _ _ w) in
+    no_peak own.lines h.heading h.kind s.left.now (lines_text h.lines ++ h.rest) own.are h.are_heading h.is_kind
+    (ap (λ (z : List ℕ). z ++ (codes "peak" ++ 10 ∷ s.left.now)) (sym own.text) ∙ sym text ∙ h.text)

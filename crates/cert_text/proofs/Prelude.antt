@@ -1,6 +1,6 @@
 -- The names that the proofs of this crate cite, passed on from one place. Declares nothing.
 pub use Rattle.std.proofs.Common.{◌≡◌, inl, inr, ◌≤◌, ◌==◌, ℕ, suc, List, [], ◌∷◌, ◌++◌, length, drop, take, Option, Some, None, IfSome, IfNone, refl, sym, ap, ◌∙◌, subst, arith, eqb-true, ◌⊎◌, ◌<◌}
-pub use Rattle.std.proofs.Common.{◌&&◌, Bool, true, codes, false, cond, get_or, append_assoc, zero, not, map, Vec, Global, Box, rules, Result, Ok, Err, IfOk, ◌+◌, ◌-◌, length-append}
+pub use Rattle.std.proofs.Common.{◌&&◌, Bool, true, codes, false, cond, get_or, append_assoc, zero, not, map, Vec, Global, Box, rules, Result, Ok, Err, IfOk, IfErr, ◌+◌, ◌-◌, length-append}
 pub use Rattle.std.proofs.lemmas.Bool.{and_parts, cases_lt, false≢true}
 pub use Rattle.std.proofs.lemmas.List.{length_push, append_cancel_left, append-nil, nil_from_length}
 pub use Rattle.cert_grammar.specs.Prelude.{IsCertificateText, name_of, Version, first_version, second_version, CanSimplify, pairs_marks, closing, CertificateCause, syntax, bad_share, Naming, Mark}

@@ -6,7 +6,8 @@ use Rattle.cert_grammar.specs.Prelude.{largest, Version, second_version, Uses, i
 use Rattle.cert_grammar.specs.Prelude.{heading_marks, Item, nothing_shared}
 use Rattle.cert_grammar.specs.WordMarks.{numeral}
 use Rattle.cert_grammar.specs.Items as Items
-use Rattle.cert_openings.specs.Openings.{Opening, simplified_opening, uses_with}
+use Rattle.cert_openings.specs.Openings.{Opening, simplified_opening, uses_with, IsOpened}
+use Rattle.cert_words.specs.declared.error.CertError.{CertError}
 use Rattle.cert_words.specs.declared.reading.Reading.{Reading}
 use Rattle.cert_reading.specs.declared.headings.Kind.{Kind}
 use Rattle.cert_reading.specs.Headings.{kind_mark, item_by}
@@ -15,7 +16,8 @@ use Rattle.cert_reading.specs.Shared.{ArePlainAutomata}
 use Rattle.cert_reading.specs.Stops.{ReadsWhere, BeforeEntries}
 use Rattle.cert_reading.specs.Uses.{AreShared}
 use Rattle.cert_reading.specs.Whole.{CanShare}
-use Rattle.cert_text.specs.OpenedText.{OpenedText, behind_steps}
+use Rattle.cert_text.specs.OpenedText.{OpenedText, behind_steps, IsBad}
+use Rattle.cert_text.specs.ReadingView.{IsUpTo, place_of}
 
 -- the steps before a body, if there are any
 abbrev pub steps_marks : Naming → Uses → Option (List Simplification) → List Mark
@@ -55,7 +57,12 @@ pub record IsBegun (names : NameTable) (bytes : List ℕ) (v : Version) (shared 
   pub can_step : at.refused ≡ None → CanStep v shared steps
 
 -- behind the word of this kind
-pub record BeginsBody (names : NameTable) (bytes : List ℕ) (v : Version) (shared : List Automaton) (kind : Kind) (at : Reading) : Type 0 where
+pub record BeginsBody (names : NameTable) (bytes : List ℕ) (v : Version) (shared : List Automaton) (steps : Option (List Simplification)) (kind : Kind) (at : Reading) : Type 0 where
   pub given : Option Bool
-  pub steps : Option (List Simplification)
   pub begun : IsBegun names bytes v shared given steps (kind_mark given kind ∷ []) (Items.between Items.line ∷ item_by v kind ∷ []) at
+
+-- an opening is read, or refused
+pub record ReadsOpening (names : NameTable) (bytes : List ℕ) (v : Version) (shared : List Automaton) (o : Opening) (at : Reading) : Type 0 where
+  pub up_to : at.refused ≡ None → IsUpTo v shared names bytes at.left.now 0 at.shares
+  pub opened : at.refused ≡ None → IsOpened names bytes o (place_of bytes at.left.now)
+  pub refused : (e : CertError) → at.refused ≡ Some e → IsBad names bytes e
