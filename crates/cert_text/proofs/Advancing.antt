@@ -29,40 +29,27 @@ last_line = 101 ∷ 110 ∷ 100 ∷ 10 ∷ []
 -- ---- behind a measure the text goes on as behind nothing
 
 same_at : (v : Version) (item : Item) → EndsMeasure v item → (b : List ℕ) → BeginsEntry b → IsSame v item b
-same_at first_version item x b h = subst (λ (i : Item). IsSame first_version i b) (sym x.1) (symbol_same first_version x.0 _ _ _ (entry_at first_version x.0) b h)
-same_at second_version item (inl x) b h = subst (λ (i : Item). IsSame second_version i b) (sym x.1) (symbol_same second_version x.0 _ _ _ (entry_at second_version x.0) b h)
-same_at second_version item (inr x) b h = subst (λ (i : Item). IsSame second_version i b) (sym x.1) (symbol_same second_version x.0 _ _ _ (head_at x.0) b h)
+same_at v (entries_from u n) x b h = rw x (symbol_same u n _ _ _ (entry_at u n) b h)
+same_at v (heads_from n) x b h = rw x (symbol_same second_version n _ _ _ (head_at n) b h)
+same_at v _ x b h = absurd x
 
-abbrev IsSymbols : Item → Type 0
-IsSymbols (entries_from v n) = Unit {0}
-IsSymbols (heads_from n) = Unit {0}
-IsSymbols _ = ⊥
+symbols_early : (v : Version) (item : Item) → EndsMeasure v item → AreBehind v 2 (item ∷ []) → ⊥
+symbols_early v item s (inl h) = rw h.1 at s
+symbols_early v item s (inr e) = rw (same_item item (Items.between Items.line) e) at s
 
-are_symbols : (v : Version) (item : Item) → EndsMeasure v item → IsSymbols item
-are_symbols first_version item x = subst IsSymbols (sym x.1) tt
-are_symbols second_version item (inl x) = subst IsSymbols (sym x.1) tt
-are_symbols second_version item (inr x) = subst IsSymbols (sym x.1) tt
-
-symbols_early : (v : Version) (item : Item) → IsSymbols item → AreBehind v 2 (item ∷ []) → ⊥
-symbols_early v item s (inl h) = subst IsSymbols h.1 s
-symbols_early v item s (inr e) = subst IsSymbols (same_item item (Items.between Items.line) e) s
-
-symbols_place : (v : Version) (item : Item) (b q : List ℕ) → IsSymbols item → WithinEntry v 1 b (item ∷ []) q
-symbols_place v item b q s = record { early = λ h. absurd (symbols_early v item s h); going = λ e. subst IsSymbols (same_item item (pairs_from v 2) e) s }
+symbols_place : (v : Version) (item : Item) (b q : List ℕ) → EndsMeasure v item → WithinEntry v 1 b (item ∷ []) q
+symbols_place v item b q s = record { early = λ h. absurd (symbols_early v item s h); going = λ e. rw (same_item item (pairs_from v 2) e) at s }
 
 next_stop : (names : NameTable) (end : ℕ) (v : Version) (n : ℕ) (item : Item) (b : List ℕ) (sa : Shared) (t : Option (CertificateCause × ℕ)) → IsNext v item n b
     → IsStoppedWhere (WithinEntry v n b) names end (pairs_from v n ∷ []) b sa t → IsStoppedWhere (WithinEntry v n b) names end (item ∷ []) b sa t
-next_stop names end v n item b sa t (inl e) h = subst (λ (i : Item). IsStoppedWhere (WithinEntry v n b) names end (i ∷ []) b sa t) (sym e) h
+next_stop names end v n item b sa t (inl e) h = rw e h
 next_stop names end v n item b sa t (inr x) h =
-    subst (λ (k : ℕ). IsStoppedWhere (WithinEntry v k b) names end (item ∷ []) b sa t) (sym x.1)
-    (symbol_stopped names end v item b (same_at v item x.0 b x.2) (WithinEntry v 1 b) sa t (symbols_place v item b b (are_symbols v item x.0))
-    (subst (λ (k : ℕ). IsStoppedWhere (WithinEntry v k b) names end (pairs_from v k ∷ []) b sa t) x.1 h))
+    rw x.1 (symbol_stopped names end v item b (same_at v item x.0 b x.2) (WithinEntry v 1 b) sa t (symbols_place v item b b x.0) (rw x.1 at h))
 
 next_run : (names : NameTable) (end : ℕ) (v : Version) (n : ℕ) (item : Item) (f : Naming → List Mark) (to : List Item) (b r : List ℕ) (sa sb : Shared) → IsNext v item n b
     → (f (name_of names) ≡ [] → ⊥) → Run names end (pairs_from v n ∷ []) f to b r sa sb → Run names end (item ∷ []) f to b r sa sb
-next_run names end v n item f to b r sa sb (inl e) some h = subst (λ (i : Item). Run names end (i ∷ []) f to b r sa sb) (sym e) h
-next_run names end v n item f to b r sa sb (inr x) some h = symbol_run names end v item b (same_at v item x.0 b x.2) f to r sa sb some
-    (subst (λ (k : ℕ). Run names end (pairs_from v k ∷ []) f to b r sa sb) x.1 h)
+next_run names end v n item f to b r sa sb (inl e) some h = rw e h
+next_run names end v n item f to b r sa sb (inr x) some h = symbol_run names end v item b (same_at v item x.0 b x.2) f to r sa sb some (rw x.1 at h)
 
 -- ---- from what the code says
 
@@ -144,7 +131,11 @@ none_if (Some x) never = absurd (never x refl)
 module _ {v : Version} {shared : List Automaton} {names : NameTable} {bytes left : List ℕ} {count : ℕ} {now : Shared} (u : IsUpTo v shared names bytes left count now)
     (n : ℕ) (is_n : n ≡ suc count) where
   next : IsNext v u.item n left
-  next = subst (λ (k : ℕ). IsNext v u.item k left) (sym is_n) u.next
+  next = rw is_n u.next
+
+  -- an entry is read
+  abbrev ReadsPair : math.PairEntry → List ℕ → Shared → Type 0
+  ReadsPair p rest sb = Run names (length bytes) (pairs_from v n ∷ []) (λ x. pairs_marks x (uses_with v names shared) n (p ∷ [])) (pairs_from v (suc n) ∷ []) left rest now sb
 
   within : length left ≤ length bytes
   within = let place = u.read.read.place in let rest = ap length u.read.is_rest in omega (arith, place, rest)
@@ -153,9 +144,7 @@ module _ {v : Version} {shared : List Automaton} {names : NameTable} {bytes left
   left_there : (o : Opening) (es : List math.PairEntry) (r : IsRead names bytes o es (place_of bytes left)) → (o ≡ u.opening) × (es ≡ u.entries) × (r.rest ≡ left)
   left_there o es r = let same = one_reading names bytes o u.opening es u.entries (place_of bytes left) r u.read.read in (same.opening, same.entries, same.rest ∙ u.read.is_rest)
 
-  -- an entry is read
-  longer : (p : math.PairEntry) (rest : List ℕ) (sb : Shared)
-      → Run names (length bytes) (pairs_from v n ∷ []) (λ x. pairs_marks x (uses_with v names shared) n (p ∷ [])) (pairs_from v (suc n) ∷ []) left rest now sb
+  longer : (p : math.PairEntry) (rest : List ℕ) (sb : Shared) → ReadsPair p rest sb
       → Run names (length bytes) (Items.opening ∷ []) (λ x. read_marks x (uses_with v names shared) shared u.given u.opening (u.entries ++ p ∷ []))
       (pairs_from v (suc n) ∷ []) bytes rest nothing_shared sb
   longer p rest sb r =
@@ -168,16 +157,13 @@ module _ {v : Version} {shared : List Automaton} {names : NameTable} {bytes left
       (next_run names (length bytes) v n u.item (λ x. pairs_marks x w n (p ∷ [])) (pairs_from v (suc n) ∷ []) left rest now sb next (λ e. cc) r))
 
   -- its marks change no text of a shared automaton
-  texts_kept : (p : math.PairEntry) (rest : List ℕ) (sb : Shared)
-      → Run names (length bytes) (pairs_from v n ∷ []) (λ x. pairs_marks x (uses_with v names shared) n (p ∷ [])) (pairs_from v (suc n) ∷ []) left rest now sb
-      → sb.texts ≡ now.texts
+  texts_kept : (p : math.PairEntry) (rest : List ℕ) (sb : Shared) → ReadsPair p rest sb → sb.texts ≡ now.texts
   texts_kept p rest sb r =
       let keeps = r.shares within [] in
       let counts = (counts_pairs (p ∷ []) (name_of names) (uses_with v names shared) n).after now.texts [] now.used now.unfolds_to in
       sym (ap (λ (z : Shared). z.texts) keeps.1) ∙ ap (λ (z : Shared). z.texts) counts.1
 
-  pub held_on : {sb : Shared} (p : math.PairEntry) (rest : List ℕ) (count_then : ℕ) → EvidenceUses v shared p.evidence → count_then ≡ n
-      → Run names (length bytes) (pairs_from v n ∷ []) (λ x. pairs_marks x (uses_with v names shared) n (p ∷ [])) (pairs_from v (suc n) ∷ []) left rest now sb
+  pub held_on : {sb : Shared} (p : math.PairEntry) (rest : List ℕ) (count_then : ℕ) → EvidenceUses v shared p.evidence → count_then ≡ n → ReadsPair p rest sb
       → IsUpTo v shared names bytes rest count_then sb
   held_on {sb} p rest count_then plain e r =
       let run = longer p rest sb r in
@@ -197,15 +183,9 @@ module _ {v : Version} {shared : List Automaton} {names : NameTable} {bytes left
         next = inl (ap (λ (k : ℕ). pairs_from v (suc k)) (sym e));
       }
 
-  pub reads_on : {sb : Shared} (p : math.PairEntry) (rest : List ℕ) → EvidenceUses v shared p.evidence
-      → Run names (length bytes) (pairs_from v n ∷ []) (λ x. pairs_marks x (uses_with v names shared) n (p ∷ [])) (pairs_from v (suc n) ∷ []) left rest now sb
-      → ReadsOn (up_to names bytes left) p (up_to names bytes rest)
-  reads_on {sb} p rest plain r o es h =
-      let there = left_there o es h in
-      let read = run_read v shared names bytes rest u.given u.opening (u.entries ++ p ∷ []) (pairs_from v (suc n) ∷ []) u.can_share
-      (plain_more v shared u.opening u.entries p u.plain plain) u.plain_shared (longer p rest sb r) in
-      subst (λ (x : Opening). IsRead names bytes x (es ++ p ∷ []) (place_of bytes rest)) (sym there.0)
-      (subst (λ (x : List math.PairEntry). IsRead names bytes u.opening (x ++ p ∷ []) (place_of bytes rest)) (sym there.1) read.read)
+  pub reads_on : {sb : Shared} (p : math.PairEntry) (rest : List ℕ) → EvidenceUses v shared p.evidence → ReadsPair p rest sb → ReadsOn (up_to names bytes left) p (up_to names bytes rest)
+  unfolding held_on
+  reads_on p rest plain r o es h = let there = left_there o es h in rw (there.0, there.1) (held_on p rest n plain refl r).read.read
 
   -- what is left is the last line
   left_last : (o : Opening) (es : List math.PairEntry) → HasRead (up_to names bytes left) o es → IsAll (up_to names bytes left) o es → left ≡ last_line
@@ -214,8 +194,7 @@ module _ {v : Version} {shared : List Automaton} {names : NameTable} {bytes left
       let whole = text_is_whole names bytes u.opening u.entries (subst (IsCertificateText names bytes) (cc (there.0, there.1)) k) in
       sym (one_rest v shared names bytes left count now u whole.at whole.read) ∙ whole.last
 
-  pub never_whole : {sb : Shared} (p : math.PairEntry) (rest : List ℕ)
-      → Run names (length bytes) (pairs_from v n ∷ []) (λ x. pairs_marks x (uses_with v names shared) n (p ∷ [])) (pairs_from v (suc n) ∷ []) left rest now sb
+  pub never_whole : {sb : Shared} (p : math.PairEntry) (rest : List ℕ) → ReadsPair p rest sb
       → (o : Opening) (es : List math.PairEntry) → HasRead (up_to names bytes left) o es → IsAll (up_to names bytes left) o es → ⊥
   never_whole p rest r o es h k = bytes_apart 112 101 _ _ refl
       (sym (walks_text names (pairs_marks (name_of names) (uses_with v names shared) n (p ∷ [])) _ _ (r.walks within [])) ∙ left_last o es h k)

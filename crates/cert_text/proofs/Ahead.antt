@@ -1,8 +1,8 @@
 -- A reader goes along what stands there, and never stops before its end.
-use Rattle.cert_text.proofs.Prelude.{◌≡◌, ◌⊎◌, inl, inr, ◌<◌, ◌&&◌, ℕ, suc, Bool, true, List, [], ◌∷◌, ◌++◌, take, Option, Some, None, codes, refl, sym, ap, ◌∙◌, subst, arith, and_parts, NameTable}
-use Rattle.cert_text.proofs.Prelude.{CertificateCause, Demand, Mark, word, mark_text, demands_of, verdict, Pass, Item, between, line, pairs_from, Lead, text, check, at_once, keyword, leads, Version}
+use Rattle.cert_text.proofs.Prelude.{◌≡◌, inl, inr, ◌<◌, ◌&&◌, ℕ, suc, Bool, true, List, [], ◌∷◌, ◌++◌, take, Option, Some, None, codes, refl, sym, ap, ◌∙◌, subst, arith, and_parts, NameTable}
+use Rattle.cert_text.proofs.Prelude.{CertificateCause, Demand, Mark, demands_of, verdict, Pass, Item, between, line, pairs_from, Lead, text, check, at_once, keyword, leads, Version}
 use Rattle.cert_text.proofs.Prelude.{first_version, second_version, mode_of, first_there, taken, mark_of, items_of, Left, behind_lead, judged, step_lead, Shared, share_verdict, behind_mark}
-use Rattle.cert_text.proofs.Prelude.{behind_marks, PassShares, ends, further, Takes, Path, first_complete, Move, Moves, moves_path, there_size, BeginsEntry, apart, Meet, ahead, behind_it, meet}
+use Rattle.cert_text.proofs.Prelude.{behind_marks, PassShares, ends, further, Takes, Path, first_complete, Move, Moves, moves_path, there_size, BeginsEntry, Meet, ahead, behind_it, meet}
 use Rattle.cert_text.proofs.Prelude.{never_ends, pass_split, left_at, RefusesAt, step_on, lowest, AreAbove, IsBehind, AreBehind, BeginsList, same_item}
 use Rattle.cert_grammar.specs.Prelude.{Reading as Answer}
 use Rattle.cert_grammar.proofs.ScanLaws.{IsWordOf}
@@ -125,27 +125,19 @@ last_pair v n i (inr q) e = absurd (e (ap never_ends (same_item i (between line)
 
 -- ---- behind an opening
 
-pub no_entry : (a : ℕ) (w b rest : List ℕ) → BeginsEntry b → b ≡ (a ∷ w) ++ rest → (a ≡ 112 → ⊥) → (a ≡ 101 → ⊥) → ⊥
-no_entry a w [] rest h e p q = h
-no_entry a w (c ∷ b) rest (inl x) e p q = let same : c ≡ a = cc in p (sym same ∙ x)
-no_entry a w (c ∷ b) rest (inr x) e p q = let same : c ≡ a = cc in q (sym same ∙ x)
+fun_never : (w : List ℕ) → BeginsEntry (102 ∷ w) → ⊥
+fun_never w h = grind arith
+
+aux_never : (w : List ℕ) → BeginsEntry (97 ∷ w) → ⊥
+aux_never w h = grind arith
 
 -- where an overlap or the last line begins no symbol is read
-no_symbol : (m : Mark) (b behind : List ℕ) (ds : List Demand) → BeginsEntry b → b ≡ mark_text m ++ behind → (m ≡ word (codes "fun") ds) ⊎ (m ≡ word (codes "aux") ds) → ⊥
-no_symbol m b behind ds begins e (inl q) = no_entry 102 (codes "un") b behind begins (e ∙ ap (λ (x : Mark). mark_text x ++ behind) q) (apart 102 112 refl) (apart 102 101 refl)
-no_symbol m b behind ds begins e (inr q) = no_entry 97 (codes "ux") b behind begins (e ∙ ap (λ (x : Mark). mark_text x ++ behind) q) (apart 97 112 refl) (apart 97 101 refl)
-
--- where they begin behind symbols
 symbol_step : (v : Version) (i : Item) (m : Mark) (b behind : List ℕ) (new fun aux : List Item) (ds : List Demand) → BeginsEntry b → Move i m b behind new
     → leads i ≡ keyword (codes "fun") ds fun ∷ keyword (codes "aux") ds aux ∷ leads (pairs_from v 1) → AreBehind v 1 (new ++ [])
-symbol_step v i m b behind new fun aux ds begins h is =
-    step_by (λ (x : List Item). AreBehind v 1 (x ++ [])) i m new h.takes (subst (Each (λ (x : List Item). AreBehind v 1 (x ++ [])) m) (sym is) (
-      (λ w e. absurd (no_symbol m b behind ds begins h.text (inl e))),
-      (
-        (λ w e. absurd (no_symbol m b behind ds begins h.text (inr e))),
-        ((λ w e. inl (2, refl, omega arith)), ((λ w e. inr refl), tt)),
-      ),
-    ))
+symbol_step v i m b behind new fun aux ds begins h is = step_by (λ (x : List Item). AreBehind v 1 (x ++ [])) i m new h.takes (rw is (
+  (λ w e. absurd (fun_never (codes "un" ++ behind) (rw (h.text, e) at begins))),
+  ((λ w e. absurd (aux_never (codes "ux" ++ behind) (rw (h.text, e) at begins))), ((λ w e. inl (2, refl, omega arith)), ((λ w e. inr refl), tt))),
+))
 
 -- where a list stands, and an overlap or the last line begins
 pub list_step : (v : Version) (i : Item) (m : Mark) (b behind : List ℕ) (new : List Item) → BeginsList v i → BeginsEntry b → Move i m b behind new → AreBehind v 1 (new ++ [])

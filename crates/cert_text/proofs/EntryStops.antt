@@ -1,12 +1,14 @@
 -- Where an entry stands, no reader stops within it.
 use Rattle.cert_text.proofs.Prelude.{◌≡◌, ◌⊎◌, inl, inr, ◌<◌, ◌≤◌, ℕ, suc, List, [], ◌∷◌, ◌++◌, length, drop, codes, refl, sym, ap, ◌∙◌, subst, arith, cases_lt, Automaton, PairEntry, NameTable}
-use Rattle.cert_text.proofs.Prelude.{name_of, Version, first_version, second_version, CertificateCause, Mark, mark_text, pairs_marks, Item, leads, opening, pairs_from, taken, items_of, Left, Shared}
+use Rattle.cert_text.proofs.Prelude.{name_of, Version, CertificateCause, Mark, mark_text, pairs_marks, Item, leads, opening, pairs_from, taken, items_of, Left, Shared}
 use Rattle.cert_text.proofs.Prelude.{nothing_shared, first_sound, Move, Moves, Opening, uses_with, IsRead, bytes_apart, Meet, ahead, behind_it, meet, read_more, Gone, gone}
 use Rattle.cert_text.proofs.Prelude.{gone_rest, gone_along, one_reading, Walks, goes_where, AreBehind, IsBehind, BeginsList, WithinEntry, StopsWhere, place_of}
 use Rattle.cert_text.proofs.Prelude.{EndsMeasure, IsNext, read_marks, IsUpTo}
 use Rattle.cert_laws.proofs.FirstRefusals.{read_of, lead_move}
 use Rattle.cert_text.proofs.Ahead.{past, pair_step, later_moves, last_pair, list_step}
+use Rattle.cert_text.proofs.Low.{list_entries}
 use Rattle.cert_text.proofs.SameMarks.{no_front}
+use Rattle.cert_text.proofs.Prelude.{entries_from, heads_from}
 
 -- ---- moves
 
@@ -31,13 +33,13 @@ walks_moves names (m ∷ ms) l k w =
 -- ---- the first move from the item that is next
 
 as_list : (v : Version) (i : Item) → EndsMeasure v i → BeginsList v i
-as_list first_version i x = inl x
-as_list second_version i (inl x) = inl x
-as_list second_version i (inr x) = inr (inr x)
+as_list v (entries_from u n) x = rw x (list_entries u n)
+as_list v (heads_from n) x = rw x (inr (inr (n, refl)))
+as_list v _ x = absurd x
 
 next_step : (v : Version) (i : Item) (n : ℕ) (m : Mark) (left behind : List ℕ) (new : List Item) → IsNext v i n left → Move i m left behind new → AreBehind v n (new ++ [])
-next_step v i n m left behind new (inl e) h = let g = subst (λ (j : Item). Move j m left behind new) e h in pair_step v n n m new (omega arith) g.takes
-next_step v i n m left behind new (inr x) h = subst (λ (k : ℕ). AreBehind v k (new ++ [])) (sym x.1) (list_step v i m left behind new (as_list v i x.0) x.2 h)
+next_step v i n m left behind new (inl e) h = pair_step v n n m new (omega arith) (rw e at h.takes)
+next_step v i n m left behind new (inr x) h = rw x.1 (list_step v i m left behind new (as_list v i x.0) x.2 h)
 
 -- ---- no reader stops within an entry that stands there
 

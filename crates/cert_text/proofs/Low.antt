@@ -121,7 +121,7 @@ list_pairs : (v : Version) (n : ℕ) → BeginsList v (pairs_from v (suc n))
 list_pairs first_version n = inr (n, refl)
 list_pairs second_version n = inr (inl (n, refl))
 
-list_entries : (v : Version) (n : ℕ) → BeginsList v (entries_from v n)
+pub list_entries : (v : Version) (n : ℕ) → BeginsList v (entries_from v n)
 list_entries first_version n = inl (n, refl)
 list_entries second_version n = inl (n, refl)
 

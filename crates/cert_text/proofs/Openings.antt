@@ -3,7 +3,7 @@ use Rattle.cert_text.proofs.Prelude.{◌≡◌, inl, inr, ℕ, suc, Bool, true, 
 use Rattle.cert_text.proofs.Prelude.{append_assoc, append-nil, Automaton, MeasureCertificate, linear_measure, precedence_measure, Simplification, Certificate, peak_certificate, NameTable, name_of}
 use Rattle.cert_text.proofs.Prelude.{largest, Version, first_version, second_version, in_full, by_number, HasMeasure, IsUnsimplified, number_in, IsCertificateText, in_range, is_few, simplifications}
 use Rattle.cert_text.proofs.Prelude.{Naming, Mark, fixed, word, answer_marks, body_marks, heading_marks, measure_marks, peak_marks, simplifications_marks, closing, certificate_marks, Item}
-use Rattle.cert_text.proofs.Prelude.{pairs_from, Shared, nothing_shared, AreStill, Counts, counts_still, counts_both, counts_body, measure_still, never_both, Opening, ortho_opening, quasi_opening}
+use Rattle.cert_text.proofs.Prelude.{pairs_from, Shared, nothing_shared, AreStill, counts_still, counts_both, counts_body, measure_still, never_both, Opening, ortho_opening, quasi_opening}
 use Rattle.cert_text.proofs.Prelude.{certificate_for, uses_with, BeginsEntry, IsOpened, CertError, IsRefusedAs, Run, Reads, open_before, behind_measure, behind_version, first_marks, kind_mark}
 use Rattle.cert_text.proofs.Prelude.{item_by, StepsUse, ApartUses, IsPlainBy, shared_marks, IsKnown, ArePlainAutomata, ReadsWhere, WithinOpening, BeforeEntries, AreShared, CanShare, other_below}
 use Rattle.cert_text.proofs.Prelude.{then_where, as_marks_where, low_where, open_before_where, known_behind, known_where, found_by, Reading, place_of, IsNext, read_marks, IsUpTo}
@@ -48,23 +48,16 @@ whole_there : (names : NameTable) (bytes : List ℕ) (steps : Option (List Simpl
 whole_there names bytes None c h k = (h, k)
 whole_there names bytes (Some ss) c h k = (h, k)
 
-answer_still : (given : Option Bool) → AreStill (answer_marks given)
-answer_still None = tt
-answer_still (Some true) = (tt, tt)
-answer_still (Some false) = (tt, tt)
-
 -- nothing is known of shared automata in the first version
 known_then : (v : Version) (shared : List Automaton) (names : NameTable) (bytes : List ℕ) (given : Option Bool) (o : Opening) (to : List Item) (t : words.Reading)
     → CanShare v shared → AreShared v names shared (length bytes) t → t.refused ≡ None
     → Run names (length bytes) (Items.opening ∷ []) (λ u. read_marks u (uses_with v names shared) shared given o []) to bytes t.left.now nothing_shared t.shares → IsKnown names shared t.shares
 known_then second_version shared names bytes given o to t can known none run = (known none).1
 known_then first_version shared names bytes given o to t can known none run =
-    let counts : Counts (read_marks (name_of names) in_full shared given o []) [] =
-    counts_both (answer_marks given) _ [] _ (counts_still (answer_marks given) (answer_still given))
-    (counts_both (fixed (codes "concon 1\n") ∷ []) _ [] _ (counts_still (fixed (codes "concon 1\n") ∷ []) (tt, tt))
-    (counts_body (certificate_for o []) (name_of names) in_full given)) in
+    let body = counts_body (certificate_for o []) (name_of names) in_full given in
+    let counts = rw append_assoc at (counts_both (first_marks given false) _ [] [] (counts_still (first_marks given false) (first_still given false)) body) in
     let texts : t.shares.texts ≡ [] = sym (ap (λ (z : Shared). z.texts) (run.shares (omega arith) []).1) ∙ ap (λ (z : Shared). z.texts) (counts.after [] [] 0 0).1 in
-    subst (λ (all : List Automaton). IsKnown names all t.shares) (sym can) (tt, texts)
+    rw can (tt, texts)
 
 -- what is plain behind steps
 plain_behind : (v : Version) (shared : List Automaton) (steps : Option (List Simplification)) (c : Certificate) → IsUnsimplified c → CanStep v shared steps → IsPlainBy v shared c
@@ -108,9 +101,9 @@ part_still (Some m) u = measure_still m u
 
 part_next : (v : Version) (m : Option MeasureCertificate) (b : List ℕ) → CanMeasure v m → BeginsEntry b → IsNext v (behind_part v m) 1 b
 part_next v None b h x = inl refl
-part_next first_version (Some m) b h x = inr ((_, refl), refl, x)
-part_next second_version (Some (linear_measure es)) b h x = inr (inl (_, refl), refl, x)
-part_next second_version (Some (precedence_measure order)) b h x = inr (inr (_, refl), refl, x)
+part_next first_version (Some m) b h x = inr (refl, refl, x)
+part_next second_version (Some (linear_measure es)) b h x = inr (refl, refl, x)
+part_next second_version (Some (precedence_measure order)) b h x = inr (refl, refl, x)
 
 part_plain : (v : Version) (shared : List Automaton) (steps : Option (List Simplification)) (m : Option MeasureCertificate) → CanStep v shared steps → CanMeasure v m
     → IsPlainBy v shared (certificate_for (opening_behind steps (opening_of m)) [])

@@ -1,9 +1,8 @@
 -- What a run along the marks of an opening and of entries has read, and where a run refuses a text.
-use Rattle.cert_text.proofs.Prelude.{◌≡◌, ◌+◌, ◌-◌, ◌==◌, ℕ, Bool, true, false, List, [], ◌∷◌, length, drop, Option, Some, refl, sym, ap, ◌∙◌, subst, arith, length-append, false≢true}
-use Rattle.cert_text.proofs.Prelude.{nil_from_length, Automaton, PairEntry, NameTable, name_of, Version, IsCertificateRefused, CertificateCause, syntax, Naming, Mark, marks_text, Item, opening}
+use Rattle.cert_text.proofs.Prelude.{◌≡◌, ◌+◌, ◌-◌, ℕ, Bool, List, [], ◌∷◌, length, drop, Option, Some, IfSome, refl, ap, ◌∙◌, subst, arith, length-append}
+use Rattle.cert_text.proofs.Prelude.{Automaton, PairEntry, NameTable, name_of, Version, IsCertificateRefused, CertificateCause, syntax, Naming, Mark, marks_text, Item, opening}
 use Rattle.cert_text.proofs.Prelude.{Shared, nothing_shared, behind_marks, Opening, certificate_for, uses_with, IsReadTo, CertError, told, IsRefusedAs, left_at, Run, walks_text, walks_pass, walks_at}
 use Rattle.cert_text.proofs.Prelude.{start_at, refused_at, IsPlainBy, ArePlainAutomata, CanShare, Anywhere, StopsWhere, IsStoppedWhere, walks_named, front_found, place_of, read_marks}
-use Rattle.std.proofs.lemmas.Bool.{eqb-true}
 use Rattle.cert_words.specs.declared.error.CertError.TheVariants.{NoMemory}
 
 -- ---- a run to the end, and one behind an opening and entries
@@ -31,40 +30,21 @@ stop_refused names bytes e s =
     refused_at names bytes _ (behind_marks s.marks nothing_shared) e (walks_at names bytes s.marks _ _ nothing_shared (start_at names bytes) s.walks there.0) there.1
 
 -- what is told where a reader stops is the refusal of the text
-refused_from : (names : NameTable) (bytes : List ℕ) (e : CertError) → IsStoppedWhere Anywhere names (length bytes) (opening ∷ []) bytes nothing_shared (told e) → IsRefusedAs names bytes e
-refused_from names bytes NoMemory s = tt
-refused_from names bytes _ s = stop_refused names bytes _ (s (omega arith))
-
 pub refused_as : (names : NameTable) (bytes : List ℕ) (e : CertError) → {sa : Shared} → sa ≡ nothing_shared
     → IsStoppedWhere Anywhere names (length bytes) (opening ∷ []) bytes sa (told e) → IsRefusedAs names bytes e
-refused_as names bytes e fresh s = refused_from names bytes e (rw fresh at s)
+refused_as names bytes NoMemory fresh s = tt
+refused_as names bytes _ fresh s = stop_refused names bytes _ ((rw fresh at s) (omega arith))
 
 -- bytes behind the last line are refused
-behind_from : (names : NameTable) (bytes left : List ℕ) (marks : Naming → List Mark) (sb : Shared) → (left ≡ [] → ⊥)
-    → Run names (length bytes) (opening ∷ []) marks [] bytes left nothing_shared sb → IsCertificateRefused names bytes syntax (length bytes - length left)
-behind_from names bytes [] marks sb some r = absurd (some refl)
-behind_from names bytes (b ∷ left) marks sb some r =
-    refused_at names bytes (left_at (length bytes) [] (b ∷ left)) (behind_marks (marks (name_of names)) nothing_shared) (syntax, length bytes - length (b ∷ left))
-    (walks_at names bytes (marks (name_of names)) _ _ nothing_shared (start_at names bytes) (r.walks (omega arith) []) (r.shares (omega arith) []).0) refl
-
 pub refused_behind : (names : NameTable) (bytes left : List ℕ) (marks : Naming → List Mark) (at : ℕ) → {sa sb : Shared} → sa ≡ nothing_shared → (left ≡ [] → ⊥)
     → at ≡ length bytes - length left → Run names (length bytes) (opening ∷ []) marks [] bytes left sa sb → IsCertificateRefused names bytes syntax at
-refused_behind names bytes left marks at {sb = sb} fresh some e r = rw e (behind_from names bytes left marks sb some (rw fresh at r))
+refused_behind names bytes [] marks at fresh some e r = absurd (some refl)
+refused_behind names bytes (b ∷ left) marks at {sb = sb} fresh some e r =
+    let run : Run names (length bytes) (opening ∷ []) marks [] bytes (b ∷ left) nothing_shared sb = rw (← fresh) r in
+    rw e (refused_at names bytes (left_at (length bytes) [] (b ∷ left)) (behind_marks (marks (name_of names)) nothing_shared) (syntax, length bytes - length (b ∷ left))
+    (walks_at names bytes (marks (name_of names)) _ _ nothing_shared (start_at names bytes) (run.walks (omega arith) []) (run.shares (omega arith) []).0) refl)
 
 -- the refusal that an error tells
-as_told : (names : NameTable) (bytes : List ℕ) (x y : CertificateCause × ℕ) → IsCertificateRefused names bytes x.0 x.1 → ◌≡◌ {A = Option (CertificateCause × ℕ)} (Some x) (Some y)
-    → IsCertificateRefused names bytes y.0 y.1
-as_told names bytes x y h e = let same : x ≡ y = cc in subst (λ (z : CertificateCause × ℕ). IsCertificateRefused names bytes z.0 z.1) same h
-
 pub refused_as_told : (names : NameTable) (bytes : List ℕ) (e : CertError) (f : CertificateCause) (at : ℕ) → IsRefusedAs names bytes e → told e ≡ Some (f, at) → IsCertificateRefused names bytes f at
 refused_as_told names bytes NoMemory f at h t = absurd cc
-refused_as_told names bytes _ f at h t = as_told names bytes _ (f, at) h t
-
--- ---- bytes that are left, or none
-
--- the same by the code's test
-pub left_none : (b : List ℕ) (e : Bool) → e ≡ (length b == 0) → e ≡ true → b ≡ []
-left_none b e is q = nil_from_length b (eqb-true (length b) 0 (sym is ∙ q))
-
-pub left_some : (b : List ℕ) (e : Bool) → e ≡ (length b == 0) → e ≡ false → b ≡ [] → ⊥
-left_some b e is q none = false≢true (sym q ∙ is ∙ ap (λ (x : List ℕ). length x == 0) none)
+refused_as_told names bytes _ f at h t = subst (λ (o : Option (CertificateCause × ℕ)). IfSome o (λ x. IsCertificateRefused names bytes x.0 x.1)) t h

@@ -36,8 +36,9 @@ shared_in (Some automata) = map automaton_view automata.items
 
 -- an item of a measure at which it may end
 abbrev pub EndsMeasure : Version → Item → Type 0
-EndsMeasure first_version item = (k : ℕ) × (item ≡ entries_from first_version k)
-EndsMeasure second_version item = ((k : ℕ) × (item ≡ entries_from second_version k)) ⊎ ((k : ℕ) × (item ≡ heads_from k))
+EndsMeasure v (entries_from u k) = v ≡ u
+EndsMeasure v (heads_from k) = v ≡ second_version
+EndsMeasure v _ = ⊥
 
 -- what the text goes on with: an overlap with this number; or, behind a measure, the first
 abbrev pub IsNext : Version → Item → ℕ → List ℕ → Type 0

@@ -1,5 +1,4 @@
-use Rattle.cert_text.proofs.Prelude.{[], Some, None, refl, measure_view, peak_view, between, line, Peak}
-use Rattle.cert_text.proofs.Runs.{left_none, left_some}
+use Rattle.cert_text.proofs.Prelude.{rules, ◌≡◌, ◌<◌, length, nil_from_length, not_nil, [], Some, None, refl, measure_view, peak_view, between, line, Peak}
 use Rattle.cert_text.proofs.OpenedViews.{peak_opened}
 use Rattle.cert_text.proofs.Fronts.{line_of}
 use Rattle.cert_text.proofs.Openings.{opening_read, peak_read}
@@ -31,14 +30,15 @@ returns-in-Some c =
 
 pub returns-then-not-is_empty : goal.returns-then-not-is_empty
 returns-then-not-is_empty c =
+    let long : 0 < length c.peak-peak.new.at.left.now = search (rules, c.is_empty.ensures, c.if-not-is_empty.true) in
     let uses = c.uses_of-in-Peak.ensures in
     let front = line_of Peak c.in-Peak.is uses.version uses.automata c.requires (c.text.ensures.read c.args.names.now (between line) [] refl) in
-    (peak_read (peak_view c.peak-peak.result) front c.peak-peak.ensures.plain c.peak-peak.ensures.read).goes_on c.in_default.is
-    (left_some c.peak-peak.new.at.left.now c.is_empty.result c.is_empty.ensures c.if-not-is_empty.true) c.saturating_sub.result c.saturating_sub.ensures
+    (peak_read (peak_view c.peak-peak.result) front c.peak-peak.ensures.plain c.peak-peak.ensures.read).goes_on c.in_default.is (not_nil c.peak-peak.new.at.left.now long) c.saturating_sub.result c.saturating_sub.ensures
 
 pub returns : goal.returns
 returns c =
     let uses = c.uses_of-in-Peak.ensures in
     let front = line_of Peak c.in-Peak.is uses.version uses.automata c.requires (c.text.ensures.read c.args.names.now (between line) [] refl) in
+    let zero : length c.peak-peak.new.at.left.now ≡ 0 = search rules in
     c.behind_steps.ensures c.args.names.now c.args.bytes.now (rw peak_opened ((peak_read (peak_view c.peak-peak.result) front c.peak-peak.ensures.plain c.peak-peak.ensures.read).there
-    c.in_default.is (left_none c.peak-peak.new.at.left.now c.is_empty.result c.is_empty.ensures c.if-not-is_empty.false)))
+    c.in_default.is (nil_from_length c.peak-peak.new.at.left.now zero)))
