@@ -1,6 +1,6 @@
 -- What one call of `Pairs::next` reads, or refuses.
-use Rattle.cert_text.proofs.Prelude.{IsCertificateText, ◌≡◌, inl, inr, ◌≤◌, ◌==◌, ℕ, suc, List, [], ◌∷◌, ◌++◌, length, drop, take, Option, Some, None, IfSome, IfNone, refl, sym, ap, ◌∙◌, subst}
-use Rattle.cert_text.proofs.Prelude.{arith, eqb-true, length_push, append_cancel_left, drop_whole, Automaton, NameTable, pair_entry_view, name_of, Version, first_version, second_version, CanSimplify}
+use Rattle.cert_text.proofs.Prelude.{IsCertificateText, ◌≡◌, ◌+◌, inl, inr, ◌≤◌, ◌==◌, ℕ, suc, List, [], ◌∷◌, ◌++◌, length, drop, take, Option, Some, None, IfSome, IfNone, refl, sym, ap, ◌∙◌, subst, arith}
+use Rattle.cert_text.proofs.Prelude.{eqb-true, length_push, append_cancel_left, drop_whole, Automaton, NameTable, pair_entry_view, name_of, Version, first_version, second_version, CanSimplify}
 use Rattle.cert_text.proofs.Prelude.{pairs_marks, closing, CertificateCause, syntax, bad_share, Naming, Mark, IsCertificateRefused, Item, pairs_from, entries_from, heads_from, Shared, nothing_shared}
 use Rattle.cert_text.proofs.Prelude.{never_both, BeginsEntry, Opening, ortho_opening, quasi_opening, simplified_opening, certificate_for, uses_with, IsRead, IsReadTo, with_begun, one_reading}
 use Rattle.cert_text.proofs.Prelude.{bytes_apart, CertError, told, IsRefusedAs, Run, IsFront, run_then, as_run, walks_text, EvidenceUses, IsPlainBy, Anywhere, AreBehind, WithinEntry, IsStoppedWhere}
@@ -60,16 +60,11 @@ Pair names v shared end n s t p = ReadsWhere (WithinEntry v n s.left.now) names 
 abbrev pub Last : NameTable → Version → ℕ → ℕ → code.Reading → code.Reading → Type 0
 Last names v end n s t = ReadsWhere (WithinEntry v n s.left.now) names end (pairs_from v n ∷ []) (λ u. closing) [] s t
 
-pub next_refused : (names : NameTable) (v : Version) (shared : List Automaton) (end n : ℕ) (s t : code.Reading) (found : Option PairEntry) (e : CertError) → s.refused ≡ None
-    → t.refused ≡ Some e → IfSome found (Pair names v shared end n s t) → IfNone found (Last names v end n s t)
-    → IsStoppedWhere (WithinEntry v n s.left.now) names end (pairs_from v n ∷ []) s.left.now s.shares (told e)
-next_refused names v shared end n s t None e none q h k = stopped_where e none q k
-next_refused names v shared end n s t (Some p) e none q h k = stopped_where e none q h
-
-pub front_kept : (names : NameTable) (v : Version) (shared : List Automaton) (end n : ℕ) (s t : code.Reading) (found : Option PairEntry)
-    → IfSome found (Pair names v shared end n s t) → IfNone found (Last names v end n s t) → IsFront s.shares.texts t.shares.texts
-front_kept names v shared end n s t None h k = k.front
-front_kept names v shared end n s t (Some p) h k = h.front
+pub next_read : (names : NameTable) (v : Version) (shared : List Automaton) (end n : ℕ) (s t : code.Reading) (found : Option PairEntry) → IfSome found (Pair names v shared end n s t)
+    → IfNone found (Last names v end n s t) → IsFront s.shares.texts t.shares.texts × ((e : CertError) → s.refused ≡ None → t.refused ≡ Some e
+    → IsStoppedWhere (WithinEntry v n s.left.now) names end (pairs_from v n ∷ []) s.left.now s.shares (told e))
+next_read names v shared end n s t None h k = (k.front, λ e none q. stopped_where e none q k)
+next_read names v shared end n s t (Some p) h k = (h.front, λ e none q. stopped_where e none q h)
 
 -- as the code holds the version and the shared automata
 pub up_to_by : {v w : Version} {shared all : List Automaton} {names : NameTable} {bytes left : List ℕ} {count : ℕ} {now : Shared} → w ≡ v → all ≡ shared
@@ -78,15 +73,17 @@ up_to_by e f u = rw (← e, ← f) u
 
 -- ---- shares
 
--- whatever was begun of an automaton
-held_begun : (v : Version) (shared : List Automaton) (names : NameTable) (bytes left : List ℕ) (count : ℕ) (now then : Shared) → then.texts ≡ now.texts → then.used ≡ now.used
-    → then.unfolds_to ≡ now.unfolds_to → IsUpTo v shared names bytes left count now → IsUpTo v shared names bytes left count then
-held_begun v shared names bytes left count now then texts used weight u = record {
+-- what came behind is let go of, whatever was begun of an automaton
+pub held_back : (v : Version) (shared : List Automaton) (names : NameTable) (bytes left : List ℕ) (count : ℕ) (now after back : Shared) (known : SoFar)
+    → IsFront now.texts after.texts → known ≡ record { texts = length now.texts; used = now.used; unfolds_to = now.unfolds_to }
+    → back ≡ record { texts = take known.texts after.texts; begun = after.begun; used = known.used; unfolds_to = known.unfolds_to } → IsUpTo v shared names bytes left count now
+    → IsUpTo v shared names bytes left count back
+held_back v shared names bytes left count now after back known front is kept u = record {
   opening = u.opening;
   entries = u.entries;
   given = u.given;
   item = u.item;
-  read = subst (λ (n : ℕ). IsReadTo names bytes u.opening u.entries (place_of bytes left) v (drop n shared) left) (sym used) u.read;
+  read = subst (λ (k : ℕ). IsReadTo names bytes u.opening u.entries (place_of bytes left) v (drop k shared) left) (ap (λ (z : Shared). z.used) (sym same)) u.read;
   counted = u.counted;
   can_share = u.can_share;
   known = (u.known.0, texts ∙ u.known.1);
@@ -96,19 +93,11 @@ held_begun v shared names bytes left count now then texts used weight u = record
   next = u.next;
 }
   where
-    same : with_begun [] then ≡ with_begun [] now
-    same = let a = texts in let b = used in let c = weight in cc
+    texts : back.texts ≡ now.texts
+    texts = cc (ap (λ (z : Shared). z.texts) kept, ap (λ (k : SoFar). k.texts) is, front.1, take-append_seam now.texts front.0)
 
--- what came behind is let go of
-pub held_back : (v : Version) (shared : List Automaton) (names : NameTable) (bytes left : List ℕ) (count : ℕ) (now after back : Shared) (known : SoFar)
-    → IsFront now.texts after.texts → known ≡ record { texts = length now.texts; used = now.used; unfolds_to = now.unfolds_to }
-    → back ≡ record { texts = take known.texts after.texts; begun = after.begun; used = known.used; unfolds_to = known.unfolds_to } → IsUpTo v shared names bytes left count now
-    → IsUpTo v shared names bytes left count back
-held_back v shared names bytes left count now after back known front is kept u =
-    let size = ap (λ (k : SoFar). k.texts) is in
-    held_begun v shared names bytes left count now back (ap (λ (z : Shared). z.texts) kept ∙ ap (λ (n : ℕ). take n after.texts) size ∙ ap (take (length now.texts)) front.1
-    ∙ take-append_seam now.texts front.0)
-    (ap (λ (z : Shared). z.used) kept ∙ ap (λ (k : SoFar). k.used) is) (ap (λ (z : Shared). z.unfolds_to) kept ∙ ap (λ (k : SoFar). k.unfolds_to) is) u
+    same : with_begun [] back ≡ with_begun [] now
+    same = cc (texts, ap (λ (z : Shared). z.used) kept, ap (λ (k : SoFar). k.used) is, ap (λ (z : Shared). z.unfolds_to) kept, ap (λ (k : SoFar). k.unfolds_to) is)
 
 -- ---- one entry more
 
@@ -128,8 +117,13 @@ none_if : {A : Type 0} (t : Option A) → ((x : A) → t ≡ Some x → ⊥) →
 none_if None never = refl
 none_if (Some x) never = absurd (never x refl)
 
-module _ {v : Version} {shared : List Automaton} {names : NameTable} {bytes left : List ℕ} {count : ℕ} {now : Shared} (u : IsUpTo v shared names bytes left count now)
-    (n : ℕ) (is_n : n ≡ suc count) where
+module _ {v : Version} {shared : List Automaton} {names : NameTable} {bytes left : List ℕ} {count : ℕ} {now : Shared} (u : IsUpTo v shared names bytes left count now) where
+  abbrev pub n : ℕ
+  n = count + 1
+
+  is_n : n ≡ suc count
+  is_n = omega arith
+
   next : IsNext v u.item n left
   next = rw is_n u.next
 
@@ -138,7 +132,7 @@ module _ {v : Version} {shared : List Automaton} {names : NameTable} {bytes left
   ReadsPair p rest sb = Run names (length bytes) (pairs_from v n ∷ []) (λ x. pairs_marks x (uses_with v names shared) n (p ∷ [])) (pairs_from v (suc n) ∷ []) left rest now sb
 
   within : length left ≤ length bytes
-  within = let place = u.read.read.place in let rest = ap length u.read.is_rest in omega (arith, place, rest)
+  within = let r = u.read in omega (arith, r.read.place, ap length r.is_rest)
 
   -- an opening and entries that are read up to here leave these bytes, and are those
   left_there : (o : Opening) (es : List math.PairEntry) (r : IsRead names bytes o es (place_of bytes left)) → (o ≡ u.opening) × (es ≡ u.entries) × (r.rest ≡ left)
@@ -163,29 +157,26 @@ module _ {v : Version} {shared : List Automaton} {names : NameTable} {bytes left
       let counts = (counts_pairs (p ∷ []) (name_of names) (uses_with v names shared) n).after now.texts [] now.used now.unfolds_to in
       sym (ap (λ (z : Shared). z.texts) keeps.1) ∙ ap (λ (z : Shared). z.texts) counts.1
 
-  pub held_on : {sb : Shared} (p : math.PairEntry) (rest : List ℕ) (count_then : ℕ) → EvidenceUses v shared p.evidence → count_then ≡ n → ReadsPair p rest sb
-      → IsUpTo v shared names bytes rest count_then sb
-  held_on {sb} p rest count_then plain e r =
-      let run = longer p rest sb r in
-      let plains = plain_more v shared u.opening u.entries p u.plain plain in
-      record {
-        opening = u.opening;
-        entries = u.entries ++ p ∷ [];
-        given = u.given;
-        item = pairs_from v (suc n);
-        read = run_read v shared names bytes rest u.given u.opening (u.entries ++ p ∷ []) (pairs_from v (suc n) ∷ []) u.can_share plains u.plain_shared run;
-        counted = (let long = length_push u.entries p in let old = u.counted in omega (arith, long, old, is_n, e));
-        can_share = u.can_share;
-        known = (u.known.0, texts_kept p rest sb r ∙ u.known.1);
-        plain = plains;
-        plain_shared = u.plain_shared;
-        run = run;
-        next = inl (ap (λ (k : ℕ). pairs_from v (suc k)) (sym e));
-      }
+  pub held_on : {sb : Shared} (p : math.PairEntry) (rest : List ℕ) → EvidenceUses v shared p.evidence → ReadsPair p rest sb → IsUpTo v shared names bytes rest n sb
+  held_on {sb} p rest plain r = record {
+    opening = u.opening;
+    entries = u.entries ++ p ∷ [];
+    given = u.given;
+    item = pairs_from v (suc n);
+    read = run_read v shared names bytes rest u.given u.opening (u.entries ++ p ∷ []) (pairs_from v (suc n) ∷ []) u.can_share (plain_more v shared u.opening u.entries p u.plain plain)
+        u.plain_shared (longer p rest sb r);
+    counted = (let long = length_push u.entries p in let old = u.counted in omega (arith, long, old));
+    can_share = u.can_share;
+    known = (u.known.0, texts_kept p rest sb r ∙ u.known.1);
+    plain = plain_more v shared u.opening u.entries p u.plain plain;
+    plain_shared = u.plain_shared;
+    run = longer p rest sb r;
+    next = inl refl;
+  }
 
   pub reads_on : {sb : Shared} (p : math.PairEntry) (rest : List ℕ) → EvidenceUses v shared p.evidence → ReadsPair p rest sb → ReadsOn (up_to names bytes left) p (up_to names bytes rest)
   unfolding held_on
-  reads_on p rest plain r o es h = let there = left_there o es h in rw (there.0, there.1) (held_on p rest n plain refl r).read.read
+  reads_on p rest plain r o es h = let there = left_there o es h in rw (there.0, there.1) (held_on p rest plain r).read.read
 
   -- what is left is the last line
   left_last : (o : Opening) (es : List math.PairEntry) → HasRead (up_to names bytes left) o es → IsAll (up_to names bytes left) o es → left ≡ last_line

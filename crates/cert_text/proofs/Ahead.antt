@@ -1,9 +1,10 @@
 -- A reader goes along what stands there, and never stops before its end.
 use Rattle.cert_text.proofs.Prelude.{◌≡◌, inl, inr, ◌<◌, ◌&&◌, ℕ, suc, Bool, true, List, [], ◌∷◌, ◌++◌, take, Option, Some, None, codes, refl, sym, ap, ◌∙◌, subst, arith, and_parts, NameTable}
-use Rattle.cert_text.proofs.Prelude.{CertificateCause, Demand, Mark, demands_of, verdict, Pass, Item, between, line, pairs_from, Lead, text, check, at_once, keyword, leads, Version}
-use Rattle.cert_text.proofs.Prelude.{first_version, second_version, mode_of, first_there, taken, mark_of, items_of, Left, behind_lead, judged, step_lead, Shared, share_verdict, behind_mark}
-use Rattle.cert_text.proofs.Prelude.{behind_marks, PassShares, ends, further, Takes, Path, first_complete, Move, Moves, moves_path, there_size, BeginsEntry, Meet, ahead, behind_it, meet}
-use Rattle.cert_text.proofs.Prelude.{never_ends, pass_split, left_at, RefusesAt, step_on, lowest, AreAbove, IsBehind, AreBehind, BeginsList, same_item}
+use Rattle.cert_text.proofs.Prelude.{CertificateCause, Demand, Mark, demands_of, verdict, Pass, Item, between, line, pairs_from, Lead, text, check, at_once, keyword, leads, Version, first_version}
+use Rattle.cert_text.proofs.Prelude.{second_version, mode_of, first_there, taken, mark_of, items_of, Left, behind_lead, judged, step_lead, Shared, share_verdict, behind_mark, behind_marks, PassShares}
+use Rattle.cert_text.proofs.Prelude.{ends, further, Takes, Path, first_complete, Move, Moves, moves_path, there_size, BeginsEntry, Meet, ahead, behind_it, meet, never_ends, pass_split, left_at}
+use Rattle.cert_text.proofs.Prelude.{RefusesAt, step_on, lowest, AreAbove, IsBehind, AreBehind, BeginsList, same_item, name_of, Opening, PairEntry, Gone, gone_along, Place, StopsWhere, opening}
+use Rattle.cert_text.proofs.Prelude.{nothing_shared, read_marks, walks_at, start_at, length}
 use Rattle.cert_grammar.specs.Prelude.{Reading as Answer}
 use Rattle.cert_grammar.proofs.ScanLaws.{IsWordOf}
 use Rattle.cert_laws.proofs.LeadTables.{In}
@@ -12,7 +13,6 @@ use Rattle.cert_laws.proofs.PassTerms.{pass_append}
 use Rattle.cert_laws.proofs.Moves.{There}
 use Rattle.cert_openings.proofs.Along.{Along}
 use Rattle.cert_sharing.proofs.ExactShared.{At}
-use Rattle.cert_text.proofs.Prelude.{name_of, Opening, PairEntry, Gone, gone_along, Place, StopsWhere, opening, nothing_shared, read_marks, walks_at, start_at, length}
 use Rattle.cert_grammar.specs.FirstRefusal as machine
 
 -- ---- two readers of the same bytes

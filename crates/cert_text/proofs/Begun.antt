@@ -1,8 +1,7 @@
 -- Where an opening stands, no reader stops within it.
 use Rattle.cert_text.proofs.Prelude.{◌≡◌, ℕ, ◌==◌, Bool, true, false, cond, List, [], ◌∷◌, ◌++◌, length, get_or, Option, Some, None, refl, sym, ap, ◌∙◌, subst, arith, NameTable, name_of, Version}
-use Rattle.cert_text.proofs.Prelude.{first_version, second_version, Uses, in_full, by_number, version_of, CertificateCause, Naming, Mark, marks_text, body_marks, answer_marks, heading_marks}
-use Rattle.cert_text.proofs.Prelude.{Item, opening, nothing_shared, Moves, BeginsEntry, Opening, certificate_for, IsRead, IsOpened}
-use Rattle.cert_text.proofs.Prelude.{gone_along, BeginsList, WithinOpening, IsStoppedWhere}
+use Rattle.cert_text.proofs.Prelude.{first_version, second_version, Uses, in_full, by_number, version_of, CertificateCause, Naming, Mark, marks_text, body_marks, answer_marks, heading_marks, Item}
+use Rattle.cert_text.proofs.Prelude.{opening, nothing_shared, Moves, BeginsEntry, Opening, certificate_for, IsRead, IsOpened, gone_along, BeginsList, WithinOpening, IsStoppedWhere}
 use Rattle.cert_openings.proofs.Opened.{gone}
 use Rattle.certificates.specs.Evidence.{Automaton}
 use Rattle.cert_text.proofs.Low.{last_list}

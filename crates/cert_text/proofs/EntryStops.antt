@@ -1,14 +1,12 @@
 -- Where an entry stands, no reader stops within it.
 use Rattle.cert_text.proofs.Prelude.{◌≡◌, ◌⊎◌, inl, inr, ◌<◌, ◌≤◌, ℕ, suc, List, [], ◌∷◌, ◌++◌, length, drop, codes, refl, sym, ap, ◌∙◌, subst, arith, cases_lt, Automaton, PairEntry, NameTable}
-use Rattle.cert_text.proofs.Prelude.{name_of, Version, CertificateCause, Mark, mark_text, pairs_marks, Item, leads, opening, pairs_from, taken, items_of, Left, Shared}
-use Rattle.cert_text.proofs.Prelude.{nothing_shared, first_sound, Move, Moves, Opening, uses_with, IsRead, bytes_apart, Meet, ahead, behind_it, meet, read_more, Gone, gone}
-use Rattle.cert_text.proofs.Prelude.{gone_rest, gone_along, one_reading, Walks, goes_where, AreBehind, IsBehind, BeginsList, WithinEntry, StopsWhere, place_of}
-use Rattle.cert_text.proofs.Prelude.{EndsMeasure, IsNext, read_marks, IsUpTo}
+use Rattle.cert_text.proofs.Prelude.{name_of, Version, CertificateCause, Mark, pairs_marks, Item, leads, opening, pairs_from, taken, items_of, Left, Shared, nothing_shared, first_sound}
+use Rattle.cert_text.proofs.Prelude.{Move, Moves, Opening, uses_with, IsRead, bytes_apart, Meet, ahead, behind_it, meet, read_more, Gone, gone, gone_rest, gone_along, one_reading, Walks, goes_where}
+use Rattle.cert_text.proofs.Prelude.{AreBehind, IsBehind, BeginsList, WithinEntry, StopsWhere, place_of, EndsMeasure, IsNext, read_marks, IsUpTo, entries_from, heads_from}
 use Rattle.cert_laws.proofs.FirstRefusals.{read_of, lead_move}
 use Rattle.cert_text.proofs.Ahead.{past, pair_step, later_moves, last_pair, list_step}
 use Rattle.cert_text.proofs.Low.{list_entries}
 use Rattle.cert_text.proofs.SameMarks.{no_front}
-use Rattle.cert_text.proofs.Prelude.{entries_from, heads_from}
 
 -- ---- moves
 
@@ -78,14 +76,7 @@ module _ (v : Version) (shared : List Automaton) (names : NameTable) (bytes left
   more_there : (o : Opening) (es : List PairEntry) (p : PairEntry) (place : ℕ) → IsRead names bytes o es (place_of bytes left) → IsRead names bytes o (es ++ p ∷ []) place → More p
   more_there o es p place before after =
       let same = one_reading names bytes o u.opening es u.entries (place_of bytes left) before u.read.read in
-      (place, subst (λ (x : Opening). IsRead names bytes x (u.entries ++ p ∷ []) place) same.opening (subst (λ (x : List PairEntry). IsRead names bytes o (x ++ p ∷ []) place) same.entries after))
-
-  -- behind its first mark
-  entry_behind : (ms : List Mark) (t : List Item) (rest : List ℕ) (m : Mark) (ns : List Mark) → ms ≡ m ∷ ns → Moves ms (u.item ∷ []) left t rest
-      → AreBehind v (suc count) t × (behind : List ℕ) × (left ≡ mark_text m ++ behind)
-  entry_behind ms t rest m ns e h =
-      let k = subst (λ (x : List Mark). Moves x (u.item ∷ []) left t rest) e h in
-      (later_moves v (suc count) ns (k.0 ++ []) t k.1 rest k.3 (next_step v u.item (suc count) m left k.1 k.0 u.next k.2), k.1, k.2.text)
+      (place, rw (same.opening, same.entries) at after)
 
   -- a later number stands behind it, and no last line before it
   entry_there : (p : PairEntry) (place : ℕ) (a : Gone names bytes u.opening (u.entries ++ p ∷ []) place)
@@ -97,8 +88,9 @@ module _ (v : Version) (shared : List Automaton) (names : NameTable) (bytes left
       let parts = moves_split (read_marks x a.uses a.shared a.answer u.opening u.entries) more (opening ∷ []) (al.item ∷ []) bytes a.rest
       (rw (read_more x a.uses a.shared a.answer u.opening u.entries p) al.moves) in
       let same = comes_here (u.entries ++ p ∷ []) place a parts.0 parts.1 parts.2 in
-      let behind = entry_behind more (al.item ∷ []) a.rest _ _ refl (rw (same.0, same.1) at parts.3) in
-      (last_pair v (suc count) al.item behind.0 al.may_end, λ w e. bytes_apart 112 101 _ _ refl (sym behind.2 ∙ e))
+      let on = rw (same.0, same.1) at parts.3 in
+      let behind = later_moves v (suc count) (drop 1 more) (on.0 ++ []) (al.item ∷ []) on.1 a.rest on.3 (next_step v u.item (suc count) _ left on.1 on.0 u.next on.2) in
+      (last_pair v (suc count) al.item behind al.may_end, λ w e. bytes_apart 112 101 _ _ refl (sym on.2.text ∙ e))
 
   pub entry_stands : (o : Opening) (es : List PairEntry) (p : PairEntry) (place : ℕ) → IsRead names bytes o es (place_of bytes left) → IsRead names bytes o (es ++ p ∷ []) place
       → (w : List ℕ) → left ≡ codes "end" ++ w → ⊥

@@ -1,11 +1,11 @@
 -- Texts that are read up to a body, or behind the word of its kind.
-use Rattle.cert_text.proofs.Prelude.{◌≡◌, ℕ, Bool, List, [], ◌∷◌, ◌++◌, length, Option, Some, None, codes, refl, sym, ap, ◌∙◌, arith, append_assoc, append-nil, Automaton}
-use Rattle.cert_text.proofs.Prelude.{Simplification, Certificate, simplified_certificate, NameTable, name_of, Version, first_version, second_version, Uses, number_in, CertificateCause, Naming, Mark}
-use Rattle.cert_text.proofs.Prelude.{fixed, marks_text, answer_marks, heading_marks, body_marks, closing, certificate_marks, HaveNames, Item, opening, between, line, nothing_shared, AreStill}
-use Rattle.cert_text.proofs.Prelude.{counts_still, lines_text, Opening, certificate_for, uses_with, IsOpeningEnd, IsOpened, no_peak, CertError, told, IsRefusedAs, Run, Reads, walks_text, kind_mark}
-use Rattle.cert_text.proofs.Prelude.{item_by, Peak, Place, IsStoppedWhere, ReadsWhere, WithinOpening, BeforeEntries, Anywhere, walks_named, kind_item, then_where, as_marks_where, low_where}
-use Rattle.cert_text.proofs.Prelude.{elsewhere, anywhere, reads_anywhere, open_before_where, ran, stopped_where, low_unopened, known_where, read_marks, steps_marks, opening_behind}
-use Rattle.cert_text.proofs.Prelude.{CanStep, front_marks, IsBegun, BeginsBody}
+use Rattle.cert_text.proofs.Prelude.{◌≡◌, ℕ, Bool, List, [], ◌∷◌, ◌++◌, length, Option, Some, None, codes, refl, sym, ap, ◌∙◌, arith, append_assoc, append-nil, Automaton, Simplification, Certificate}
+use Rattle.cert_text.proofs.Prelude.{simplified_certificate, NameTable, name_of, Version, first_version, second_version, Uses, number_in, CertificateCause, Naming, Mark, fixed, marks_text}
+use Rattle.cert_text.proofs.Prelude.{answer_marks, heading_marks, body_marks, closing, certificate_marks, HaveNames, Item, opening, between, line, nothing_shared, AreStill, counts_still, lines_text}
+use Rattle.cert_text.proofs.Prelude.{Opening, certificate_for, uses_with, IsOpeningEnd, IsOpened, no_peak, CertError, told, IsRefusedAs, Run, Reads, walks_text, kind_mark, item_by, Peak, Place}
+use Rattle.cert_text.proofs.Prelude.{IsStoppedWhere, ReadsWhere, WithinOpening, BeforeEntries, Anywhere, walks_named, kind_item, then_where, as_marks_where, low_where, elsewhere, anywhere}
+use Rattle.cert_text.proofs.Prelude.{reads_anywhere, open_before_where, ran, stopped_where, low_unopened, known_where, read_marks, steps_marks, opening_behind, CanStep, front_marks, IsBegun}
+use Rattle.cert_text.proofs.Prelude.{BeginsBody}
 use Rattle.cert_laws.proofs.Spelt.{have_append, text_both}
 use Rattle.cert_openings.proofs.OwnLines.{Own, no_lines, own_marks, own_front, own_simplify}
 use Rattle.cert_sharing.proofs.SpeltShares.{same_version}
@@ -25,9 +25,7 @@ pub begun_on : {names : NameTable} {bytes : List ℕ} {v : Version} {shared : Li
 begun_on {names} {bytes} {v} {shared} {given} {steps} {further} {items} {s} {t} ns to b still h = record {
   can_share = b.can_share;
   start = b.start;
-  all_left = b.all_left;
-  fresh = b.fresh;
-  not_refused = b.not_refused;
+  first = b.first;
   read = as_marks_where (λ none u. append_assoc (front_marks u (uses_with v names shared) shared given steps) further ns) (then_where b.read h);
   known = known_where v shared h [] (counts_still ns still) b.known;
   plain_shared = λ none. b.plain_shared (open_before_where h none);
@@ -78,9 +76,8 @@ own_lines v names shared given steps further can named =
     let w = uses_with v names shared in
     let heading = heading_marks x w shared in
     let ms = steps_marks x w steps in
-    let front = (have_append (answer_marks given ++ (heading ++ ms)) further named).0 in
-    let parts = have_append heading ms (have_append (answer_marks given) (heading ++ ms) front).1 in
-    rw (← append_assoc) (own_marks (answer_marks given ++ heading) ms (own_front x w shared given parts.0) (own_before v names shared steps can))
+    let front = have_append (answer_marks given) (heading ++ ms) (have_append (answer_marks given ++ (heading ++ ms)) further named).0 in
+    rw (← append_assoc) (own_marks (answer_marks given ++ heading) ms (own_front x w shared given (have_append heading ms front.1).0) (own_before v names shared steps can))
 
 module _ {names : NameTable} {bytes : List ℕ} {v : Version} {shared : List Automaton} {given : Option Bool} {steps : Option (List Simplification)} {further : List Mark}
     {items : List Item} {s : Reading} (b : IsBegun names bytes v shared given steps further items s) where
@@ -104,11 +101,11 @@ module _ {names : NameTable} {bytes : List ℕ} {v : Version} {shared : List Aut
 
   pub run_of : {P : Place} {f : Naming → List Mark} {to : List Item} {t : Reading} → t.refused ≡ None → ReadsWhere P names (length bytes) (opening ∷ []) f to b.start t
       → Run names (length bytes) (opening ∷ []) f to bytes t.left.now nothing_shared t.shares
-  run_of none h = rw (b.all_left, b.fresh) at (ran b.not_refused none h)
+  run_of none h = rw (b.first.all_left, b.first.fresh) at (ran b.first.not_refused none h)
 
   pub stop_of : {P : Place} {f : Naming → List Mark} {to : List Item} {t : Reading} (e : CertError) → t.refused ≡ Some e
       → ReadsWhere P names (length bytes) (opening ∷ []) f to b.start t → IsStoppedWhere P names (length bytes) (opening ∷ []) bytes nothing_shared (told e)
-  stop_of e q h = rw (b.all_left, b.fresh) at (stopped_where e b.not_refused q h)
+  stop_of e q h = rw (b.first.all_left, b.first.fresh) at (stopped_where e b.first.not_refused q h)
 
   -- ---- where it is refused no opening is there
 

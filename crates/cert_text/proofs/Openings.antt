@@ -2,21 +2,21 @@
 use Rattle.cert_text.proofs.Prelude.{◌≡◌, inl, inr, ℕ, suc, Bool, true, false, List, [], ◌∷◌, ◌++◌, length, Option, Some, None, Result, Ok, Err, IfOk, codes, refl, sym, ap, ◌∙◌, subst, arith}
 use Rattle.cert_text.proofs.Prelude.{append_assoc, append-nil, Automaton, MeasureCertificate, linear_measure, precedence_measure, Simplification, Certificate, peak_certificate, NameTable, name_of}
 use Rattle.cert_text.proofs.Prelude.{largest, Version, first_version, second_version, in_full, by_number, HasMeasure, IsUnsimplified, number_in, IsCertificateText, in_range, is_few, simplifications}
-use Rattle.cert_text.proofs.Prelude.{Naming, Mark, fixed, word, answer_marks, body_marks, heading_marks, measure_marks, peak_marks, simplifications_marks, closing, certificate_marks, Item}
-use Rattle.cert_text.proofs.Prelude.{pairs_from, Shared, nothing_shared, AreStill, counts_still, counts_both, counts_body, measure_still, never_both, Opening, ortho_opening, quasi_opening}
-use Rattle.cert_text.proofs.Prelude.{certificate_for, uses_with, BeginsEntry, IsOpened, CertError, IsRefusedAs, Run, Reads, open_before, behind_measure, behind_version, first_marks, kind_mark}
-use Rattle.cert_text.proofs.Prelude.{item_by, StepsUse, ApartUses, IsPlainBy, shared_marks, IsKnown, ArePlainAutomata, ReadsWhere, WithinOpening, BeforeEntries, AreShared, CanShare, other_below}
-use Rattle.cert_text.proofs.Prelude.{then_where, as_marks_where, low_where, open_before_where, known_behind, known_where, found_by, Reading, place_of, IsNext, read_marks, IsUpTo}
-use Rattle.cert_text.proofs.Prelude.{OpenedText, at_entries, whole, IsOpenedAs, IsRefusedBehind, IsToldBefore, steps_marks, opening_behind, opened_behind, CanStep, IsBegun}
+use Rattle.cert_text.proofs.Prelude.{Naming, Mark, fixed, word, answer_marks, body_marks, heading_marks, measure_marks, peak_marks, simplifications_marks, closing, certificate_marks, Item, pairs_from}
+use Rattle.cert_text.proofs.Prelude.{Shared, nothing_shared, AreStill, counts_still, counts_both, counts_body, measure_still, never_both, Opening, ortho_opening, quasi_opening, certificate_for}
+use Rattle.cert_text.proofs.Prelude.{uses_with, BeginsEntry, IsOpened, CertError, Run, Reads, open_before, behind_measure, behind_version, first_marks, kind_mark, item_by, StepsUse}
+use Rattle.cert_text.proofs.Prelude.{ApartUses, IsPlainBy, shared_marks, IsKnown, ArePlainAutomata, ReadsWhere, WithinOpening, BeforeEntries, AreShared, CanShare, other_below, then_where}
+use Rattle.cert_text.proofs.Prelude.{as_marks_where, low_where, open_before_where, known_behind, known_where, found_by, Reading, place_of, IsNext, read_marks, IsUpTo, OpenedText, at_entries, whole}
+use Rattle.cert_text.proofs.Prelude.{IsOpenedAs, IsRefusedBehind, steps_marks, opening_behind, opened_behind, CanStep, IsBegun, Uses, IsOpeningEnd, reads_anywhere, BeginsBody}
+use Rattle.cert_text.proofs.Prelude.{Opened, opened_view}
 use Rattle.certificates.specs.Prelude.{Peak}
 use Rattle.cert_grammar.specs.WordMarks.{numeral}
 use Rattle.cert_openings.proofs.Passes.{openings_pass}
 use Rattle.cert_reading.proofs.KindMarks.{kind_still, first_still}
 use Rattle.cert_text.proofs.Runs.{run_read, refused_behind}
-use Rattle.cert_text.proofs.Prelude.{IfErr, Uses, IsOpeningEnd, reads_anywhere, BeginsBody, Opened, opened_view}
 use Rattle.cert_openings.proofs.Bare.{openings_end}
-use Rattle.cert_text.specs.OpenedText.{IsAnswer, IsGood, IsBad, HasNoEndAtWhole}
-use Rattle.cert_text.specs.Front.{ReadsOpening}
+use Rattle.cert_text.specs.OpenedText.{IsAnswer, IsGood, IsBad}
+use Rattle.cert_text.specs.Front.{ReadsOpening, IsStart}
 use Rattle.cert_words.specs.declared.error.CertError.TheVariants.{CertSyntax}
 use Rattle.cert_text.proofs.Fronts.{begun_on, certificate_behind, read_behind, whole_behind, run_of, line_of, bad, entries_bad, no_end}
 use Rattle.cert_grammar.specs.Items as Items
@@ -27,14 +27,13 @@ use Rattle.cert_reading.specs.declared.headings.Kind.TheVariants as kinds
 -- ---- what follows for each text that is opened
 
 -- a text that is opened is refused behind its opening
-pub answers : (names : NameTable) (bytes : List ℕ) (r : Result Opened CertError) → IsAnswer names bytes r → IfOk r (λ o. IsOpenedAs names bytes (opened_view o))
-    × IfErr r (IsRefusedAs names bytes) × IfOk r (λ o. IsRefusedBehind names bytes (opened_view o)) × IfErr r (IsToldBefore bytes) × IfOk r (λ o. HasNoEndAtWhole bytes (opened_view o))
-answers names bytes (Ok o) h = (h.0, tt, late (opened_view o) h.0, tt, h.1)
+pub late : (names : NameTable) (bytes : List ℕ) (r : Result Opened CertError) → IsAnswer names bytes r → IfOk r (λ o. IsRefusedBehind names bytes (opened_view o))
+late names bytes (Err e) h = tt
+late names bytes (Ok o) h = by (opened_view o) h.0
   where
-    late : (t : OpenedText) → IsOpenedAs names bytes t → IsRefusedBehind names bytes t
-    late (at_entries o r) h = λ e at k. openings_pass names bytes o r.place e at h.2 k
-    late (whole c) h = λ e at k. never_both names bytes c e at h k
-answers names bytes (Err e) h = (tt, h.0, tt, h.1, tt)
+    by : (t : OpenedText) → IsOpenedAs names bytes t → IsRefusedBehind names bytes t
+    by (at_entries o r) h = λ e at k. openings_pass names bytes o r.place e at h.2 k
+    by (whole c) h = λ e at k. never_both names bytes c e at h k
 
 -- ---- the entries behind an opening
 
@@ -181,49 +180,31 @@ peak_read {names} {bytes} {v} {shared} {given} {steps} {s} {t} p b plain h = rec
 
 -- ---- from the first line on
 
--- a text of the first version, behind the word of its kind
-pub first_begun : {names : NameTable} {bytes : List ℕ} {given : Option Bool} {second : Bool} {s t u : words.Reading} (kind : kinds_of.Kind) → s.left.now ≡ bytes
-    → s.shares ≡ nothing_shared → s.refused ≡ None → second ≡ false
-    → ReadsWhere BeforeEntries names (length bytes) (Items.opening ∷ []) (λ u. first_marks given second) (behind_version second given ∷ []) s t
-    → ReadsWhere BeforeEntries names (length bytes) (Items.body first_version given ∷ []) (λ u. kind_mark given kind ∷ []) (Items.between Items.line ∷ item_by first_version kind ∷ []) t u
-    → IsBegun names bytes first_version [] given None (kind_mark given kind ∷ []) (Items.between Items.line ∷ item_by first_version kind ∷ []) u
-first_begun {given = given} {second = second} {s = s} kind all fresh none is first next =
-    record {
-      can_share = refl;
-      start = s;
-      all_left = all;
-      fresh = fresh;
-      not_refused = none;
-      read = then_where (rw is at first) next;
-      known = tt;
-      plain_shared = λ x. tt;
-      can_step = λ x. tt;
-    }
+module _ {names : NameTable} {bytes : List ℕ} {given : Option Bool} {second : Bool} {s t u : words.Reading} (first : IsStart bytes s)
+    (line : ReadsWhere BeforeEntries names (length bytes) (Items.opening ∷ []) (λ u. first_marks given second) (behind_version second given ∷ []) s t) where
+  -- a text of the first version, behind the word of its kind
+  pub first_begun : (kind : kinds_of.Kind) → second ≡ false
+      → ReadsWhere BeforeEntries names (length bytes) (Items.body first_version given ∷ []) (λ u. kind_mark given kind ∷ []) (Items.between Items.line ∷ item_by first_version kind ∷ []) t u
+      → IsBegun names bytes first_version [] given None (kind_mark given kind ∷ []) (Items.between Items.line ∷ item_by first_version kind ∷ []) u
+  first_begun kind is next =
+      record { can_share = refl; start = s; first = first; read = then_where (rw is at line) next; known = tt; plain_shared = λ x. tt; can_step = λ x. tt }
 
-shared_front : (a h m : List Mark) (l : Mark) → h ≡ l ∷ m → (a ++ (l ∷ [])) ++ m ≡ (a ++ (h ++ [])) ++ []
-shared_front a h m l e = append_assoc a (l ∷ []) m ∙ ap (λ (z : List Mark). a ++ z) (sym e ∙ sym (append-nil h)) ∙ sym (append-nil (a ++ (h ++ [])))
-
--- a text of the second version, behind its shared automata
-pub second_begun : {names : NameTable} {bytes : List ℕ} {given : Option Bool} {second : Bool} {s t u : words.Reading} (all : List Automaton) → s.left.now ≡ bytes
-    → s.shares ≡ nothing_shared → s.refused ≡ None → second ≡ true
-    → ReadsWhere BeforeEntries names (length bytes) (Items.opening ∷ []) (λ u. first_marks given second) (behind_version second given ∷ []) s t
-    → ReadsWhere BeforeEntries names (length bytes) (Items.shared_line given ∷ []) (λ u. shared_marks u all) (Items.simplified given ∷ []) t u
-    → (AreShared second_version names [] (length bytes) t → AreShared second_version names all (length bytes) u) → (u.refused ≡ None → ArePlainAutomata all)
-    → IsBegun names bytes second_version all given None [] (Items.simplified given ∷ []) u
-second_begun {names} {bytes} {given} {second} {s} {t} {u} all begins fresh none is line shared known plain =
-    let before : AreShared second_version names [] (length bytes) s = λ x. ((let long = ap length begins in omega (arith, long)), (tt, ap (λ (z : Shared). z.texts) fresh)) in
-    record {
-      can_share = tt;
-      start = s;
-      all_left = begins;
-      fresh = fresh;
-      not_refused = none;
-      read = as_marks_where (λ r x. shared_front (answer_marks given) (heading_marks x (uses_with second_version names all) all) (shared_marks x all) (fixed (codes "concon 2\n"))
-          refl) (then_where (rw is at line) shared);
-      known = known (known_where second_version [] line [] (counts_still (first_marks given second) (first_still given second)) before);
-      plain_shared = plain;
-      can_step = λ r. tt;
-    }
+  -- a text of the second version, behind its shared automata
+  pub second_begun : (all : List Automaton) → second ≡ true
+      → ReadsWhere BeforeEntries names (length bytes) (Items.shared_line given ∷ []) (λ u. shared_marks u all) (Items.simplified given ∷ []) t u
+      → (AreShared second_version names [] (length bytes) t → AreShared second_version names all (length bytes) u) → (u.refused ≡ None → ArePlainAutomata all)
+      → IsBegun names bytes second_version all given None [] (Items.simplified given ∷ []) u
+  second_begun all is shared known plain =
+      let before : AreShared second_version names [] (length bytes) s = λ x. ((let long = ap length first.all_left in omega (arith, long)), (tt, ap (λ (z : Shared). z.texts) first.fresh)) in
+      record {
+        can_share = tt;
+        start = s;
+        first = first;
+        read = as_marks_where (λ r x. simp (append_assoc, append-nil)) (then_where (rw is at line) shared);
+        known = known (known_where second_version [] line [] (counts_still (first_marks given second) (first_still given second)) before);
+        plain_shared = plain;
+        can_step = λ r. tt;
+      }
 
 -- ---- steps before the body
 
@@ -234,9 +215,7 @@ pub word_begun : {names : NameTable} {bytes : List ℕ} {v : Version} {shared : 
 word_begun {v = v} {given = given} kind b h = begun_on (kind_mark given kind ∷ []) (Items.between Items.line ∷ item_by v kind ∷ []) b (kind_still given kind) h
 
 steps_front : (a h s k : List Mark) → ((a ++ (h ++ [])) ++ []) ++ (s ++ k) ≡ (a ++ (h ++ s)) ++ k
-steps_front a h s k =
-    ap (λ (z : List Mark). z ++ (s ++ k)) (append-nil (a ++ (h ++ [])) ∙ ap (λ (z : List Mark). a ++ z) (append-nil h)) ∙ append_assoc a h (s ++ k)
-    ∙ sym (append_assoc a (h ++ s) k ∙ ap (λ (z : List Mark). a ++ z) (append_assoc h s k))
+steps_front a h s k = simp (append_assoc, append-nil)
 
 abbrev pub count_marks : ℕ → List Mark
 count_marks n = word (numeral n) (in_range 0 1 (suc largest) n ∷ is_few simplifications n ∷ []) ∷ fixed (codes "\n") ∷ []
@@ -252,19 +231,14 @@ pub steps_begin : {names : NameTable} {bytes : List ℕ} {shared : List Automato
     → IsBegun names bytes second_version shared given (Some ss) (kind_mark given kind ∷ []) (Items.between Items.line ∷ item_by second_version kind ∷ []) t
 steps_begin {names} {bytes} {shared} {given} {s} {s1} {s2} {s3} {t} all n ss kind e begun first count steps counted plain known next =
     let low = Items.body second_version given in
-    let b = subst (λ (l : List Automaton). IsBegun names bytes second_version l given None [] (Items.simplified given ∷ []) s) (sym e) begun in
+    let b = rw (← e) at begun in
     let was : t.refused ≡ None → s.refused ≡ None = λ none. open_before_where first (open_before count (open_before steps (open_before_where next none))) in
-    subst (λ (l : List Automaton). IsBegun names bytes second_version l given (Some ss) (kind_mark given kind ∷ []) (Items.between Items.line ∷ item_by second_version kind ∷ []) t) e (record {
+    rw (← e) (record {
       can_share = tt;
       start = b.start;
-      all_left = b.all_left;
-      fresh = b.fresh;
-      not_refused = b.not_refused;
-      read = as_marks_where (λ none u.
-          ap (λ (k : ℕ). ((answer_marks given ++ (heading_marks u (by_number (number_in names all)) all ++ [])) ++ [])
-          ++ (fixed (codes "simplify ") ∷ (count_marks k ++ (simplifications_marks u (by_number (number_in names all)) ss ++ (kind_mark given kind ∷ [])))))
-          (sym (counted (open_before_where next none)))
-          ∙ steps_front (answer_marks given) (heading_marks u (by_number (number_in names all)) all) (steps_marks u (by_number (number_in names all)) (Some ss)) (kind_mark given kind ∷ []))
+      first = b.first;
+      read = as_marks_where (λ none u. rw (← counted (open_before_where next none)) (steps_front (answer_marks given)
+          (heading_marks u (by_number (number_in names all)) all) (steps_marks u (by_number (number_in names all)) (Some ss)) (kind_mark given kind ∷ [])))
           (then_where b.read (then_where first (then_where (low_where low (other_below low tt) count) (then_where (low_where low (other_below low tt) steps) next))));
       known = known_where second_version all next [] (counts_still (kind_mark given kind ∷ []) (kind_still given kind)) known;
       plain_shared = λ none. b.plain_shared (was none);

@@ -5,12 +5,12 @@ pub use Rattle.std.proofs.lemmas.Bool.{and_parts, cases_lt, false≢true}
 pub use Rattle.std.proofs.lemmas.List.{length_push, append_cancel_left, append-nil, nil_from_length}
 pub use Rattle.cert_grammar.specs.Prelude.{IsCertificateText, name_of, Version, first_version, second_version, CanSimplify, pairs_marks, closing, CertificateCause, syntax, bad_share, Naming, Mark}
 pub use Rattle.cert_grammar.specs.Prelude.{IsCertificateRefused, Item, pairs_from, entries_from, heads_from, Shared, nothing_shared, Demand, word, mark_text, demands_of, verdict, Pass, between, line}
-pub use Rattle.cert_grammar.specs.Prelude.{Lead, text, check, at_once, keyword, leads, mode_of, first_there, taken, mark_of, items_of, Left, behind_lead, judged, step_lead, share_verdict}
-pub use Rattle.cert_grammar.specs.Prelude.{behind_mark, behind_marks, PassShares, ends, further, Uses, in_full, by_number, version_of, marks_text, body_marks, answer_marks, heading_marks, opening}
-pub use Rattle.cert_grammar.specs.Prelude.{number_in, fixed, certificate_marks, HaveNames, fits_answer, value, same_bytes, measure_marks, simplifications_marks, automata_marks, number_for}
-pub use Rattle.cert_grammar.specs.Prelude.{shared_automata, heading, shared_line, shared_count, automata_left, automaton_end, simplified, body, measure, behind_automata, body_leads, largest}
-pub use Rattle.cert_grammar.specs.Prelude.{HasMeasure, IsUnsimplified, in_range, is_few, simplifications, peak_marks, automaton_ends, shares, closed, number, position, automaton_marks}
-pub use Rattle.cert_grammar.specs.Prelude.{infeasibility_marks, evidence_marks, simplification_count, simplifications_of}
+pub use Rattle.cert_grammar.specs.Prelude.{Lead, text, check, at_once, keyword, leads, mode_of, first_there, taken, mark_of, items_of, Left, behind_lead, judged, step_lead, share_verdict, behind_mark}
+pub use Rattle.cert_grammar.specs.Prelude.{behind_marks, PassShares, ends, further, Uses, in_full, by_number, version_of, marks_text, body_marks, answer_marks, heading_marks, opening, number_in}
+pub use Rattle.cert_grammar.specs.Prelude.{fixed, certificate_marks, HaveNames, fits_answer, value, same_bytes, measure_marks, simplifications_marks, automata_marks, number_for, shared_automata}
+pub use Rattle.cert_grammar.specs.Prelude.{heading, shared_line, shared_count, automata_left, automaton_end, simplified, body, measure, behind_automata, body_leads, largest, HasMeasure}
+pub use Rattle.cert_grammar.specs.Prelude.{IsUnsimplified, in_range, is_few, simplifications, peak_marks, automaton_ends, shares, closed, number, position, automaton_marks, infeasibility_marks}
+pub use Rattle.cert_grammar.specs.Prelude.{evidence_marks, simplification_count, simplifications_of}
 pub use Rattle.cert_laws.proofs.Paths.{Takes, Path, first_complete, first_sound}
 pub use Rattle.cert_laws.proofs.Reached.{Move, Moves, moves_path, there_size}
 pub use Rattle.cert_model.specs.CertificateView.{pair_entry_view, measure_view, peak_view, simp_view, certificate_view}

@@ -1,8 +1,8 @@
 -- What a run along the marks of an opening and of entries has read, and where a run refuses a text.
-use Rattle.cert_text.proofs.Prelude.{◌≡◌, ◌+◌, ◌-◌, ℕ, Bool, List, [], ◌∷◌, length, drop, Option, Some, IfSome, refl, ap, ◌∙◌, subst, arith, length-append}
-use Rattle.cert_text.proofs.Prelude.{Automaton, PairEntry, NameTable, name_of, Version, IsCertificateRefused, CertificateCause, syntax, Naming, Mark, marks_text, Item, opening}
-use Rattle.cert_text.proofs.Prelude.{Shared, nothing_shared, behind_marks, Opening, certificate_for, uses_with, IsReadTo, CertError, told, IsRefusedAs, left_at, Run, walks_text, walks_pass, walks_at}
-use Rattle.cert_text.proofs.Prelude.{start_at, refused_at, IsPlainBy, ArePlainAutomata, CanShare, Anywhere, StopsWhere, IsStoppedWhere, walks_named, front_found, place_of, read_marks}
+use Rattle.cert_text.proofs.Prelude.{◌≡◌, ◌+◌, ◌-◌, ℕ, Bool, List, [], ◌∷◌, length, drop, Option, Some, IfSome, refl, ap, ◌∙◌, subst, arith, length-append, Automaton, PairEntry, NameTable, name_of}
+use Rattle.cert_text.proofs.Prelude.{Version, IsCertificateRefused, CertificateCause, syntax, Naming, Mark, marks_text, Item, opening, Shared, nothing_shared, behind_marks, Opening, certificate_for}
+use Rattle.cert_text.proofs.Prelude.{uses_with, IsReadTo, CertError, told, IsRefusedAs, left_at, Run, walks_text, walks_pass, walks_at, start_at, refused_at, IsPlainBy, ArePlainAutomata, CanShare}
+use Rattle.cert_text.proofs.Prelude.{Anywhere, StopsWhere, IsStoppedWhere, walks_named, front_found, place_of, read_marks}
 use Rattle.cert_words.specs.declared.error.CertError.TheVariants.{NoMemory}
 
 -- ---- a run to the end, and one behind an opening and entries

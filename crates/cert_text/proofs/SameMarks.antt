@@ -1,11 +1,10 @@
 -- The marks of an opening and of entries are no front of such marks with the same opening and entries, whatever automata are
 -- shared: behind the shared automata there are as many.
 use Rattle.cert_text.proofs.Prelude.{◌≡◌, ◌+◌, ◌==◌, ℕ, suc, Bool, true, false, cond, List, [], ◌∷◌, ◌++◌, length, get_or, Option, Some, None, codes, refl, sym, ap, ◌∙◌, subst, arith, append_assoc}
-use Rattle.cert_text.proofs.Prelude.{length-append, append_cancel_left, Automaton, InfeasibilityEvidence, by_caps, by_automaton, PairEvidence, infeasible_pair}
-use Rattle.cert_text.proofs.Prelude.{PairEntry, Simplification, dropped, inlined, Uses, in_full, by_number, version_of, Naming, automaton_ends, shares, Mark}
-use Rattle.cert_text.proofs.Prelude.{fixed, closed, automaton_marks, automata_marks, infeasibility_marks, evidence_marks, pairs_marks}
-use Rattle.cert_text.proofs.Prelude.{simplifications_marks, body_marks, answer_marks, heading_marks, Opening, ortho_opening, quasi_opening}
-use Rattle.cert_text.proofs.Prelude.{simplified_opening, certificate_for, read_marks}
+use Rattle.cert_text.proofs.Prelude.{length-append, append_cancel_left, Automaton, InfeasibilityEvidence, by_caps, by_automaton, PairEvidence, infeasible_pair, PairEntry, Simplification, dropped}
+use Rattle.cert_text.proofs.Prelude.{inlined, Uses, in_full, by_number, version_of, Naming, automaton_ends, shares, Mark, fixed, closed, automaton_marks, automata_marks, infeasibility_marks}
+use Rattle.cert_text.proofs.Prelude.{evidence_marks, pairs_marks, simplifications_marks, body_marks, answer_marks, heading_marks, Opening, ortho_opening, quasi_opening, simplified_opening}
+use Rattle.cert_text.proofs.Prelude.{certificate_for, read_marks}
 use Rattle.cert_laws.proofs.Asking.{automaton_asks}
 use Rattle.cert_openings.proofs.Late.{IsInBody, Late}
 use Rattle.cert_sharing.proofs.OneCertificate.{clash}

@@ -6,8 +6,8 @@ use Rattle.certificates.specs.Certificates.{PairEntry}
 use Rattle.cops_names.specs.NameTable.{NameTable}
 use Rattle.cert_model.specs.declared.evidence.Automaton.{Automaton}
 use Rattle.cert_model.specs.EvidenceView.{automaton_view}
-use Rattle.cert_grammar.specs.Prelude.{Naming, Mark, answer_marks, heading_marks, body_marks, Item, pairs_from, entries_from, heads_from, Version, first_version, second_version, Uses}
-use Rattle.cert_grammar.specs.Prelude.{Shared, nothing_shared}
+use Rattle.cert_grammar.specs.Prelude.{Naming, Mark, answer_marks, heading_marks, body_marks, Item, pairs_from, entries_from, heads_from, Version, first_version, second_version, Uses, Shared}
+use Rattle.cert_grammar.specs.Prelude.{nothing_shared}
 use Rattle.cert_grammar.specs.Items as Items
 use Rattle.cert_openings.specs.Openings.{Opening, certificate_for, uses_with, BeginsEntry}
 use Rattle.cert_openings.specs.Laws.{IsReadTo}

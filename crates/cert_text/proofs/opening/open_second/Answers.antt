@@ -1,5 +1,5 @@
-use Rattle.cert_text.proofs.Prelude.{map, [], ◌∷◌, length, refl, sym, ap, subst, automaton_view, simp_view, second_version, between, line, simplification_count, simplifications_of}
-use Rattle.cert_text.proofs.Prelude.{then_reads, framed, AreShared}
+use Rattle.cert_text.proofs.Prelude.{map, [], ◌∷◌, length, refl, sym, ap, subst, automaton_view, simp_view, second_version, between, line, simplification_count, simplifications_of, then_reads, framed}
+use Rattle.cert_text.proofs.Prelude.{AreShared}
 use Rattle.cert_text.proofs.Openings.{word_begun, steps_begin, known_at_steps}
 use Rattle.cert_text.proofs.opening.open_second.Goals as goal
 
