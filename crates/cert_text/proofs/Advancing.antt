@@ -1,16 +1,16 @@
 -- What one call of `Pairs::next` reads, or refuses.
-use Rattle.cert_text.proofs.Prelude.{IsCertificateText, ◌≡◌, ◌+◌, inl, inr, ◌≤◌, ◌==◌, ℕ, suc, List, [], ◌∷◌, ◌++◌, length, drop, take, Option, Some, None, IfSome, IfNone, refl, sym, ap, ◌∙◌, subst, arith}
-use Rattle.cert_text.proofs.Prelude.{eqb-true, length_push, append_cancel_left, drop_whole, Automaton, NameTable, pair_entry_view, name_of, Version, first_version, second_version, CanSimplify}
-use Rattle.cert_text.proofs.Prelude.{pairs_marks, closing, CertificateCause, syntax, bad_share, Naming, Mark, IsCertificateRefused, Item, pairs_from, entries_from, heads_from, Shared, nothing_shared}
-use Rattle.cert_text.proofs.Prelude.{never_both, BeginsEntry, Opening, ortho_opening, quasi_opening, simplified_opening, certificate_for, uses_with, IsRead, IsReadTo, with_begun, one_reading}
-use Rattle.cert_text.proofs.Prelude.{bytes_apart, CertError, told, IsRefusedAs, Run, IsFront, run_then, as_run, walks_text, EvidenceUses, IsPlainBy, Anywhere, AreBehind, WithinEntry, IsStoppedWhere}
-use Rattle.cert_text.proofs.Prelude.{ReadsWhere, entry_at, head_at, same_item, counts_pairs, alone, stop_behind, other_stop, stopped_where, Reading, HasRead, IsAll, ReadsOn, IsAtEnd, place_of}
-use Rattle.cert_text.proofs.Prelude.{EndsMeasure, IsNext, read_marks, IsUpTo, read_more}
+use Rattle.cert_text.proofs.Prelude.{codes, IsCertificateText, ◌≡◌, ◌+◌, inl, inr, ◌≤◌, ◌==◌, ℕ, suc, List, [], ◌∷◌, ◌++◌, length, drop, take, Option, Some, None, IfSome, IfNone, refl, sym, ap, ◌∙◌}
+use Rattle.cert_text.proofs.Prelude.{subst, arith, eqb-true, length_push, append_cancel_left, drop_whole, Automaton, NameTable, pair_entry_view, name_of, Version, first_version, second_version}
+use Rattle.cert_text.proofs.Prelude.{CanSimplify, pairs_marks, closing, CertificateCause, syntax, bad_share, Naming, Mark, IsCertificateRefused, Item, pairs_from, entries_from, heads_from, Shared}
+use Rattle.cert_text.proofs.Prelude.{nothing_shared, never_both, BeginsEntry, Opening, ortho_opening, quasi_opening, simplified_opening, certificate_for, uses_with, IsRead, IsReadTo, with_begun}
+use Rattle.cert_text.proofs.Prelude.{one_reading, bytes_apart, CertError, told, IsRefusedAs, Run, IsFront, run_then, as_run, walks_text, EvidenceUses, IsPlainBy, Anywhere, AreBehind, WithinEntry}
+use Rattle.cert_text.proofs.Prelude.{IsStoppedWhere, ReadsWhere, entry_at, head_at, same_item, counts_pairs, alone, stop_behind, other_stop, stopped_where, Reading, HasRead, IsAll, ReadsOn, IsAtEnd}
+use Rattle.cert_text.proofs.Prelude.{place_of, EndsMeasure, IsNext, read_marks, IsUpTo, read_more}
 use Rattle.std.proofs.Math.Seq.{take-append_seam}
 use Rattle.cert_model.specs.declared.model.PairEntry.{PairEntry}
 use Rattle.cert_sharing.proofs.FirstUses.{texts_length}
 use Rattle.cert_shares.specs.declared.shares.SoFar.{SoFar}
-use Rattle.cert_openings.proofs.Entries.{whole_is_text, text_is_whole}
+use Rattle.cert_openings.proofs.Entries.{whole_is_text, text_is_whole, allowed_more}
 use Rattle.cert_reading.proofs.ListMarks.{pairs_use}
 use Rattle.cert_reading.proofs.EntryItems.{IsSame, symbol_same, symbol_stopped, symbol_run}
 use Rattle.cert_text.proofs.Runs.{run_read, refused_as, refused_as_told, refused_behind}
@@ -22,9 +22,6 @@ use Rattle.cert_words.specs.declared.reading.Reading as code
 -- the reading of a text with these bytes left
 abbrev pub up_to : NameTable → List ℕ → List ℕ → Reading
 up_to names bytes left = record { names = names; bytes = bytes; place = place_of bytes left }
-
-abbrev last_line : List ℕ
-last_line = 101 ∷ 110 ∷ 100 ∷ 10 ∷ []
 
 -- ---- behind a measure the text goes on as behind nothing
 
@@ -53,15 +50,10 @@ next_run names end v n item f to b r sa sb (inr x) some h = symbol_run names end
 
 -- ---- from what the code says
 
-abbrev pub Pair : NameTable → Version → List Automaton → ℕ → ℕ → code.Reading → code.Reading → PairEntry → Type 0
-Pair names v shared end n s t p = ReadsWhere (WithinEntry v n s.left.now) names end (pairs_from v n ∷ []) (λ u. pairs_marks u (uses_with v names shared) n (pair_entry_view p ∷ []))
-    (pairs_from v (suc n) ∷ []) s t
-
-abbrev pub Last : NameTable → Version → ℕ → ℕ → code.Reading → code.Reading → Type 0
-Last names v end n s t = ReadsWhere (WithinEntry v n s.left.now) names end (pairs_from v n ∷ []) (λ u. closing) [] s t
-
-pub next_read : (names : NameTable) (v : Version) (shared : List Automaton) (end n : ℕ) (s t : code.Reading) (found : Option PairEntry) → IfSome found (Pair names v shared end n s t)
-    → IfNone found (Last names v end n s t) → IsFront s.shares.texts t.shares.texts × ((e : CertError) → s.refused ≡ None → t.refused ≡ Some e
+pub next_read : (names : NameTable) (v : Version) (shared : List Automaton) (end n : ℕ) (s t : code.Reading) (found : Option PairEntry)
+    → IfSome found (λ p. ReadsWhere (WithinEntry v n s.left.now) names end (pairs_from v n ∷ []) (λ u. pairs_marks u (uses_with v names shared) n (pair_entry_view p ∷ []))
+    (pairs_from v (suc n) ∷ []) s t) → IfNone found (ReadsWhere (WithinEntry v n s.left.now) names end (pairs_from v n ∷ []) (λ u. closing) [] s t)
+    → IsFront s.shares.texts t.shares.texts × ((e : CertError) → s.refused ≡ None → t.refused ≡ Some e
     → IsStoppedWhere (WithinEntry v n s.left.now) names end (pairs_from v n ∷ []) s.left.now s.shares (told e))
 next_read names v shared end n s t None h k = (k.front, λ e none q. stopped_where e none q k)
 next_read names v shared end n s t (Some p) h k = (h.front, λ e none q. stopped_where e none q h)
@@ -101,17 +93,11 @@ held_back v shared names bytes left count now after back known front is kept u =
 
 -- ---- one entry more
 
-can_simplify : (v : Version) (o : Opening) (es fs : List math.PairEntry) → CanSimplify v (certificate_for o es) → CanSimplify v (certificate_for o fs)
-can_simplify first_version o es fs h = absurd h
-can_simplify second_version ortho_opening es fs h = tt
-can_simplify second_version (quasi_opening m) es fs h = tt
-can_simplify second_version (simplified_opening ss o) es fs h = absurd h
-
 plain_more : (v : Version) (all : List Automaton) (o : Opening) (es : List math.PairEntry) (p : math.PairEntry) → IsPlainBy v all (certificate_for o es)
     → EvidenceUses v all p.evidence → IsPlainBy v all (certificate_for o (es ++ p ∷ []))
 plain_more v all ortho_opening es p h k = pairs_use v all es p h k
 plain_more v all (quasi_opening m) es p h k = (h.0, pairs_use v all es p h.1 k)
-plain_more v all (simplified_opening ss o) es p h k = (can_simplify v o es (es ++ p ∷ []) h.0, h.1, plain_more v all o es p h.2 k)
+plain_more v all (simplified_opening ss o) es p h k = (allowed_more (simplified_opening ss o) es (es ++ p ∷ []) v h.0, h.1, plain_more v all o es p h.2 k)
 
 none_if : {A : Type 0} (t : Option A) → ((x : A) → t ≡ Some x → ⊥) → t ≡ None
 none_if None never = refl
@@ -179,7 +165,7 @@ module _ {v : Version} {shared : List Automaton} {names : NameTable} {bytes left
   reads_on p rest plain r o es h = let there = left_there o es h in rw (there.0, there.1) (held_on p rest plain r).read.read
 
   -- what is left is the last line
-  left_last : (o : Opening) (es : List math.PairEntry) → HasRead (up_to names bytes left) o es → IsAll (up_to names bytes left) o es → left ≡ last_line
+  left_last : (o : Opening) (es : List math.PairEntry) → HasRead (up_to names bytes left) o es → IsAll (up_to names bytes left) o es → left ≡ codes "end\n"
   left_last o es h k =
       let there = left_there o es h in
       let whole = text_is_whole names bytes u.opening u.entries (subst (IsCertificateText names bytes) (cc (there.0, there.1)) k) in
@@ -191,7 +177,7 @@ module _ {v : Version} {shared : List Automaton} {names : NameTable} {bytes left
       (sym (walks_text names (pairs_marks (name_of names) (uses_with v names shared) n (p ∷ [])) _ _ (r.walks within [])) ∙ left_last o es h k)
 
   module _ (rest : List ℕ) (sb : Shared) (r : Run names (length bytes) (pairs_from v n ∷ []) (λ x. closing) [] left rest now sb) where
-    left_text : left ≡ last_line ++ rest
+    left_text : left ≡ codes "end\n" ++ rest
     left_text = walks_text names closing _ _ (r.walks within [])
 
     -- each shared automaton is used there
@@ -203,13 +189,13 @@ module _ {v : Version} {shared : List Automaton} {names : NameTable} {bytes left
     pub at_end : rest ≡ [] → IsAtEnd (up_to names bytes left)
     at_end e o es h =
         let same = one_reading names bytes o u.opening es u.entries (place_of bytes left) h u.read.read in
-        whole_is_text names bytes o es (place_of bytes left) h (same.left ∙ u.read.is_left ∙ none_left) ((left_there o es h).2 ∙ left_text ∙ ap (λ (w : List ℕ). last_line ++ w) e)
+        whole_is_text names bytes o es (place_of bytes left) h (same.left ∙ u.read.is_left ∙ none_left) ((left_there o es h).2 ∙ left_text ∙ ap (λ (w : List ℕ). codes "end\n" ++ w) e)
 
     pub no_entry : (o : Opening) (es : List math.PairEntry) (p : math.PairEntry) (place : ℕ) → HasRead (up_to names bytes left) o es → IsRead names bytes o (es ++ p ∷ []) place → ⊥
     no_entry o es p place h k = entry_stands v shared names bytes left count now u o es p place h k _ left_text
 
     pub not_whole : (rest ≡ [] → ⊥) → (o : Opening) (es : List math.PairEntry) → HasRead (up_to names bytes left) o es → IsAll (up_to names bytes left) o es → ⊥
-    not_whole some o es h k = some (append_cancel_left last_line rest [] (sym left_text ∙ left_last o es h k))
+    not_whole some o es h k = some (append_cancel_left (codes "end\n") rest [] (sym left_text ∙ left_last o es h k))
 
     pub behind_refused : (at : ℕ) → (rest ≡ [] → ⊥) → at ≡ place_of bytes rest → IsCertificateRefused names bytes syntax at
     behind_refused at some e =

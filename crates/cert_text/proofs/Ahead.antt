@@ -19,13 +19,7 @@ use Rattle.cert_grammar.specs.FirstRefusal as machine
 
 mark_read : (a : Lead) (w b : List ℕ) → IsWordOf (mode_of a) w → There a w b → mark_of a (take (taken a b) b) ≡ mark_of a w
 mark_read (text bytes items) w b h t = refl
-mark_read (check demand byte items) w b h t = refl
-mark_read (at_once demand items) w b h t = refl
-mark_read (keyword bytes demands items) w b h t = refl
 mark_read a w b h t = ap (mark_of a) (there_size a w b h t)
-
-ends_or_further : (r : Answer) (k : Left) (z : Shared) → further k z ≡ ends r → ⊥
-ends_or_further r k z e = cc
 
 -- where a mark is read that passes nothing is refused
 never_refused : (names : NameTable) (end : ℕ) (i : Item) (s : List Item) (m : Mark) (b behind : List ℕ) (new : List Item) (z : Shared) (e : CertificateCause × ℕ)
@@ -40,7 +34,8 @@ never_refused names end i s m b behind new z e h v w r =
     ∙ passed_anywhere names 0 l.at (demands_of m) v in
     let goes = ap (λ (x : Option Lead). step_lead names l x i s) first ∙ ap (λ (x : Option (CertificateCause × ℕ)). judged x (behind_lead l k.lead s)) passed in
     let on = step_on names l (behind_lead l k.lead s) m z (record { item = i; others = s; items = refl; lead = k.lead; first = first; mark = sym mark; goes = goes }) w in
-    ends_or_further (machine.refused e.0 e.1) (behind_lead l k.lead s) (behind_mark m z) (sym on ∙ r)
+    let both : further (behind_lead l k.lead s) (behind_mark m z) ≡ ends (machine.refused e.0 e.1) = sym on ∙ r in
+    cc
 
 -- a reader that stops has gone along an opening and entries that stand there
 pub past : {names : NameTable} {bytes : List ℕ} {o : Opening} {es : List PairEntry} {end : ℕ} {P : Place} {e : CertificateCause × ℕ} (a : Gone names bytes o es end)

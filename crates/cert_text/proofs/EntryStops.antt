@@ -1,8 +1,8 @@
 -- Where an entry stands, no reader stops within it.
 use Rattle.cert_text.proofs.Prelude.{◌≡◌, ◌⊎◌, inl, inr, ◌<◌, ◌≤◌, ℕ, suc, List, [], ◌∷◌, ◌++◌, length, drop, codes, refl, sym, ap, ◌∙◌, subst, arith, cases_lt, Automaton, PairEntry, NameTable}
-use Rattle.cert_text.proofs.Prelude.{name_of, Version, CertificateCause, Mark, pairs_marks, Item, leads, opening, pairs_from, taken, items_of, Left, Shared, nothing_shared, first_sound}
-use Rattle.cert_text.proofs.Prelude.{Move, Moves, Opening, uses_with, IsRead, bytes_apart, Meet, ahead, behind_it, meet, read_more, Gone, gone, gone_rest, gone_along, one_reading, Walks, goes_where}
-use Rattle.cert_text.proofs.Prelude.{AreBehind, IsBehind, BeginsList, WithinEntry, StopsWhere, place_of, EndsMeasure, IsNext, read_marks, IsUpTo, entries_from, heads_from}
+use Rattle.cert_text.proofs.Prelude.{name_of, Version, CertificateCause, Mark, pairs_marks, Item, leads, opening, pairs_from, taken, items_of, Left, Shared, nothing_shared, first_sound, Move, Moves}
+use Rattle.cert_text.proofs.Prelude.{Opening, uses_with, IsRead, bytes_apart, Meet, ahead, behind_it, meet, read_more, Gone, gone, gone_rest, gone_along, one_reading, Walks, goes_where, AreBehind}
+use Rattle.cert_text.proofs.Prelude.{IsBehind, BeginsList, WithinEntry, StopsWhere, place_of, EndsMeasure, IsNext, read_marks, IsUpTo, entries_from, heads_from}
 use Rattle.cert_laws.proofs.FirstRefusals.{read_of, lead_move}
 use Rattle.cert_text.proofs.Ahead.{past, pair_step, later_moves, last_pair, list_step}
 use Rattle.cert_text.proofs.Low.{list_entries}

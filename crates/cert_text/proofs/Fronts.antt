@@ -19,10 +19,9 @@ use Rattle.cert_text.proofs.Begun.{version_in, unopened, version_is}
 -- ---- a part more
 
 pub begun_on : {names : NameTable} {bytes : List ℕ} {v : Version} {shared : List Automaton} {given : Option Bool} {steps : Option (List Simplification)} {further : List Mark}
-    {items : List Item} {s t : Reading} (ns : List Mark) (to : List Item)
-    → IsBegun names bytes v shared given steps further items s → AreStill ns → ReadsWhere BeforeEntries names (length bytes) items (λ u. ns) to s t
+    {items to : List Item} {ns : List Mark} {s t : Reading} → IsBegun names bytes v shared given steps further items s → AreStill ns → ReadsWhere BeforeEntries names (length bytes) items (λ u. ns) to s t
     → IsBegun names bytes v shared given steps (further ++ ns) to t
-begun_on {names} {bytes} {v} {shared} {given} {steps} {further} {items} {s} {t} ns to b still h = record {
+begun_on {names} {v = v} {shared = shared} {given = given} {steps = steps} {further = further} {ns = ns} b still h = record {
   can_share = b.can_share;
   start = b.start;
   first = b.first;
@@ -36,7 +35,7 @@ begun_on {names} {bytes} {v} {shared} {given} {steps} {further} {items} {s} {t} 
 pub line_of : {names : NameTable} {bytes : List ℕ} {v w : Version} {shared all : List Automaton} {steps : Option (List Simplification)} {kind : Kind} {s t : Reading} (k : Kind) → kind ≡ k
     → w ≡ v → all ≡ shared → (b : BeginsBody names bytes v shared steps kind s) → Reads names (length bytes) (between line ∷ []) (λ u. fixed (codes "\n") ∷ []) [] s t
     → IsBegun names bytes w all b.given steps (kind_mark b.given k ∷ fixed (codes "\n") ∷ []) (item_by w k ∷ []) t
-line_of {v = v} {kind = kind} k e p q b h = rw (← e, p, q) (begun_on (fixed (codes "\n") ∷ []) (item_by v kind ∷ []) b.begun (tt, tt)
+line_of {v = v} {kind = kind} k e p q b h = rw (← e, p, q) (begun_on b.begun (tt, tt)
     (low_where (item_by v kind) (λ i m q w. low_unopened w (item_by v kind) (kind_item v w kind) i m q) h))
 
 -- ---- the marks from the first one on
@@ -54,12 +53,6 @@ front_whole : (steps : Option (List Simplification)) (u : Naming) (w : Uses) (sh
     → front_marks u w shared given steps ++ (body_marks u w given c ++ closing) ≡ certificate_marks u w shared given (certificate_behind steps c)
 front_whole None u w shared given c = simp (append_assoc, append-nil)
 front_whole (Some ss) u w shared given c = simp append_assoc
-
--- ---- what was refused stays so
-
-same_told : {P : Place} {names : NameTable} {end : ℕ} {from to : List Item} {f : Naming → List Mark} {s t : Reading} → ReadsWhere P names end from f to s t → (d e : CertError)
-    → s.refused ≡ Some d → t.refused ≡ Some e → told e ≡ told d
-same_told h d e p q = rw (p, q) at h.on
 
 -- the lines before a body tell no kind
 own_before : (v : Version) (names : NameTable) (shared : List Automaton) (steps : Option (List Simplification)) → CanStep v shared steps
@@ -130,7 +123,7 @@ module _ {names : NameTable} {bytes : List ℕ} {v : Version} {shared : List Aut
       refused = refused_as names bytes e refl (stop_of e q (then_where (anywhere b.read) (anywhere h)))
 
       by : (r : Option CertError) → s.refused ≡ r → (x : CertificateCause × ℕ) → told e ≡ Some x → (end : ℕ) (o : Opening) → IsOpened names bytes o end → ⊥
-      by (Some d) r x k end o = none_before d r x (sym (same_told h d e r q) ∙ k) o end
+      by (Some d) r x k end o = let stays : told e ≡ told d = rw (r, q) at h.on in none_before d r x (sym stays ∙ k) o end
       by None r x k end o = none r x k o end
 
   pub entries_bad : {f : Naming → List Mark} {to : List Item} {t : Reading} (e : CertError) → t.refused ≡ Some e → ReadsWhere (WithinOpening v) names (length bytes) items f to s t

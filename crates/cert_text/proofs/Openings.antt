@@ -4,11 +4,10 @@ use Rattle.cert_text.proofs.Prelude.{append_assoc, append-nil, Automaton, Measur
 use Rattle.cert_text.proofs.Prelude.{largest, Version, first_version, second_version, in_full, by_number, HasMeasure, IsUnsimplified, number_in, IsCertificateText, in_range, is_few, simplifications}
 use Rattle.cert_text.proofs.Prelude.{Naming, Mark, fixed, word, answer_marks, body_marks, heading_marks, measure_marks, peak_marks, simplifications_marks, closing, certificate_marks, Item, pairs_from}
 use Rattle.cert_text.proofs.Prelude.{Shared, nothing_shared, AreStill, counts_still, counts_both, counts_body, measure_still, never_both, Opening, ortho_opening, quasi_opening, certificate_for}
-use Rattle.cert_text.proofs.Prelude.{uses_with, BeginsEntry, IsOpened, CertError, Run, Reads, open_before, behind_measure, behind_version, first_marks, kind_mark, item_by, StepsUse}
-use Rattle.cert_text.proofs.Prelude.{ApartUses, IsPlainBy, shared_marks, IsKnown, ArePlainAutomata, ReadsWhere, WithinOpening, BeforeEntries, AreShared, CanShare, other_below, then_where}
-use Rattle.cert_text.proofs.Prelude.{as_marks_where, low_where, open_before_where, known_behind, known_where, found_by, Reading, place_of, IsNext, read_marks, IsUpTo, OpenedText, at_entries, whole}
-use Rattle.cert_text.proofs.Prelude.{IsOpenedAs, IsRefusedBehind, steps_marks, opening_behind, opened_behind, CanStep, IsBegun, Uses, IsOpeningEnd, reads_anywhere, BeginsBody}
-use Rattle.cert_text.proofs.Prelude.{Opened, opened_view}
+use Rattle.cert_text.proofs.Prelude.{uses_with, BeginsEntry, IsOpened, CertError, Run, Reads, open_before, behind_measure, behind_version, first_marks, kind_mark, item_by, StepsUse, ApartUses}
+use Rattle.cert_text.proofs.Prelude.{IsPlainBy, shared_marks, IsKnown, ArePlainAutomata, ReadsWhere, WithinOpening, BeforeEntries, AreShared, CanShare, other_below, then_where, as_marks_where}
+use Rattle.cert_text.proofs.Prelude.{low_where, open_before_where, known_behind, known_where, found_by, Reading, place_of, IsNext, read_marks, IsUpTo, OpenedText, at_entries, whole, IsOpenedAs}
+use Rattle.cert_text.proofs.Prelude.{IsRefusedBehind, steps_marks, opening_behind, opened_behind, CanStep, IsBegun, Uses, IsOpeningEnd, reads_anywhere, BeginsBody, Opened, opened_view}
 use Rattle.certificates.specs.Prelude.{Peak}
 use Rattle.cert_grammar.specs.WordMarks.{numeral}
 use Rattle.cert_openings.proofs.Passes.{openings_pass}
@@ -18,7 +17,7 @@ use Rattle.cert_openings.proofs.Bare.{openings_end}
 use Rattle.cert_text.specs.OpenedText.{IsAnswer, IsGood, IsBad}
 use Rattle.cert_text.specs.Front.{ReadsOpening, IsStart}
 use Rattle.cert_words.specs.declared.error.CertError.TheVariants.{CertSyntax}
-use Rattle.cert_text.proofs.Fronts.{begun_on, certificate_behind, read_behind, whole_behind, run_of, line_of, bad, entries_bad, no_end}
+use Rattle.cert_text.proofs.Fronts.{certificate_behind, read_behind, whole_behind, run_of, line_of, bad, entries_bad, no_end}
 use Rattle.cert_grammar.specs.Items as Items
 use Rattle.cert_words.specs.declared.reading.Reading as words
 use Rattle.cert_reading.specs.declared.headings.Kind as kinds_of
@@ -207,12 +206,6 @@ module _ {names : NameTable} {bytes : List ℕ} {given : Option Bool} {second : 
       }
 
 -- ---- steps before the body
-
-pub word_begun : {names : NameTable} {bytes : List ℕ} {v : Version} {shared : List Automaton} {given : Option Bool} {items : List Item} {s t : words.Reading} (kind : kinds_of.Kind)
-    → IsBegun names bytes v shared given None [] items s
-    → ReadsWhere BeforeEntries names (length bytes) items (λ u. kind_mark given kind ∷ []) (Items.between Items.line ∷ item_by v kind ∷ []) s t
-    → IsBegun names bytes v shared given None (kind_mark given kind ∷ []) (Items.between Items.line ∷ item_by v kind ∷ []) t
-word_begun {v = v} {given = given} kind b h = begun_on (kind_mark given kind ∷ []) (Items.between Items.line ∷ item_by v kind ∷ []) b (kind_still given kind) h
 
 steps_front : (a h s k : List Mark) → ((a ++ (h ++ [])) ++ []) ++ (s ++ k) ≡ (a ++ (h ++ s)) ++ k
 steps_front a h s k = simp (append_assoc, append-nil)

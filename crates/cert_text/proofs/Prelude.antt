@@ -1,22 +1,21 @@
 -- The names that the proofs of this crate cite, passed on from one place. Declares nothing.
 pub use Rattle.std.proofs.Common.{◌≡◌, inl, inr, ◌≤◌, ◌==◌, ℕ, suc, List, [], ◌∷◌, ◌++◌, length, drop, take, Option, Some, None, IfSome, IfNone, refl, sym, ap, ◌∙◌, subst, arith, eqb-true, ◌⊎◌, ◌<◌}
-pub use Rattle.std.proofs.Common.{◌&&◌, Bool, true, codes, false, cond, get_or, append_assoc, zero, not, map, Vec, Global, Box, rules, Result, Ok, Err, IfOk, IfErr, ◌+◌, ◌-◌, length-append}
-pub use Rattle.std.proofs.lemmas.Bool.{and_parts, cases_lt, false≢true}
+pub use Rattle.std.proofs.Common.{◌&&◌, Bool, true, codes, false, cond, get_or, append_assoc, zero, not, map, Vec, Global, Box, rules, Result, Ok, Err, IfOk, ◌+◌, ◌-◌, length-append}
+pub use Rattle.std.proofs.lemmas.Bool.{and_parts, cases_lt}
 pub use Rattle.std.proofs.lemmas.List.{length_push, append_cancel_left, append-nil, nil_from_length}
 pub use Rattle.cert_grammar.specs.Prelude.{IsCertificateText, name_of, Version, first_version, second_version, CanSimplify, pairs_marks, closing, CertificateCause, syntax, bad_share, Naming, Mark}
-pub use Rattle.cert_grammar.specs.Prelude.{IsCertificateRefused, Item, pairs_from, entries_from, heads_from, Shared, nothing_shared, Demand, word, mark_text, demands_of, verdict, Pass, between, line}
-pub use Rattle.cert_grammar.specs.Prelude.{Lead, text, check, at_once, keyword, leads, mode_of, first_there, taken, mark_of, items_of, Left, behind_lead, judged, step_lead, share_verdict, behind_mark}
+pub use Rattle.cert_grammar.specs.Prelude.{IsCertificateRefused, Item, pairs_from, entries_from, heads_from, Shared, nothing_shared, Demand, word, demands_of, verdict, Pass, between, line, Lead, text}
+pub use Rattle.cert_grammar.specs.Prelude.{check, at_once, keyword, leads, mode_of, first_there, taken, mark_of, items_of, Left, behind_lead, judged, step_lead, share_verdict, behind_mark}
 pub use Rattle.cert_grammar.specs.Prelude.{behind_marks, PassShares, ends, further, Uses, in_full, by_number, version_of, marks_text, body_marks, answer_marks, heading_marks, opening, number_in}
-pub use Rattle.cert_grammar.specs.Prelude.{fixed, certificate_marks, HaveNames, fits_answer, value, same_bytes, measure_marks, simplifications_marks, automata_marks, number_for, shared_automata}
-pub use Rattle.cert_grammar.specs.Prelude.{heading, shared_line, shared_count, automata_left, automaton_end, simplified, body, measure, behind_automata, body_leads, largest, HasMeasure}
-pub use Rattle.cert_grammar.specs.Prelude.{IsUnsimplified, in_range, is_few, simplifications, peak_marks, automaton_ends, shares, closed, number, position, automaton_marks, infeasibility_marks}
-pub use Rattle.cert_grammar.specs.Prelude.{evidence_marks, simplification_count, simplifications_of}
+pub use Rattle.cert_grammar.specs.Prelude.{fixed, certificate_marks, HaveNames, fits_answer, measure_marks, simplifications_marks, automata_marks, number_for, shared_automata, heading, shared_line}
+pub use Rattle.cert_grammar.specs.Prelude.{shared_count, automata_left, automaton_end, simplified, body, measure, behind_automata, largest, HasMeasure, IsUnsimplified, in_range, is_few}
+pub use Rattle.cert_grammar.specs.Prelude.{simplifications, peak_marks, automaton_ends, shares, closed, automaton_marks, infeasibility_marks, evidence_marks, simplification_count, simplifications_of}
 pub use Rattle.cert_laws.proofs.Paths.{Takes, Path, first_complete, first_sound}
 pub use Rattle.cert_laws.proofs.Reached.{Move, Moves, moves_path, there_size}
 pub use Rattle.cert_model.specs.CertificateView.{pair_entry_view, measure_view, peak_view, simp_view, certificate_view}
 pub use Rattle.cert_model.specs.EvidenceView.{automaton_view}
 pub use Rattle.cert_openings.proofs.Along.{Meet, ahead, behind_it, meet, never_ends}
-pub use Rattle.cert_openings.proofs.Lines.{bytes_apart, apart, no_peak}
+pub use Rattle.cert_openings.proofs.Lines.{bytes_apart, no_peak}
 pub use Rattle.cert_openings.proofs.OneReading.{one_reading}
 pub use Rattle.cert_openings.proofs.Opened.{gone, gone_rest, gone_along, Gone}
 pub use Rattle.cert_openings.proofs.OpeningMarks.{read_more}
@@ -34,20 +33,20 @@ pub use Rattle.cert_reading.specs.Uses.{AreShared, version_by, automata_by}
 pub use Rattle.cert_reading.specs.Whole.{CanShare}
 pub use Rattle.cert_reading.specs.declared.headings.Kind.TheVariants.{Peak}
 pub use Rattle.cert_shares.specs.SharesView.{with_begun}
-pub use Rattle.cert_sharing.proofs.UseMarks.{counts_pairs, alone, pass_split, behind_both, AreStill, counts_still, Counts, counts_both, counts_body, measure_still, behind_states, behind_states_still}
+pub use Rattle.cert_sharing.proofs.UseMarks.{counts_pairs, alone, pass_split, AreStill, counts_still, counts_both, counts_body, measure_still}
 pub use Rattle.cert_sharing.proofs.Whole.{never_both, text_or_refused, places_within}
 pub use Rattle.cert_text.specs.Front.{steps_marks, opening_behind, CanStep, front_marks, IsBegun, BeginsBody, opened_behind}
-pub use Rattle.cert_text.specs.OpenedText.{IsToldBefore, at_entries, whole, behind_steps, opened_view, OpenedText, IsOpenedAs, IsRefusedBehind}
+pub use Rattle.cert_text.specs.OpenedText.{at_entries, whole, behind_steps, opened_view, OpenedText, IsOpenedAs, IsRefusedBehind}
 pub use Rattle.cert_text.specs.Reading.{Reading, HasRead, IsAll, ReadsOn, IsAtEnd}
 pub use Rattle.cert_text.specs.ReadingView.{place_of, EndsMeasure, IsNext, read_marks, IsUpTo}
 pub use Rattle.cert_text.specs.declared.opening.Opened.{Opened, Ortho, Quasi, Simplified, the_lemmas}
-pub use Rattle.cert_words.proofs.Walking.{run_then, as_run, step_on, same_begun, goes_where, open_before, then_reads, framed}
+pub use Rattle.cert_words.proofs.Walking.{run_then, as_run, step_on, goes_where, open_before, then_reads, framed}
 pub use Rattle.cert_words.proofs.Whole.{walks_text, walks_at, start_at, walks_pass, refused_at}
 pub use Rattle.cert_words.specs.CertRefusals.{IsRefusedAs}
 pub use Rattle.cert_words.specs.Walks.{Run, IsFront, left_at, RefusesAt, Walks, Reads}
 pub use Rattle.cert_words.specs.Words.{told}
 pub use Rattle.cert_words.specs.declared.error.CertError.{CertError}
 pub use Rattle.certificates.specs.Prelude.{Automaton, PairEntry, Simplification, Certificate, simplified_certificate, MeasureCertificate, linear_measure, precedence_measure, peak_certificate}
-pub use Rattle.certificates.specs.Prelude.{InfeasibilityEvidence, by_caps, by_automaton, PairEvidence, trivial_pair, infeasible_pair, conflicting_pair, joined_pair, unfeasible_pair, dropped, inlined}
+pub use Rattle.certificates.specs.Prelude.{InfeasibilityEvidence, by_caps, by_automaton, PairEvidence, infeasible_pair, dropped, inlined}
 pub use Rattle.cops_names.specs.NameTable.{NameTable}
 pub use Rattle.general_lemmas.proofs.Lists.{drop_whole, not_nil}

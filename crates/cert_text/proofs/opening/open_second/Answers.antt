@@ -1,10 +1,12 @@
 use Rattle.cert_text.proofs.Prelude.{map, [], ◌∷◌, length, refl, sym, ap, subst, automaton_view, simp_view, second_version, between, line, simplification_count, simplifications_of, then_reads, framed}
 use Rattle.cert_text.proofs.Prelude.{AreShared}
-use Rattle.cert_text.proofs.Openings.{word_begun, steps_begin, known_at_steps}
+use Rattle.cert_reading.proofs.KindMarks.{kind_still}
+use Rattle.cert_text.proofs.Fronts.{begun_on}
+use Rattle.cert_text.proofs.Openings.{steps_begin, known_at_steps}
 use Rattle.cert_text.proofs.opening.open_second.Goals as goal
 
 pub open_body-requires : goal.open_body-requires
-open_body-requires c = record { given = c.args.given; begun = word_begun c.in-Some.kind c.requires (c.in-Some.ensures.kind c.args.names.now) }
+open_body-requires c = record { given = c.args.given; begun = begun_on c.requires (kind_still c.args.given c.in-Some.kind) (c.in-Some.ensures.kind c.args.names.now) }
 
 pub all_simplifications-steps-requires : goal.all_simplifications-steps-requires
 all_simplifications-steps-requires c =
