@@ -1,11 +1,11 @@
 -- What one call of `Pairs::next` reads, or refuses.
 use Rattle.cert_text.proofs.Prelude.{codes, IsCertificateText, ◌≡◌, ◌+◌, inl, inr, ◌≤◌, ◌==◌, ℕ, suc, List, [], ◌∷◌, ◌++◌, length, drop, take, Option, Some, None, IfSome, IfNone, refl, sym, ap, ◌∙◌}
-use Rattle.cert_text.proofs.Prelude.{subst, arith, eqb-true, length_push, append_cancel_left, drop_whole, Automaton, NameTable, pair_entry_view, name_of, Version, first_version, second_version}
-use Rattle.cert_text.proofs.Prelude.{CanSimplify, pairs_marks, closing, CertificateCause, syntax, bad_share, Naming, Mark, IsCertificateRefused, Item, pairs_from, entries_from, heads_from, Shared}
-use Rattle.cert_text.proofs.Prelude.{nothing_shared, never_both, BeginsEntry, Opening, ortho_opening, quasi_opening, simplified_opening, certificate_for, uses_with, IsRead, IsReadTo, with_begun}
-use Rattle.cert_text.proofs.Prelude.{one_reading, bytes_apart, CertError, told, IsRefusedAs, Run, IsFront, run_then, as_run, walks_text, EvidenceUses, IsPlainBy, Anywhere, AreBehind, WithinEntry}
-use Rattle.cert_text.proofs.Prelude.{IsStoppedWhere, ReadsWhere, entry_at, head_at, same_item, counts_pairs, alone, stop_behind, other_stop, stopped_where, Reading, HasRead, IsAll, ReadsOn, IsAtEnd}
-use Rattle.cert_text.proofs.Prelude.{place_of, EndsMeasure, IsNext, read_marks, IsUpTo, read_more}
+use Rattle.cert_text.proofs.Prelude.{subst, arith, eqb-true, length_push, append_cancel_left, drop_whole, Automaton, NameTable, pair_entry_view, name_of, Version, second_version, pairs_marks, closing}
+use Rattle.cert_text.proofs.Prelude.{CertificateCause, syntax, bad_share, Naming, Mark, IsCertificateRefused, Item, pairs_from, entries_from, heads_from, Shared, nothing_shared, never_both}
+use Rattle.cert_text.proofs.Prelude.{BeginsEntry, Opening, ortho_opening, quasi_opening, simplified_opening, certificate_for, uses_with, IsRead, IsReadTo, with_begun, one_reading, bytes_apart}
+use Rattle.cert_text.proofs.Prelude.{CertError, told, IsRefusedAs, Run, IsFront, run_then, as_run, walks_text, EvidenceUses, IsPlainBy, Anywhere, AreBehind, WithinEntry, IsStoppedWhere, ReadsWhere}
+use Rattle.cert_text.proofs.Prelude.{entry_at, head_at, same_item, counts_pairs, alone, stop_behind, other_stop, stopped_where, Reading, HasRead, IsAll, ReadsOn, IsAtEnd, place_of, EndsMeasure}
+use Rattle.cert_text.proofs.Prelude.{IsNext, read_marks, IsUpTo, read_more}
 use Rattle.std.proofs.Math.Seq.{take-append_seam}
 use Rattle.cert_model.specs.declared.model.PairEntry.{PairEntry}
 use Rattle.cert_sharing.proofs.FirstUses.{texts_length}

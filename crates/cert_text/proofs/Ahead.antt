@@ -1,11 +1,10 @@
 -- A reader goes along what stands there, and never stops before its end.
-use Rattle.cert_text.proofs.Prelude.{◌≡◌, inl, inr, ◌<◌, ◌&&◌, ℕ, suc, Bool, true, List, [], ◌∷◌, ◌++◌, take, Option, Some, None, codes, refl, sym, ap, ◌∙◌, subst, arith, and_parts, NameTable}
-use Rattle.cert_text.proofs.Prelude.{CertificateCause, Demand, Mark, demands_of, verdict, Pass, Item, between, line, pairs_from, Lead, text, check, at_once, keyword, leads, Version, first_version}
-use Rattle.cert_text.proofs.Prelude.{second_version, mode_of, first_there, taken, mark_of, items_of, Left, behind_lead, judged, step_lead, Shared, share_verdict, behind_mark, behind_marks, PassShares}
-use Rattle.cert_text.proofs.Prelude.{ends, further, Takes, Path, first_complete, Move, Moves, moves_path, there_size, BeginsEntry, Meet, ahead, behind_it, meet, never_ends, pass_split, left_at}
-use Rattle.cert_text.proofs.Prelude.{RefusesAt, step_on, lowest, AreAbove, IsBehind, AreBehind, BeginsList, same_item, name_of, Opening, PairEntry, Gone, gone_along, Place, StopsWhere, opening}
-use Rattle.cert_text.proofs.Prelude.{nothing_shared, read_marks, walks_at, start_at, length}
-use Rattle.cert_grammar.specs.Prelude.{Reading as Answer}
+use Rattle.cert_text.proofs.Prelude.{◌≡◌, inl, inr, ◌<◌, ℕ, suc, true, List, [], ◌∷◌, ◌++◌, take, Option, Some, None, codes, refl, sym, ap, ◌∙◌, subst, arith, NameTable, CertificateCause, Demand}
+use Rattle.cert_text.proofs.Prelude.{Mark, demands_of, verdict, Pass, Item, between, line, pairs_from, Lead, text, keyword, leads, Version, first_version, second_version, mode_of, first_there, taken}
+use Rattle.cert_text.proofs.Prelude.{mark_of, items_of, behind_lead, judged, step_lead, Shared, share_verdict, behind_mark, behind_marks, PassShares, ends, further, Takes, Path, first_complete, Move}
+use Rattle.cert_text.proofs.Prelude.{Moves, moves_path, there_size, BeginsEntry, Meet, ahead, behind_it, meet, never_ends, pass_split, left_at, RefusesAt, step_on, lowest, AreAbove, IsBehind}
+use Rattle.cert_text.proofs.Prelude.{AreBehind, BeginsList, same_item, name_of, Opening, PairEntry, Gone, gone_along, Place, StopsWhere, opening, nothing_shared, read_marks, walks_at, start_at}
+use Rattle.cert_text.proofs.Prelude.{length}
 use Rattle.cert_grammar.proofs.ScanLaws.{IsWordOf}
 use Rattle.cert_laws.proofs.LeadTables.{In}
 use Rattle.cert_laws.proofs.OneRefusal.{passed_anywhere}
@@ -81,13 +80,10 @@ lowest_behind : (k : Item) (ks : List Item) (j : Item) (s : List Item) → lowes
 lowest_behind k [] j s = refl
 lowest_behind k (l ∷ ks) j s = lowest_behind l ks j s
 
-abbrev pub all_fit : (Mark → Bool) → List Mark → Bool
-all_fit fits [] = true
-all_fit fits (m ∷ ms) = fits m && all_fit fits ms
-
 -- an item of this kind stays below, if one such mark leaves one
-module _ (P : Item → Type 0) (fits : Mark → Bool) (one : (i : Item) (m : Mark) (new : List Item) → fits m ≡ true → Takes i m new → P i → AreAbove P (new ++ [])) where
-  above_step : (i : Item) (s : List Item) (m : Mark) (new : List Item) → fits m ≡ true → Takes i m new → AreAbove P (i ∷ s) → AreAbove P (new ++ s)
+module _ (P : Item → Type 0) (Fits : Mark → Type 0) (AllFit : List Mark → Type 0) (each : (m : Mark) (ms : List Mark) → AllFit (m ∷ ms) → Fits m × AllFit ms)
+    (one : (i : Item) (m : Mark) (new : List Item) → Fits m → Takes i m new → P i → AreAbove P (new ++ [])) where
+  above_step : (i : Item) (s : List Item) (m : Mark) (new : List Item) → Fits m → Takes i m new → AreAbove P (i ∷ s) → AreAbove P (new ++ s)
   above_step i [] m new f h (inl x) = one i m new f h x
   above_step i [] m new f h (inr x) = step_by (λ (y : List Item). AreAbove P (y ++ [])) (between line) m new
       (subst (λ (j : Item). Takes j m new) (same_item i (between line) x) h) ((λ w e. tt), tt)
@@ -95,23 +91,18 @@ module _ (P : Item → Type 0) (fits : Mark → Bool) (one : (i : Item) (m : Mar
   above_step i (j ∷ s) m (k ∷ ks) f h (inl x) = inl (subst P (sym (lowest_behind k ks j s)) x)
   above_step i (j ∷ s) m new f h (inr x) = absurd cc
 
-  pub above_path : (ms : List Mark) (s t : List Item) → all_fit fits ms ≡ true → Path ms s t → AreAbove P s → AreAbove P t
+  pub above_path : (ms : List Mark) (s t : List Item) → AllFit ms → Path ms s t → AreAbove P s → AreAbove P t
   above_path [] s t f p x = subst (AreAbove P) p x
   above_path (m ∷ ms) [] t f p x = absurd p
-  above_path (m ∷ ms) (i ∷ s) t f p x = let both = and_parts (fits m) (all_fit fits ms) f in above_path ms (p.0 ++ s) t both.1 p.2 (above_step i s m p.0 both.0 p.1 x)
+  above_path (m ∷ ms) (i ∷ s) t f p x = let both = each m ms f in above_path ms (p.0 ++ s) t both.1 p.2 (above_step i s m p.0 both.0 p.1 x)
 
 -- an overlap is read, or the last line
 pub pair_step : (v : Version) (n k : ℕ) (m : Mark) (new : List Item) → n < suc k → Takes (pairs_from v k) m new → AreBehind v n (new ++ [])
 pair_step v n k m new less h = step_by (λ (x : List Item). AreBehind v n (x ++ [])) (pairs_from v k) m new h ((λ w e. inl (suc k, refl, less)), ((λ w e. inr refl), tt))
 
 pub later_moves : (v : Version) (n : ℕ) (ms : List Mark) (s t : List Item) (b r : List ℕ) → Moves ms s b t r → AreBehind v n s → AreBehind v n t
-later_moves v n ms s t b r h x = above_path (IsBehind v n) (λ (m : Mark). true)
-    (λ i m new f k y. let less = y.2 in pair_step v n y.0 m new (omega (arith, less)) (subst (λ (j : Item). Takes j m new) y.1 k)) ms s t (each ms)
-    (moves_path ms s t b r h) x
-  where
-    each : (ms : List Mark) → all_fit (λ (m : Mark). true) ms ≡ true
-    each [] = refl
-    each (m ∷ ms) = each ms
+later_moves v n ms s t b r h x = above_path (IsBehind v n) (λ m. Unit {0}) (λ ms. Unit {0}) (λ m ms f. (tt, tt))
+    (λ i m new f k y. let less = y.2 in pair_step v n y.0 m new (omega (arith, less)) (subst (λ (j : Item). Takes j m new) y.1 k)) ms s t tt (moves_path ms s t b r h) x
 
 -- where the last line may stand behind an overlap, a later overlap alone is left
 pub last_pair : (v : Version) (n : ℕ) (i : Item) → AreBehind v n (i ∷ []) → (never_ends i ≡ true → ⊥) → IsBehind v n i

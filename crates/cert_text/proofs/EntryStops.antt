@@ -69,14 +69,12 @@ module _ (v : Version) (shared : List Automaton) (names : NameTable) (bytes left
       let al = gone_along names bytes u.opening u.entries at a in
       sym (gone_rest names bytes u.opening u.entries at r) ∙ (comes_here u.entries at a (al.item ∷ []) a.rest al.moves).1
 
-  -- an entry that is read more, as it stands behind the same opening and entries
-  abbrev More : PairEntry → Type 0
-  More p = (place : ℕ) × IsRead names bytes u.opening (u.entries ++ p ∷ []) place
-
-  more_there : (o : Opening) (es : List PairEntry) (p : PairEntry) (place : ℕ) → IsRead names bytes o es (place_of bytes left) → IsRead names bytes o (es ++ p ∷ []) place → More p
+  -- an entry that is read more stands behind the same opening and entries
+  more_there : (o : Opening) (es : List PairEntry) (p : PairEntry) (place : ℕ) → IsRead names bytes o es (place_of bytes left) → IsRead names bytes o (es ++ p ∷ []) place
+      → Gone names bytes u.opening (u.entries ++ p ∷ []) place
   more_there o es p place before after =
       let same = one_reading names bytes o u.opening es u.entries (place_of bytes left) before u.read.read in
-      (place, rw (same.opening, same.entries) at after)
+      gone names bytes u.opening (u.entries ++ p ∷ []) place (rw (same.opening, same.entries) at after)
 
   -- a later number stands behind it, and no last line before it
   entry_there : (p : PairEntry) (place : ℕ) (a : Gone names bytes u.opening (u.entries ++ p ∷ []) place)
@@ -94,7 +92,7 @@ module _ (v : Version) (shared : List Automaton) (names : NameTable) (bytes left
 
   pub entry_stands : (o : Opening) (es : List PairEntry) (p : PairEntry) (place : ℕ) → IsRead names bytes o es (place_of bytes left) → IsRead names bytes o (es ++ p ∷ []) place
       → (w : List ℕ) → left ≡ codes "end" ++ w → ⊥
-  entry_stands o es p place before after = let more = more_there o es p place before after in (entry_there p more.0 (gone names bytes u.opening (u.entries ++ p ∷ []) more.0 more.1)).1
+  entry_stands o es p place before after = (entry_there p place (more_there o es p place before after)).1
 
   -- behind the entry no reader stops within it
   never_behind : (i : Item) (ms : List Mark) (t : List Item) (b q : List ℕ) → IsBehind v (suc count) i → ((w : List ℕ) → left ≡ codes "end" ++ w → ⊥) → Moves ms (i ∷ []) b t q
@@ -111,8 +109,7 @@ module _ (v : Version) (shared : List Automaton) (names : NameTable) (bytes left
   pub in_entry : (e : CertificateCause × ℕ) (s : StopsWhere (WithinEntry v (suc count) left) names (length bytes) (opening ∷ []) bytes nothing_shared e)
       → (o : Opening) (es : List PairEntry) (p : PairEntry) (place : ℕ) → IsRead names bytes o es (place_of bytes left) → IsRead names bytes o (es ++ p ∷ []) place → ⊥
   in_entry e s o es p place before after =
-      let more = more_there o es p place before after in
-      let a = gone names bytes u.opening (u.entries ++ p ∷ []) more.0 more.1 in
-      let there = entry_there p more.0 a in
+      let a = more_there o es p place before after in
+      let there = entry_there p place a in
       let further = past a s in
       never_behind _ further.0 _ a.rest _ there.0 there.1 further.1 s.place

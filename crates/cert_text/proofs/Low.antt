@@ -1,15 +1,15 @@
 -- The item below the others, up to the end of an opening.
-use Rattle.cert_text.proofs.Prelude.{◌≡◌, inl, inr, ℕ, zero, suc, Bool, true, false, not, List, [], ◌∷◌, ◌++◌, length, Option, Some, None, codes, refl, sym, ap, ◌∙◌, subst, and_parts, Automaton}
-use Rattle.cert_text.proofs.Prelude.{Version, first_version, second_version, Uses, in_full, by_number, version_of, Naming, Demand, fits_answer, Mark, fixed, word, demands_of, number_for}
-use Rattle.cert_text.proofs.Prelude.{measure_marks, simplifications_marks, body_marks, answer_marks, automata_marks, shared_automata, Item, opening, heading, between, line, shared_line, text}
-use Rattle.cert_text.proofs.Prelude.{shared_count, automata_left, automaton_end, simplified, body, pairs_from, entries_from, heads_from, measure, behind_automata, leads, Takes, Moves, Opening}
-use Rattle.cert_text.proofs.Prelude.{ortho_opening, quasi_opening, simplified_opening, certificate_for, never_ends, AreAbove, BeginsList, same_item, read_marks, moves_path}
+use Rattle.cert_text.proofs.Prelude.{◌≡◌, inl, inr, ℕ, zero, suc, Bool, true, false, not, List, [], ◌∷◌, ◌++◌, length, Option, Some, None, codes, refl, sym, ap, ◌∙◌, subst, Automaton, Version}
+use Rattle.cert_text.proofs.Prelude.{first_version, second_version, Uses, in_full, by_number, version_of, Naming, Demand, fits_answer, Mark, fixed, word, demands_of, number_for, measure_marks}
+use Rattle.cert_text.proofs.Prelude.{simplifications_marks, body_marks, answer_marks, automata_marks, shared_automata, Item, opening, heading, between, line, shared_line, text, shared_count}
+use Rattle.cert_text.proofs.Prelude.{automata_left, automaton_end, simplified, body, pairs_from, entries_from, heads_from, measure, behind_automata, leads, Takes, Moves, Opening, ortho_opening}
+use Rattle.cert_text.proofs.Prelude.{quasi_opening, simplified_opening, certificate_for, never_ends, AreAbove, BeginsList, same_item, read_marks, moves_path}
 use Rattle.cert_grammar.proofs.ScanLaws.{completed}
 use Rattle.cert_laws.proofs.Asking.{measure_asks, simplifications_ask}
 use Rattle.cert_laws.proofs.LeadTables.{In}
 use Rattle.cert_laws.proofs.Reached.{same_taken}
-use Rattle.cert_openings.proofs.Late.{IsInBody, judges, NoKind, none_both, late_none, heading_none}
-use Rattle.cert_text.proofs.Ahead.{step_by, all_fit, above_path}
+use Rattle.cert_openings.proofs.Late.{IsInBody, judges, NoKind, late_none, heading_none}
+use Rattle.cert_text.proofs.Ahead.{step_by, above_path}
 use Rattle.cert_grammar.specs.Prelude.{start_line}
 use Rattle.cert_grammar.specs.Scans.{spelling}
 
@@ -56,7 +56,8 @@ one_low v i m new f h x = step_by (New v) i m new h (search (inl, inr, automata_
 -- ---- the marks of an opening
 
 abbrev Early : List Mark → Type 0
-Early ms = all_fit is_early ms ≡ true
+Early [] = Unit {0}
+Early (m ∷ ms) = (is_early m ≡ true) × Early ms
 
 no_peak : (ds : List Demand) → judges ds ≡ false → asks_peak ds ≡ false
 no_peak [] e = refl
@@ -64,19 +65,19 @@ no_peak (fits_answer told given ∷ ds) e = absurd cc
 no_peak (_ ∷ ds) e = no_peak ds e
 
 early : (ms : List Mark) → NoKind ms → Early ms
-early [] h = refl
-early (m ∷ ms) h = rw (no_peak (demands_of m) h.0) (early ms h.1)
+early [] h = tt
+early (m ∷ ms) h = (ap not (no_peak (demands_of m) h.0), early ms h.1)
 
 both : (a b : List Mark) → Early a → Early b → Early (a ++ b)
 both [] b h k = k
-both (m ∷ a) b h k = let parts = and_parts (is_early m) (all_fit is_early a) h in rw parts.0 (both a b parts.1 k)
+both (m ∷ a) b h k = (h.0, both a b h.1 k)
 
 body_early : (o : Opening) (x : Naming) (u : Uses) (g : Option Bool) → Early (body_marks x u g (certificate_for o []))
-body_early ortho_opening x u g = refl
-body_early (quasi_opening m) x u g = early _ (none_both (measure_marks x m) [] (late_none (measure_marks x m) (measure_asks ⊥ IsInBody m x)) tt)
+body_early ortho_opening x u g = (refl, (refl, tt))
+body_early (quasi_opening m) x u g = (refl, (refl, both (measure_marks x m) [] (early _ (late_none (measure_marks x m) (measure_asks ⊥ IsInBody m x))) tt))
 body_early (simplified_opening ss o) x u g =
     let steps = simplifications_marks x u ss in
-    both steps _ (early steps (late_none steps (simplifications_ask ⊥ IsInBody tt (λ n. tt) (λ n. tt) ss x u))) (body_early o x u g)
+    (refl, (refl, (refl, both steps _ (early steps (late_none steps (simplifications_ask ⊥ IsInBody tt (λ n. tt) (λ n. tt) ss x u))) (body_early o x u g))))
 
 -- ---- the first line tells the version
 
@@ -94,7 +95,7 @@ first_line second_version = codes "concon 2\n"
 
 -- from it on all is low
 low : (v : Version) (i : Item) (ms : List Mark) (t : List Item) (b q : List ℕ) → IsLow v i → Early ms → Moves ms (i ∷ []) b t q → AreAbove (IsLow v) t
-low v i ms t b q x e h = above_path (IsLow v) is_early (one_low v) ms (i ∷ []) t e (moves_path ms (i ∷ []) t b q h) (inl x)
+low v i ms t b q x e h = above_path (IsLow v) (λ m. is_early m ≡ true) Early (λ m ms f. f) (one_low v) ms (i ∷ []) t e (moves_path ms (i ∷ []) t b q h) (inl x)
 
 headed_low : (v : Version) (g : Option Bool) (ms : List Mark) (t : List Item) (b q : List ℕ) → Early ms → Moves (fixed (first_line v) ∷ ms) (heading g ∷ []) b t q → AreAbove (IsLow v) t
 headed_low first_version g ms t b q e h = low first_version (body first_version g) ms t _ q refl e (after (heading g) _ _ ms t b q (inl refl) h)

@@ -1,15 +1,15 @@
 -- The names that the proofs of this crate cite, passed on from one place. Declares nothing.
 pub use Rattle.std.proofs.Common.{◌≡◌, inl, inr, ◌≤◌, ◌==◌, ℕ, suc, List, [], ◌∷◌, ◌++◌, length, drop, take, Option, Some, None, IfSome, IfNone, refl, sym, ap, ◌∙◌, subst, arith, eqb-true, ◌⊎◌, ◌<◌}
-pub use Rattle.std.proofs.Common.{◌&&◌, Bool, true, codes, false, cond, get_or, append_assoc, zero, not, map, Vec, Global, Box, rules, Result, Ok, Err, IfOk, ◌+◌, ◌-◌, length-append}
-pub use Rattle.std.proofs.lemmas.Bool.{and_parts, cases_lt}
+pub use Rattle.std.proofs.Common.{Bool, true, codes, false, cond, get_or, append_assoc, zero, not, map, Vec, Global, Box, rules, Result, Ok, Err, IfOk, ◌+◌, ◌-◌, length-append}
+pub use Rattle.std.proofs.lemmas.Bool.{cases_lt}
 pub use Rattle.std.proofs.lemmas.List.{length_push, append_cancel_left, append-nil, nil_from_length}
-pub use Rattle.cert_grammar.specs.Prelude.{IsCertificateText, name_of, Version, first_version, second_version, CanSimplify, pairs_marks, closing, CertificateCause, syntax, bad_share, Naming, Mark}
+pub use Rattle.cert_grammar.specs.Prelude.{IsCertificateText, name_of, Version, first_version, second_version, pairs_marks, closing, CertificateCause, syntax, bad_share, Naming, Mark}
 pub use Rattle.cert_grammar.specs.Prelude.{IsCertificateRefused, Item, pairs_from, entries_from, heads_from, Shared, nothing_shared, Demand, word, demands_of, verdict, Pass, between, line, Lead, text}
-pub use Rattle.cert_grammar.specs.Prelude.{check, at_once, keyword, leads, mode_of, first_there, taken, mark_of, items_of, Left, behind_lead, judged, step_lead, share_verdict, behind_mark}
-pub use Rattle.cert_grammar.specs.Prelude.{behind_marks, PassShares, ends, further, Uses, in_full, by_number, version_of, marks_text, body_marks, answer_marks, heading_marks, opening, number_in}
-pub use Rattle.cert_grammar.specs.Prelude.{fixed, certificate_marks, HaveNames, fits_answer, measure_marks, simplifications_marks, automata_marks, number_for, shared_automata, heading, shared_line}
-pub use Rattle.cert_grammar.specs.Prelude.{shared_count, automata_left, automaton_end, simplified, body, measure, behind_automata, largest, HasMeasure, IsUnsimplified, in_range, is_few}
-pub use Rattle.cert_grammar.specs.Prelude.{simplifications, peak_marks, automaton_ends, shares, closed, automaton_marks, infeasibility_marks, evidence_marks, simplification_count, simplifications_of}
+pub use Rattle.cert_grammar.specs.Prelude.{keyword, leads, mode_of, first_there, taken, mark_of, items_of, Left, behind_lead, judged, step_lead, share_verdict, behind_mark, behind_marks, PassShares}
+pub use Rattle.cert_grammar.specs.Prelude.{ends, further, Uses, in_full, by_number, version_of, marks_text, body_marks, answer_marks, heading_marks, opening, number_in, fixed, certificate_marks}
+pub use Rattle.cert_grammar.specs.Prelude.{HaveNames, fits_answer, measure_marks, simplifications_marks, automata_marks, number_for, shared_automata, heading, shared_line, shared_count, automata_left}
+pub use Rattle.cert_grammar.specs.Prelude.{automaton_end, simplified, body, measure, behind_automata, largest, HasMeasure, IsUnsimplified, in_range, is_few, simplifications, peak_marks}
+pub use Rattle.cert_grammar.specs.Prelude.{automaton_ends, shares, closed, automaton_marks, infeasibility_marks, evidence_marks, simplification_count, simplifications_of}
 pub use Rattle.cert_laws.proofs.Paths.{Takes, Path, first_complete, first_sound}
 pub use Rattle.cert_laws.proofs.Reached.{Move, Moves, moves_path, there_size}
 pub use Rattle.cert_model.specs.CertificateView.{pair_entry_view, measure_view, peak_view, simp_view, certificate_view}

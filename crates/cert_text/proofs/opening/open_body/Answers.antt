@@ -18,27 +18,23 @@ entries-requires-in-Quasi c =
 
 pub peak-peak-requires : goal.peak-peak-requires
 peak-peak-requires c =
-    let uses = c.uses_of-in-Peak.ensures in
-    let front = line_of Peak c.in-Peak.is uses.version uses.automata c.requires (c.text.ensures.read c.args.names.now (between line) [] refl) in
+    let front = line_of Peak c.in-Peak.is c.uses_of-in-Peak.ensures.version c.uses_of-in-Peak.ensures.automata c.requires (c.text.ensures.read c.args.names.now (between line) [] refl) in
     front.known
 
 pub returns-in-Some : goal.returns-in-Some
 returns-in-Some c =
-    let uses = c.uses_of-in-Peak.ensures in
-    let front = line_of Peak c.in-Peak.is uses.version uses.automata c.requires (c.text.ensures.read c.args.names.now (between line) [] refl) in
+    let front = line_of Peak c.in-Peak.is c.uses_of-in-Peak.ensures.version c.uses_of-in-Peak.ensures.automata c.requires (c.text.ensures.read c.args.names.now (between line) [] refl) in
     (peak_read (peak_view c.peak-peak.result) front c.peak-peak.ensures.plain c.peak-peak.ensures.read).refused c.in-Some.refused c.in-Some.is
 
 pub returns-then-not-is_empty : goal.returns-then-not-is_empty
 returns-then-not-is_empty c =
     let long : 0 < length c.peak-peak.new.at.left.now = search (rules, c.is_empty.ensures, c.if-not-is_empty.true) in
-    let uses = c.uses_of-in-Peak.ensures in
-    let front = line_of Peak c.in-Peak.is uses.version uses.automata c.requires (c.text.ensures.read c.args.names.now (between line) [] refl) in
+    let front = line_of Peak c.in-Peak.is c.uses_of-in-Peak.ensures.version c.uses_of-in-Peak.ensures.automata c.requires (c.text.ensures.read c.args.names.now (between line) [] refl) in
     (peak_read (peak_view c.peak-peak.result) front c.peak-peak.ensures.plain c.peak-peak.ensures.read).goes_on c.in_default.is (not_nil c.peak-peak.new.at.left.now long) c.saturating_sub.result c.saturating_sub.ensures
 
 pub returns : goal.returns
 returns c =
-    let uses = c.uses_of-in-Peak.ensures in
-    let front = line_of Peak c.in-Peak.is uses.version uses.automata c.requires (c.text.ensures.read c.args.names.now (between line) [] refl) in
+    let front = line_of Peak c.in-Peak.is c.uses_of-in-Peak.ensures.version c.uses_of-in-Peak.ensures.automata c.requires (c.text.ensures.read c.args.names.now (between line) [] refl) in
     let zero : length c.peak-peak.new.at.left.now ≡ 0 = search rules in
     c.behind_steps.ensures c.args.names.now c.args.bytes.now (rw peak_opened ((peak_read (peak_view c.peak-peak.result) front c.peak-peak.ensures.plain c.peak-peak.ensures.read).there
     c.in_default.is (nil_from_length c.peak-peak.new.at.left.now zero)))
