@@ -3,9 +3,9 @@ use Rattle.cert_text.proofs.Prelude.{codes, IsCertificateText, ◌≡◌, ◌+�
 use Rattle.cert_text.proofs.Prelude.{subst, arith, eqb-true, length_push, append_cancel_left, drop_whole, Automaton, NameTable, pair_entry_view, name_of, Version, second_version, pairs_marks, closing}
 use Rattle.cert_text.proofs.Prelude.{CertificateCause, syntax, bad_share, Naming, Mark, IsCertificateRefused, Item, pairs_from, entries_from, heads_from, Shared, nothing_shared, never_both}
 use Rattle.cert_text.proofs.Prelude.{BeginsEntry, Opening, ortho_opening, quasi_opening, simplified_opening, certificate_for, uses_with, IsRead, IsReadTo, with_begun, one_reading, bytes_apart}
-use Rattle.cert_text.proofs.Prelude.{CertError, told, IsRefusedAs, Run, IsFront, run_then, as_run, walks_text, EvidenceUses, IsPlainBy, Anywhere, AreBehind, WithinEntry, IsStoppedWhere, ReadsWhere}
-use Rattle.cert_text.proofs.Prelude.{entry_at, head_at, same_item, counts_pairs, alone, stop_behind, other_stop, stopped_where, Reading, HasRead, IsAll, ReadsOn, IsAtEnd, place_of, EndsMeasure}
-use Rattle.cert_text.proofs.Prelude.{IsNext, read_marks, IsUpTo, read_more}
+use Rattle.cert_text.proofs.Prelude.{CertError, told, IsRefusedAs, Run, IsFront, run_then, as_run, walks_text, EvidenceUses, IsPlainBy, AreBehind, WithinEntry, IsStoppedWhere, ReadsWhere, entry_at}
+use Rattle.cert_text.proofs.Prelude.{head_at, same_item, counts_pairs, alone, stop_behind, stopped_where, Reading, HasRead, IsAll, ReadsOn, IsAtEnd, place_of, EndsMeasure, IsNext, read_marks, IsUpTo}
+use Rattle.cert_text.proofs.Prelude.{read_more}
 use Rattle.std.proofs.Math.Seq.{take-append_seam}
 use Rattle.cert_model.specs.declared.model.PairEntry.{PairEntry}
 use Rattle.cert_sharing.proofs.FirstUses.{texts_length}
@@ -211,7 +211,7 @@ module _ {v : Version} {shared : List Automaton} {names : NameTable} {bytes left
         bytes left nothing_shared now (told e) u.run (next_stop names (length bytes) v n u.item left now (told e) next s)
 
     pub refused_there : IsRefusedAs names bytes e
-    refused_there = refused_as names bytes e refl (other_stop (WithinEntry v n left) Anywhere (λ items q h. tt) names (length bytes) (Items.opening ∷ []) bytes nothing_shared (told e) stops)
+    refused_there = refused_as (WithinEntry v n left) names bytes e refl stops
 
     -- nothing is told of a text that goes on
     pub not_told : (o : Opening) (es : List math.PairEntry) → HasRead (up_to names bytes left) o es → IsAll (up_to names bytes left) o es → told e ≡ None

@@ -1,7 +1,7 @@
 -- Where an opening stands, no reader stops within it.
-use Rattle.cert_text.proofs.Prelude.{◌≡◌, ℕ, ◌==◌, Bool, true, false, cond, List, [], ◌∷◌, ◌++◌, length, get_or, Option, Some, None, refl, sym, ap, ◌∙◌, subst, arith, NameTable, name_of, Version}
-use Rattle.cert_text.proofs.Prelude.{first_version, second_version, Uses, in_full, by_number, version_of, CertificateCause, Naming, Mark, marks_text, body_marks, answer_marks, heading_marks, Item}
-use Rattle.cert_text.proofs.Prelude.{opening, nothing_shared, Moves, BeginsEntry, Opening, certificate_for, IsRead, IsOpened, gone_along, BeginsList, WithinOpening, IsStoppedWhere}
+use Rattle.cert_text.proofs.Prelude.{◌≡◌, ℕ, ◌==◌, Bool, true, false, cond, List, [], ◌∷◌, ◌++◌, length, get_or, Option, Some, None, refl, sym, subst, arith, NameTable, name_of, Version}
+use Rattle.cert_text.proofs.Prelude.{first_version, second_version, Uses, in_full, by_number, version_of, CertificateCause, Naming, Mark, marks_text, answer_marks, heading_marks, Item, opening}
+use Rattle.cert_text.proofs.Prelude.{nothing_shared, Moves, BeginsEntry, Opening, IsRead, IsOpened, gone_along, BeginsList, WithinOpening, IsStoppedWhere}
 use Rattle.cert_openings.proofs.Opened.{gone}
 use Rattle.certificates.specs.Evidence.{Automaton}
 use Rattle.cert_text.proofs.Low.{last_list}
@@ -31,10 +31,10 @@ unopened names bytes o end h (Some y) x e s =
 -- ---- the first line tells the version
 
 -- behind an answer line, if there is one
-abbrev told_version : List ℕ → Version
+abbrev pub told_version : List ℕ → Version
 told_version bytes = cond (cond (get_or bytes 0 0 == 99) (get_or bytes 7 0) (cond (get_or bytes 0 0 == 89) (get_or bytes 11 0) (get_or bytes 10 0)) == 49) first_version second_version
 
-version_told : (u : Uses) (x : Naming) (bs : List Automaton) (g : Option Bool) (ms : List Mark) (r : List ℕ)
+pub version_told : (u : Uses) (x : Naming) (bs : List Automaton) (g : Option Bool) (ms : List Mark) (r : List ℕ)
     → told_version (marks_text (answer_marks g ++ (heading_marks x u bs ++ ms)) ++ r) ≡ version_of u
 version_told in_full x bs None ms r = refl
 version_told in_full x bs (Some true) ms r = refl
@@ -42,11 +42,3 @@ version_told in_full x bs (Some false) ms r = refl
 version_told (by_number f) x bs None ms r = refl
 version_told (by_number f) x bs (Some true) ms r = refl
 version_told (by_number f) x bs (Some false) ms r = refl
-
-pub version_is : (names : NameTable) (bytes left : List ℕ) (o : Opening) (end : ℕ) (u : Uses) (all : List Automaton) (given : Option Bool) (ms : List Mark)
-    → (h : IsRead names bytes o [] end) → bytes ≡ marks_text (answer_marks given ++ (heading_marks (name_of names) u all ++ ms)) ++ left
-    → version_in names bytes o end h ≡ version_of u
-version_is names bytes left o end u all given ms h text =
-    let a = gone names bytes o [] end h in
-    sym (version_told a.uses (name_of names) a.shared a.answer (body_marks (name_of names) a.uses a.answer (certificate_for o [])) a.rest)
-    ∙ ap told_version (sym a.text ∙ text) ∙ version_told u (name_of names) all given ms left

@@ -5,7 +5,7 @@ use Rattle.cert_text.proofs.Prelude.{answer_marks, heading_marks, body_marks, cl
 use Rattle.cert_text.proofs.Prelude.{Opening, certificate_for, uses_with, IsOpeningEnd, IsOpened, no_peak, CertError, told, IsRefusedAs, Run, Reads, walks_text, kind_mark, item_by, Peak, Place}
 use Rattle.cert_text.proofs.Prelude.{IsStoppedWhere, ReadsWhere, WithinOpening, BeforeEntries, Anywhere, walks_named, kind_item, then_where, as_marks_where, low_where, elsewhere, anywhere}
 use Rattle.cert_text.proofs.Prelude.{reads_anywhere, open_before_where, ran, stopped_where, low_unopened, known_where, read_marks, steps_marks, opening_behind, CanStep, front_marks, IsBegun}
-use Rattle.cert_text.proofs.Prelude.{BeginsBody}
+use Rattle.cert_text.proofs.Prelude.{BeginsBody, gone}
 use Rattle.cert_laws.proofs.Spelt.{have_append, text_both}
 use Rattle.cert_openings.proofs.OwnLines.{Own, no_lines, own_marks, own_front, own_simplify}
 use Rattle.cert_sharing.proofs.SpeltShares.{same_version}
@@ -14,7 +14,7 @@ use Rattle.cert_openings.proofs.BadOpenings.{bad_openings_are_refused}
 use Rattle.cert_words.specs.declared.reading.Reading.{Reading}
 use Rattle.cert_reading.specs.declared.headings.Kind.{Kind}
 use Rattle.cert_text.proofs.Runs.{refused_as, refused_as_told}
-use Rattle.cert_text.proofs.Begun.{version_in, unopened, version_is}
+use Rattle.cert_text.proofs.Begun.{version_in, unopened, told_version, version_told}
 
 -- ---- a part more
 
@@ -75,22 +75,19 @@ own_lines v names shared given steps further can named =
 module _ {names : NameTable} {bytes : List ℕ} {v : Version} {shared : List Automaton} {given : Option Bool} {steps : Option (List Simplification)} {further : List Mark}
     {items : List Item} {s : Reading} (b : IsBegun names bytes v shared given steps further items s) where
   -- further parts behind it
-  pub behind : {P : Place} {f g : Naming → List Mark} {to : List Item} {t : Reading} → ((is : List Item) (q : List ℕ) → BeforeEntries is q → P is q)
-      → ((u : Naming) → further ++ f u ≡ g u) → ReadsWhere P names (length bytes) items f to s t
-      → ReadsWhere P names (length bytes) (opening ∷ []) (λ u. front_marks u (uses_with v names shared) shared given steps ++ g u) to b.start t
-  behind {P} {f} {g} {to} {t} less same h =
-      as_marks_where (λ none u. append_assoc (front_marks u (uses_with v names shared) shared given steps) further (f u)
-      ∙ ap (λ (z : List Mark). front_marks u (uses_with v names shared) shared given steps ++ z) (same u)) (then_where (elsewhere less b.read) h)
-
   pub read_behind : {P : Place} {f : Naming → List Mark} {to : List Item} {t : Reading} (o : Opening) → ((is : List Item) (q : List ℕ) → BeforeEntries is q → P is q)
       → ((u : Naming) → further ++ f u ≡ body_marks u (uses_with v names shared) given (certificate_for o [])) → ReadsWhere P names (length bytes) items f to s t
       → ReadsWhere P names (length bytes) (opening ∷ []) (λ u. read_marks u (uses_with v names shared) shared given (opening_behind steps o) []) to b.start t
-  read_behind {P} {f} {to} {t} o less same h = as_marks_where (λ none u. front_read steps u (uses_with v names shared) shared given o) (behind less same h)
+  read_behind {f = f} o less same h = as_marks_where (λ none u. append_assoc (front_marks u (uses_with v names shared) shared given steps) further (f u)
+      ∙ ap (λ (z : List Mark). front_marks u (uses_with v names shared) shared given steps ++ z) (same u) ∙ front_read steps u (uses_with v names shared) shared given o)
+      (then_where (elsewhere less b.read) h)
 
   pub whole_behind : {f : Naming → List Mark} {to : List Item} {t : Reading} (c : Certificate)
       → ((u : Naming) → further ++ f u ≡ body_marks u (uses_with v names shared) given c ++ closing) → Reads names (length bytes) items f to s t
       → ReadsWhere Anywhere names (length bytes) (opening ∷ []) (λ u. certificate_marks u (uses_with v names shared) shared given (certificate_behind steps c)) to b.start t
-  whole_behind {f} {to} {t} c same h = as_marks_where (λ none u. front_whole steps u (uses_with v names shared) shared given c) (behind (λ is q p. tt) same (reads_anywhere h))
+  whole_behind {f = f} c same h = as_marks_where (λ none u. append_assoc (front_marks u (uses_with v names shared) shared given steps) further (f u)
+      ∙ ap (λ (z : List Mark). front_marks u (uses_with v names shared) shared given steps ++ z) (same u) ∙ front_whole steps u (uses_with v names shared) shared given c)
+      (then_where (anywhere b.read) (reads_anywhere h))
 
   pub run_of : {P : Place} {f : Naming → List Mark} {to : List Item} {t : Reading} → t.refused ≡ None → ReadsWhere P names (length bytes) (opening ∷ []) f to b.start t
       → Run names (length bytes) (opening ∷ []) f to bytes t.left.now nothing_shared t.shares
@@ -108,23 +105,23 @@ module _ {names : NameTable} {bytes : List ℕ} {v : Version} {shared : List Aut
       let w = uses_with v names shared in
       let text : bytes ≡ marks_text (answer_marks given ++ (heading_marks x w shared ++ (steps_marks x w steps ++ further))) ++ s.left.now =
       rw (append_assoc (answer_marks given), append_assoc (heading_marks x w shared)) at (walks_text names _ _ _ ((run_of none b.read).walks (omega arith) [])) in
-      version_is names bytes s.left.now o end w shared given (steps_marks x w steps ++ further) h.read text ∙ same_version v names shared
+      let a = gone names bytes o [] end h.read in
+      sym (version_told a.uses x a.shared a.answer (body_marks x a.uses a.answer (certificate_for o [])) a.rest) ∙ ap told_version (sym a.text ∙ text)
+      ∙ version_told w x shared given (steps_marks x w steps ++ further) s.left.now ∙ same_version v names shared
 
-  -- before it
-  pub none_before : (d : CertError) → s.refused ≡ Some d → (x : CertificateCause × ℕ) → told d ≡ Some x → (o : Opening) (end : ℕ) → IsOpened names bytes o end → ⊥
-  none_before d q x t o end h = unopened names bytes o end h (told d) x t (stop_of d q (elsewhere (λ is r p. p (version_in names bytes o end h.read)) b.read))
-
-  -- or behind it, if none is there where it goes on
+  -- before it, or behind it if none is there where it goes on
   pub bad : {P : Place} {f : Naming → List Mark} {to : List Item} {t : Reading} (e : CertError) → t.refused ≡ Some e → ReadsWhere P names (length bytes) items f to s t
       → (s.refused ≡ None → (x : CertificateCause × ℕ) → told e ≡ Some x → (o : Opening) (end : ℕ) → IsOpened names bytes o end → ⊥) → IsBad names bytes e
   bad {P} {f} {to} {t} e q h none = (refused, λ cause at x end k. bad_openings_are_refused names bytes end cause at k (by s.refused refl (cause, at) x end) (refused_as_told names bytes e cause at refused x))
     where
       refused : IsRefusedAs names bytes e
-      refused = refused_as names bytes e refl (stop_of e q (then_where (anywhere b.read) (anywhere h)))
+      refused = refused_as Anywhere names bytes e refl (stop_of e q (then_where (anywhere b.read) (anywhere h)))
 
       by : (r : Option CertError) → s.refused ≡ r → (x : CertificateCause × ℕ) → told e ≡ Some x → (end : ℕ) (o : Opening) → IsOpened names bytes o end → ⊥
-      by (Some d) r x k end o = let stays : told e ≡ told d = rw (r, q) at h.on in none_before d r x (sym stays ∙ k) o end
-      by None r x k end o = none r x k o end
+      by (Some d) r x k end o i =
+          let stays : told e ≡ told d = rw (r, q) at h.on in
+          unopened names bytes o end i (told d) x (sym stays ∙ k) (stop_of d r (elsewhere (λ is l p. p (version_in names bytes o end i.read)) b.read))
+      by None r x k end o i = none r x k o end i
 
   pub entries_bad : {f : Naming → List Mark} {to : List Item} {t : Reading} (e : CertError) → t.refused ≡ Some e → ReadsWhere (WithinOpening v) names (length bytes) items f to s t
       → IsBad names bytes e

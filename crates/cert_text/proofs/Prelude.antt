@@ -23,7 +23,7 @@ pub use Rattle.cert_openings.specs.Laws.{IsReadTo}
 pub use Rattle.cert_openings.specs.Openings.{BeginsEntry, Opening, ortho_opening, quasi_opening, simplified_opening, certificate_for, uses_with, IsRead, IsOpened, lines_text, IsOpeningEnd}
 pub use Rattle.cert_reading.proofs.Found.{walks_named, found_by, front_found, whole_read}
 pub use Rattle.cert_reading.proofs.Opening.{entry_at, head_at, same_item, kind_item, other_below}
-pub use Rattle.cert_reading.proofs.Stopping.{stop_behind, other_stop, stopped_where, then_where, as_marks_where, low_where, elsewhere, anywhere, reads_anywhere, open_before_where, ran, low_unopened}
+pub use Rattle.cert_reading.proofs.Stopping.{stop_behind, stopped_where, then_where, as_marks_where, low_where, elsewhere, anywhere, reads_anywhere, open_before_where, ran, low_unopened}
 pub use Rattle.cert_reading.proofs.UseReads.{known_where, known_behind}
 pub use Rattle.cert_reading.specs.Headings.{kind_mark, item_by, behind_measure, behind_version, first_marks}
 pub use Rattle.cert_reading.specs.Plain.{EvidenceUses, IsPlainBy, StepsUse, ApartUses}

@@ -2,7 +2,7 @@
 use Rattle.cert_text.proofs.Prelude.{◌≡◌, ◌+◌, ◌-◌, ℕ, Bool, List, [], ◌∷◌, length, drop, Option, Some, IfSome, refl, ap, ◌∙◌, subst, arith, length-append, Automaton, PairEntry, NameTable, name_of}
 use Rattle.cert_text.proofs.Prelude.{Version, IsCertificateRefused, CertificateCause, syntax, Naming, Mark, marks_text, Item, opening, Shared, nothing_shared, behind_marks, Opening, certificate_for}
 use Rattle.cert_text.proofs.Prelude.{uses_with, IsReadTo, CertError, told, IsRefusedAs, left_at, Run, walks_text, walks_pass, walks_at, start_at, refused_at, IsPlainBy, ArePlainAutomata, CanShare}
-use Rattle.cert_text.proofs.Prelude.{Anywhere, StopsWhere, IsStoppedWhere, walks_named, front_found, place_of, read_marks}
+use Rattle.cert_text.proofs.Prelude.{Place, IsStoppedWhere, walks_named, front_found, place_of, read_marks}
 use Rattle.cert_words.specs.declared.error.CertError.TheVariants.{NoMemory}
 
 -- ---- a run to the end, and one behind an opening and entries
@@ -23,17 +23,13 @@ run_read {t} v all names bytes left given o es to share p q r =
 
 -- ---- refusals
 
-stop_refused : (names : NameTable) (bytes : List ℕ) (e : CertificateCause × ℕ) → StopsWhere Anywhere names (length bytes) (opening ∷ []) bytes nothing_shared e
-    → IsCertificateRefused names bytes e.0 e.1
-stop_refused names bytes e s =
-    let there = s.stops [] in
-    refused_at names bytes _ (behind_marks s.marks nothing_shared) e (walks_at names bytes s.marks _ _ nothing_shared (start_at names bytes) s.walks there.0) there.1
-
 -- what is told where a reader stops is the refusal of the text
-pub refused_as : (names : NameTable) (bytes : List ℕ) (e : CertError) → {sa : Shared} → sa ≡ nothing_shared
-    → IsStoppedWhere Anywhere names (length bytes) (opening ∷ []) bytes sa (told e) → IsRefusedAs names bytes e
-refused_as names bytes NoMemory fresh s = tt
-refused_as names bytes _ fresh s = stop_refused names bytes _ ((rw fresh at s) (omega arith))
+pub refused_as : (P : Place) (names : NameTable) (bytes : List ℕ) (e : CertError) → {sa : Shared} → sa ≡ nothing_shared
+    → IsStoppedWhere P names (length bytes) (opening ∷ []) bytes sa (told e) → IsRefusedAs names bytes e
+refused_as P names bytes NoMemory fresh s = tt
+refused_as P names bytes _ fresh s =
+    let stop = (rw fresh at s) (omega arith) in
+    refused_at names bytes _ (behind_marks stop.marks nothing_shared) _ (walks_at names bytes stop.marks _ _ nothing_shared (start_at names bytes) stop.walks (stop.stops []).0) (stop.stops []).1
 
 -- bytes behind the last line are refused
 pub refused_behind : (names : NameTable) (bytes left : List ℕ) (marks : Naming → List Mark) (at : ℕ) → {sa sb : Shared} → sa ≡ nothing_shared → (left ≡ [] → ⊥)

@@ -1,9 +1,9 @@
-use Rattle.cert_text.proofs.Prelude.{rules, ◌≡◌, ◌<◌, length, refl, nil_from_length, not_nil, certificate_view, ran, stopped_where, whole_read}
+use Rattle.cert_text.proofs.Prelude.{Anywhere, rules, ◌≡◌, ◌<◌, length, refl, nil_from_length, not_nil, certificate_view, ran, stopped_where, whole_read}
 use Rattle.cert_text.proofs.Runs.{refused_as, refused_behind}
 use Rattle.cert_text.proofs.reader.read_cert.Goals as goal
 
 pub returns-in-Some-clause-refused : goal.returns-in-Some-clause-refused
-returns-in-Some-clause-refused c = refused_as c.args.names.now c.args.bytes.now c.in-Some.refused c.new-shares.ensures
+returns-in-Some-clause-refused c = refused_as Anywhere c.args.names.now c.args.bytes.now c.in-Some.refused c.new-shares.ensures
     (stopped_where c.in-Some.refused refl c.in-Some.is c.certificate-found.ensures.read)
 
 pub returns-then-not-is_empty-clause-refused : goal.returns-then-not-is_empty-clause-refused
