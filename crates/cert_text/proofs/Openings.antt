@@ -213,35 +213,33 @@ steps_front a h s k = simp (append_assoc, append-nil)
 abbrev pub count_marks : ℕ → List Mark
 count_marks n = word (numeral n) (in_range 0 1 (suc largest) n ∷ is_few simplifications n ∷ []) ∷ fixed (codes "\n") ∷ []
 
--- of automata that are the shared ones
-pub steps_begin : {names : NameTable} {bytes : List ℕ} {shared : List Automaton} {given : Option Bool} {s s1 s2 s3 t : words.Reading} (all : List Automaton) (n : ℕ)
-    (ss : List Simplification) (kind : kinds_of.Kind) → all ≡ shared → IsBegun names bytes second_version shared given None [] (Items.simplified given ∷ []) s
-    → ReadsWhere BeforeEntries names (length bytes) (Items.simplified given ∷ []) (λ u. fixed (codes "simplify ") ∷ []) (Items.simplification_count ∷ Items.body second_version given ∷ []) s s1
-    → Reads names (length bytes) (Items.simplification_count ∷ []) (λ u. count_marks n) (Items.simplifications_of n) s1 s2
-    → Reads names (length bytes) (Items.simplifications_of n) (λ u. simplifications_marks u (by_number (number_in names all)) ss) [] s2 s3
-    → (s3.refused ≡ None → length ss ≡ n) → (s3.refused ≡ None → StepsUse second_version all ss) → AreShared second_version names all (length bytes) s3
-    → ReadsWhere BeforeEntries names (length bytes) (Items.body second_version given ∷ []) (λ u. kind_mark given kind ∷ []) (Items.between Items.line ∷ item_by second_version kind ∷ []) s3 t
-    → IsBegun names bytes second_version shared given (Some ss) (kind_mark given kind ∷ []) (Items.between Items.line ∷ item_by second_version kind ∷ []) t
-steps_begin {names} {bytes} {shared} {given} {s} {s1} {s2} {s3} {t} all n ss kind e begun first count steps counted plain known next =
-    let low = Items.body second_version given in
-    let b = rw (← e) at begun in
-    let was : t.refused ≡ None → s.refused ≡ None = λ none. open_before_where first (open_before count (open_before steps (open_before_where next none))) in
-    rw (← e) (record {
-      can_share = tt;
-      start = b.start;
-      first = b.first;
-      read = as_marks_where (λ none u. rw (← counted (open_before_where next none)) (steps_front (answer_marks given)
-          (heading_marks u (by_number (number_in names all)) all) (steps_marks u (by_number (number_in names all)) (Some ss)) (kind_mark given kind ∷ [])))
-          (then_where b.read (then_where first (then_where (low_where low (other_below low tt) count) (then_where (low_where low (other_below low tt) steps) next))));
-      known = known_where second_version all next [] (counts_still (kind_mark given kind ∷ []) (kind_still given kind)) known;
-      plain_shared = λ none. b.plain_shared (was none);
-      can_step = λ none. (refl, plain (open_before_where next none));
-    })
+module _ {names : NameTable} {bytes : List ℕ} {shared : List Automaton} {given : Option Bool} {s s1 s2 : words.Reading} (n : ℕ)
+    (begun : IsBegun names bytes second_version shared given None [] (Items.simplified given ∷ []) s)
+    (first : ReadsWhere BeforeEntries names (length bytes) (Items.simplified given ∷ []) (λ u. fixed (codes "simplify ") ∷ []) (Items.simplification_count ∷ Items.body second_version given ∷ []) s s1)
+    (count : Reads names (length bytes) (Items.simplification_count ∷ []) (λ u. count_marks n) (Items.simplifications_of n) s1 s2) where
+  -- the shared automata are known where the steps begin
+  pub known_at_steps : AreShared second_version names shared (length bytes) s2
+  known_at_steps = known_behind second_version shared count [] (counts_still (count_marks n) (tt, (tt, tt)))
+      (known_where second_version shared first [] (counts_still (fixed (codes "simplify ") ∷ []) (tt, tt)) begun.known)
 
--- the shared automata are known where the steps begin
-pub known_at_steps : {names : NameTable} {bytes : List ℕ} {shared : List Automaton} {given : Option Bool} {s s1 s2 : words.Reading} (n : ℕ)
-    → IsBegun names bytes second_version shared given None [] (Items.simplified given ∷ []) s
-    → ReadsWhere BeforeEntries names (length bytes) (Items.simplified given ∷ []) (λ u. fixed (codes "simplify ") ∷ []) (Items.simplification_count ∷ Items.body second_version given ∷ []) s s1
-    → Reads names (length bytes) (Items.simplification_count ∷ []) (λ u. count_marks n) (Items.simplifications_of n) s1 s2 → AreShared second_version names shared (length bytes) s2
-known_at_steps {shared = shared} n b first count = known_behind second_version shared count [] (counts_still (count_marks n) (tt, (tt, tt)))
-    (known_where second_version shared first [] (counts_still (fixed (codes "simplify ") ∷ []) (tt, tt)) b.known)
+  -- of automata that are the shared ones
+  pub steps_begin : {s3 t : words.Reading} (all : List Automaton) (ss : List Simplification) (kind : kinds_of.Kind) → all ≡ shared
+      → Reads names (length bytes) (Items.simplifications_of n) (λ u. simplifications_marks u (by_number (number_in names all)) ss) [] s2 s3
+      → (s3.refused ≡ None → length ss ≡ n) → (s3.refused ≡ None → StepsUse second_version all ss) → AreShared second_version names all (length bytes) s3
+      → ReadsWhere BeforeEntries names (length bytes) (Items.body second_version given ∷ []) (λ u. kind_mark given kind ∷ []) (Items.between Items.line ∷ item_by second_version kind ∷ []) s3 t
+      → IsBegun names bytes second_version shared given (Some ss) (kind_mark given kind ∷ []) (Items.between Items.line ∷ item_by second_version kind ∷ []) t
+  steps_begin {s3} {t} all ss kind e steps counted plain known next =
+      let low = Items.body second_version given in
+      let b = rw (← e) at begun in
+      let was : t.refused ≡ None → s.refused ≡ None = λ none. open_before_where first (open_before count (open_before steps (open_before_where next none))) in
+      rw (← e) (record {
+        can_share = tt;
+        start = b.start;
+        first = b.first;
+        read = as_marks_where (λ none u. rw (← counted (open_before_where next none)) (steps_front (answer_marks given)
+            (heading_marks u (by_number (number_in names all)) all) (steps_marks u (by_number (number_in names all)) (Some ss)) (kind_mark given kind ∷ [])))
+            (then_where b.read (then_where first (then_where (low_where low (other_below low tt) count) (then_where (low_where low (other_below low tt) steps) next))));
+        known = known_where second_version all next [] (counts_still (kind_mark given kind ∷ []) (kind_still given kind)) known;
+        plain_shared = λ none. b.plain_shared (was none);
+        can_step = λ none. (refl, plain (open_before_where next none));
+      })

@@ -26,6 +26,6 @@ open_body-requires-2 c =
     let steps = c.all_simplifications-steps.ensures in
     record {
       given = c.args.given;
-      begun = steps_begin _ n (map simp_view c.all_simplifications-steps.result.items) c.kind_word-kind.result (ap (map automaton_view) c.deref.ensures.value) c.requires
-          (c.in_default.ensures.steps names) count steps.read steps.counted steps.plain steps.known (c.kind_word-kind.ensures names second_version);
+      begun = steps_begin n c.requires (c.in_default.ensures.steps names) count _ (map simp_view c.all_simplifications-steps.result.items) c.kind_word-kind.result
+          (ap (map automaton_view) c.deref.ensures.value) steps.read steps.counted steps.plain steps.known (c.kind_word-kind.ensures names second_version);
     }
