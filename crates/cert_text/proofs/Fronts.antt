@@ -19,7 +19,8 @@ use Rattle.cert_text.proofs.Begun.{version_in, unopened, told_version, version_t
 -- ---- a part more
 
 pub begun_on : {names : NameTable} {bytes : List ℕ} {v : Version} {shared : List Automaton} {given : Option Bool} {steps : Option (List Simplification)} {further : List Mark}
-    {items to : List Item} {ns : List Mark} {s t : Reading} → IsBegun names bytes v shared given steps further items s → AreStill ns → ReadsWhere BeforeEntries names (length bytes) items (λ u. ns) to s t
+    {items to : List Item} {ns : List Mark} {s t : Reading} → IsBegun names bytes v shared given steps further items s → AreStill ns
+    → ReadsWhere BeforeEntries names (length bytes) items (λ u. ns) to s t
     → IsBegun names bytes v shared given steps (further ++ ns) to t
 begun_on {names} {v = v} {shared = shared} {given = given} {steps = steps} {further = further} {ns = ns} b still h = record {
   can_share = b.can_share;
@@ -112,7 +113,7 @@ module _ {names : NameTable} {bytes : List ℕ} {v : Version} {shared : List Aut
   -- before it, or behind it if none is there where it goes on
   pub bad : {P : Place} {f : Naming → List Mark} {to : List Item} {t : Reading} (e : CertError) → t.refused ≡ Some e → ReadsWhere P names (length bytes) items f to s t
       → (s.refused ≡ None → (x : CertificateCause × ℕ) → told e ≡ Some x → (o : Opening) (end : ℕ) → IsOpened names bytes o end → ⊥) → IsBad names bytes e
-  bad {P} {f} {to} {t} e q h none = (refused, λ cause at x end k. bad_openings_are_refused names bytes end cause at k (by s.refused refl (cause, at) x end) (refused_as_told names bytes e cause at refused x))
+  bad {t = t} e q h none = (refused, λ cause at x end k. bad_openings_are_refused names bytes end cause at k (by s.refused refl (cause, at) x end) (refused_as_told names bytes e cause at refused x))
     where
       refused : IsRefusedAs names bytes e
       refused = refused_as Anywhere names bytes e refl (stop_of e q (then_where (anywhere b.read) (anywhere h)))

@@ -30,7 +30,8 @@ pub returns-then-not-is_empty : goal.returns-then-not-is_empty
 returns-then-not-is_empty c =
     let long : 0 < length c.peak-peak.new.at.left.now = search (rules, c.is_empty.ensures, c.if-not-is_empty.true) in
     let front = line_of Peak c.in-Peak.is c.uses_of-in-Peak.ensures.version c.uses_of-in-Peak.ensures.automata c.requires (c.text.ensures.read c.args.names.now (between line) [] refl) in
-    (peak_read (peak_view c.peak-peak.result) front c.peak-peak.ensures.plain c.peak-peak.ensures.read).goes_on c.in_default.is (not_nil c.peak-peak.new.at.left.now long) c.saturating_sub.result c.saturating_sub.ensures
+    (peak_read (peak_view c.peak-peak.result) front c.peak-peak.ensures.plain c.peak-peak.ensures.read).goes_on c.in_default.is
+    (not_nil c.peak-peak.new.at.left.now long) c.saturating_sub.result c.saturating_sub.ensures
 
 pub returns : goal.returns
 returns c =

@@ -6,7 +6,8 @@ use Rattle.cert_text.proofs.opening.open_cert.Goals as goal
 pub open_second-requires : goal.open_second-requires
 open_second-requires c =
     second_begun (record { all_left = refl; fresh = c.new-shares.ensures; not_refused = refl }) (c.first_line-given.ensures c.args.names.now)
-    (map automaton_view c.shared_automata-automata.result.items) c.if-second.true (c.shared_automata-automata.ensures.read c.first_line-given.result.0) c.shared_automata-automata.ensures.known c.shared_automata-automata.ensures.plain
+    (map automaton_view c.shared_automata-automata.result.items) c.if-second.true (c.shared_automata-automata.ensures.read c.first_line-given.result.0)
+    c.shared_automata-automata.ensures.known c.shared_automata-automata.ensures.plain
 
 pub returns-then-second-clause-late : goal.returns-then-second-clause-late
 returns-then-second-clause-late c = late c.args.names.now c.args.bytes.now c.open_second.result c.open_second.ensures
