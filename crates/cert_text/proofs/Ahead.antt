@@ -1,28 +1,24 @@
 -- A reader goes along what stands there, and never stops before its end.
-use Rattle.cert_text.proofs.Prelude.{◌≡◌, ◌⊎◌, inl, inr, ◌<◌, ◌&&◌, ℕ, suc, Bool, true, List, [], ◌∷◌, ◌++◌, take, Option, Some, None, codes, refl, sym, ap, ◌∙◌, subst, arith, and_parts, NameTable}
-use Rattle.cert_text.proofs.Prelude.{CertificateCause, Demand, Mark, word, mark_text, demands_of, verdict, Pass, Item, between, line, pairs_from, Lead, text, check, at_once, keyword, leads, Version}
-use Rattle.cert_text.proofs.Prelude.{first_version, second_version, mode_of, first_there, taken, mark_of, items_of, Left, behind_lead, judged, step_lead, Shared, share_verdict, behind_mark}
-use Rattle.cert_text.proofs.Prelude.{behind_marks, PassShares, ends, further, Takes, Path, first_complete, Move, Moves, moves_path, there_size, BeginsEntry, apart, Meet, ahead, behind_it, meet}
-use Rattle.cert_text.proofs.Prelude.{never_ends, pass_split, left_at, RefusesAt, step_on, lowest, AreAbove, IsBehind, AreBehind, BeginsList, same_item}
-use Rattle.cert_grammar.specs.Prelude.{Reading as Answer}
+use Rattle.cert_text.proofs.Prelude.{◌≡◌, inl, inr, ◌<◌, ℕ, suc, true, List, [], ◌∷◌, ◌++◌, take, Option, Some, None, codes, refl, sym, ap, ◌∙◌, subst, arith, NameTable, CertificateCause, Demand}
+use Rattle.cert_text.proofs.Prelude.{Mark, demands_of, verdict, Pass, Item, between, line, pairs_from, Lead, text, keyword, leads, Version, first_version, second_version, mode_of, first_there, taken}
+use Rattle.cert_text.proofs.Prelude.{mark_of, items_of, behind_lead, judged, step_lead, Shared, share_verdict, behind_mark, behind_marks, PassShares, ends, further, Takes, Path, first_complete, Move}
+use Rattle.cert_text.proofs.Prelude.{Moves, moves_path, there_size, BeginsEntry, Meet, ahead, behind_it, meet, never_ends, pass_split, left_at, RefusesAt, step_on, lowest, AreAbove, IsBehind}
+use Rattle.cert_text.proofs.Prelude.{AreBehind, BeginsList, same_item, name_of, Opening, PairEntry, Gone, gone_along, Place, StopsWhere, opening, nothing_shared, read_marks, walks_at, start_at}
+use Rattle.cert_text.proofs.Prelude.{length}
 use Rattle.cert_grammar.proofs.ScanLaws.{IsWordOf}
 use Rattle.cert_laws.proofs.LeadTables.{In}
 use Rattle.cert_laws.proofs.OneRefusal.{passed_anywhere}
 use Rattle.cert_laws.proofs.PassTerms.{pass_append}
 use Rattle.cert_laws.proofs.Moves.{There}
+use Rattle.cert_openings.proofs.Along.{Along}
+use Rattle.cert_sharing.proofs.ExactShared.{At}
 use Rattle.cert_grammar.specs.FirstRefusal as machine
 
 -- ---- two readers of the same bytes
 
 mark_read : (a : Lead) (w b : List ℕ) → IsWordOf (mode_of a) w → There a w b → mark_of a (take (taken a b) b) ≡ mark_of a w
 mark_read (text bytes items) w b h t = refl
-mark_read (check demand byte items) w b h t = refl
-mark_read (at_once demand items) w b h t = refl
-mark_read (keyword bytes demands items) w b h t = refl
 mark_read a w b h t = ap (mark_of a) (there_size a w b h t)
-
-ends_or_further : (r : Answer) (k : Left) (z : Shared) → further k z ≡ ends r → ⊥
-ends_or_further r k z e = cc
 
 -- where a mark is read that passes nothing is refused
 never_refused : (names : NameTable) (end : ℕ) (i : Item) (s : List Item) (m : Mark) (b behind : List ℕ) (new : List Item) (z : Shared) (e : CertificateCause × ℕ)
@@ -37,20 +33,32 @@ never_refused names end i s m b behind new z e h v w r =
     ∙ passed_anywhere names 0 l.at (demands_of m) v in
     let goes = ap (λ (x : Option Lead). step_lead names l x i s) first ∙ ap (λ (x : Option (CertificateCause × ℕ)). judged x (behind_lead l k.lead s)) passed in
     let on = step_on names l (behind_lead l k.lead s) m z (record { item = i; others = s; items = refl; lead = k.lead; first = first; mark = sym mark; goes = goes }) w in
-    ends_or_further (machine.refused e.0 e.1) (behind_lead l k.lead s) (behind_mark m z) (sym on ∙ r)
+    let both : further (behind_lead l k.lead s) (behind_mark m z) ≡ ends (machine.refused e.0 e.1) = sym on ∙ r in
+    cc
 
--- a reader that stops has gone along what passes
-pub stops_ahead : (names : NameTable) (end : ℕ) (f g : List Mark) (s t : List Item) (b r : List ℕ) (i : Item) (more : List Item) (q : List ℕ) (a z : Shared)
-    (e : CertificateCause × ℕ) → Moves f s b t r → Pass names f → PassShares a f → Moves g s b (i ∷ more) q → z ≡ behind_marks g a → RefusesAt names (left_at end (i ∷ more) q) z e
-    → (ms : List Mark) × Moves ms t r (i ∷ more) q
-stops_ahead names end f g s t b r i more q a z e h p w k is x = by (meet f g s t (i ∷ more) b r q h k)
+-- a reader that stops has gone along an opening and entries that stand there
+pub past : {names : NameTable} {bytes : List ℕ} {o : Opening} {es : List PairEntry} {end : ℕ} {P : Place} {e : CertificateCause × ℕ} (a : Gone names bytes o es end)
+    (s : StopsWhere P names (length bytes) (opening ∷ []) bytes nothing_shared e) → (ms : List Mark) × Moves ms ((gone_along names bytes o es end a).item ∷ []) a.rest (s.item ∷ s.more) s.rest
+past {names} {bytes} {o} {es} {end} {e = e} a s = by (meet own r.reached.front (opening ∷ []) (al.item ∷ []) (s.item ∷ s.more) bytes a.rest s.rest al.moves r.reached.moves)
   where
-    by : Meet f g t r (i ∷ more) q → (ms : List Mark) × Moves ms t r (i ∷ more) q
-    by (ahead ms e y) = (ms, y)
-    by (behind_it m ms v y) =
-        let there = (pass_split g (m ∷ ms) a (subst (PassShares a) v w)).1.0 in
-        absurd (never_refused names end i more m q y.1 y.0 (behind_marks g a) e y.2 (pass_append names g (m ∷ ms) (subst (Pass names) v p)).1.0 there
-        (subst (λ (c : Shared). RefusesAt names (left_at end (i ∷ more) q) c e) is x))
+    own : List Mark
+    own = read_marks (name_of names) a.uses a.shared a.answer o es
+
+    al : Along own bytes a.rest
+    al = gone_along names bytes o es end a
+
+    z : Shared
+    z = behind_marks s.marks nothing_shared
+
+    r : At names bytes (left_at (length bytes) (s.item ∷ s.more) s.rest) z
+    r = walks_at names bytes s.marks _ _ nothing_shared (start_at names bytes) s.walks (s.stops []).0
+
+    by : Meet own r.reached.front (al.item ∷ []) a.rest (s.item ∷ s.more) s.rest → (ms : List Mark) × Moves ms (al.item ∷ []) a.rest (s.item ∷ s.more) s.rest
+    by (ahead ms q y) = (ms, y)
+    by (behind_it m ms q y) =
+        let front = r.reached.front in
+        absurd (never_refused names (length bytes) s.item s.more m s.rest y.1 y.0 z e y.2 (pass_append names front (m ∷ ms) (subst (Pass names) q a.spells.passed)).1.0
+        (rw (← r.is) at (pass_split front (m ∷ ms) nothing_shared (subst (PassShares nothing_shared) q a.pass_shared)).1.0) (s.stops []).1)
 
 -- ---- the items behind a mark, by each lead of an item
 
@@ -72,13 +80,10 @@ lowest_behind : (k : Item) (ks : List Item) (j : Item) (s : List Item) → lowes
 lowest_behind k [] j s = refl
 lowest_behind k (l ∷ ks) j s = lowest_behind l ks j s
 
-abbrev pub all_fit : (Mark → Bool) → List Mark → Bool
-all_fit fits [] = true
-all_fit fits (m ∷ ms) = fits m && all_fit fits ms
-
 -- an item of this kind stays below, if one such mark leaves one
-module _ (P : Item → Type 0) (fits : Mark → Bool) (one : (i : Item) (m : Mark) (new : List Item) → fits m ≡ true → Takes i m new → P i → AreAbove P (new ++ [])) where
-  above_step : (i : Item) (s : List Item) (m : Mark) (new : List Item) → fits m ≡ true → Takes i m new → AreAbove P (i ∷ s) → AreAbove P (new ++ s)
+module _ (P : Item → Type 0) (Fits : Mark → Type 0) (AllFit : List Mark → Type 0) (each : (m : Mark) (ms : List Mark) → AllFit (m ∷ ms) → Fits m × AllFit ms)
+    (one : (i : Item) (m : Mark) (new : List Item) → Fits m → Takes i m new → P i → AreAbove P (new ++ [])) where
+  above_step : (i : Item) (s : List Item) (m : Mark) (new : List Item) → Fits m → Takes i m new → AreAbove P (i ∷ s) → AreAbove P (new ++ s)
   above_step i [] m new f h (inl x) = one i m new f h x
   above_step i [] m new f h (inr x) = step_by (λ (y : List Item). AreAbove P (y ++ [])) (between line) m new
       (subst (λ (j : Item). Takes j m new) (same_item i (between line) x) h) ((λ w e. tt), tt)
@@ -86,23 +91,18 @@ module _ (P : Item → Type 0) (fits : Mark → Bool) (one : (i : Item) (m : Mar
   above_step i (j ∷ s) m (k ∷ ks) f h (inl x) = inl (subst P (sym (lowest_behind k ks j s)) x)
   above_step i (j ∷ s) m new f h (inr x) = absurd cc
 
-  pub above_path : (ms : List Mark) (s t : List Item) → all_fit fits ms ≡ true → Path ms s t → AreAbove P s → AreAbove P t
+  pub above_path : (ms : List Mark) (s t : List Item) → AllFit ms → Path ms s t → AreAbove P s → AreAbove P t
   above_path [] s t f p x = subst (AreAbove P) p x
   above_path (m ∷ ms) [] t f p x = absurd p
-  above_path (m ∷ ms) (i ∷ s) t f p x = let both = and_parts (fits m) (all_fit fits ms) f in above_path ms (p.0 ++ s) t both.1 p.2 (above_step i s m p.0 both.0 p.1 x)
+  above_path (m ∷ ms) (i ∷ s) t f p x = let both = each m ms f in above_path ms (p.0 ++ s) t both.1 p.2 (above_step i s m p.0 both.0 p.1 x)
 
 -- an overlap is read, or the last line
 pub pair_step : (v : Version) (n k : ℕ) (m : Mark) (new : List Item) → n < suc k → Takes (pairs_from v k) m new → AreBehind v n (new ++ [])
 pair_step v n k m new less h = step_by (λ (x : List Item). AreBehind v n (x ++ [])) (pairs_from v k) m new h ((λ w e. inl (suc k, refl, less)), ((λ w e. inr refl), tt))
 
 pub later_moves : (v : Version) (n : ℕ) (ms : List Mark) (s t : List Item) (b r : List ℕ) → Moves ms s b t r → AreBehind v n s → AreBehind v n t
-later_moves v n ms s t b r h x = above_path (IsBehind v n) (λ (m : Mark). true)
-    (λ i m new f k y. let less = y.2 in pair_step v n y.0 m new (omega (arith, less)) (subst (λ (j : Item). Takes j m new) y.1 k)) ms s t (each ms)
-    (moves_path ms s t b r h) x
-  where
-    each : (ms : List Mark) → all_fit (λ (m : Mark). true) ms ≡ true
-    each [] = refl
-    each (m ∷ ms) = each ms
+later_moves v n ms s t b r h x = above_path (IsBehind v n) (λ m. Unit {0}) (λ ms. Unit {0}) (λ m ms f. (tt, tt))
+    (λ i m new f k y. let less = y.2 in pair_step v n y.0 m new (omega (arith, less)) (subst (λ (j : Item). Takes j m new) y.1 k)) ms s t tt (moves_path ms s t b r h) x
 
 -- where the last line may stand behind an overlap, a later overlap alone is left
 pub last_pair : (v : Version) (n : ℕ) (i : Item) → AreBehind v n (i ∷ []) → (never_ends i ≡ true → ⊥) → IsBehind v n i
@@ -111,27 +111,19 @@ last_pair v n i (inr q) e = absurd (e (ap never_ends (same_item i (between line)
 
 -- ---- behind an opening
 
-pub no_entry : (a : ℕ) (w b rest : List ℕ) → BeginsEntry b → b ≡ (a ∷ w) ++ rest → (a ≡ 112 → ⊥) → (a ≡ 101 → ⊥) → ⊥
-no_entry a w [] rest h e p q = h
-no_entry a w (c ∷ b) rest (inl x) e p q = let same : c ≡ a = cc in p (sym same ∙ x)
-no_entry a w (c ∷ b) rest (inr x) e p q = let same : c ≡ a = cc in q (sym same ∙ x)
+fun_never : (w : List ℕ) → BeginsEntry (102 ∷ w) → ⊥
+fun_never w h = grind arith
+
+aux_never : (w : List ℕ) → BeginsEntry (97 ∷ w) → ⊥
+aux_never w h = grind arith
 
 -- where an overlap or the last line begins no symbol is read
-no_symbol : (m : Mark) (b behind : List ℕ) (ds : List Demand) → BeginsEntry b → b ≡ mark_text m ++ behind → (m ≡ word (codes "fun") ds) ⊎ (m ≡ word (codes "aux") ds) → ⊥
-no_symbol m b behind ds begins e (inl q) = no_entry 102 (codes "un") b behind begins (e ∙ ap (λ (x : Mark). mark_text x ++ behind) q) (apart 102 112 refl) (apart 102 101 refl)
-no_symbol m b behind ds begins e (inr q) = no_entry 97 (codes "ux") b behind begins (e ∙ ap (λ (x : Mark). mark_text x ++ behind) q) (apart 97 112 refl) (apart 97 101 refl)
-
--- where they begin behind symbols
 symbol_step : (v : Version) (i : Item) (m : Mark) (b behind : List ℕ) (new fun aux : List Item) (ds : List Demand) → BeginsEntry b → Move i m b behind new
     → leads i ≡ keyword (codes "fun") ds fun ∷ keyword (codes "aux") ds aux ∷ leads (pairs_from v 1) → AreBehind v 1 (new ++ [])
-symbol_step v i m b behind new fun aux ds begins h is =
-    step_by (λ (x : List Item). AreBehind v 1 (x ++ [])) i m new h.takes (subst (Each (λ (x : List Item). AreBehind v 1 (x ++ [])) m) (sym is) (
-      (λ w e. absurd (no_symbol m b behind ds begins h.text (inl e))),
-      (
-        (λ w e. absurd (no_symbol m b behind ds begins h.text (inr e))),
-        ((λ w e. inl (2, refl, omega arith)), ((λ w e. inr refl), tt)),
-      ),
-    ))
+symbol_step v i m b behind new fun aux ds begins h is = step_by (λ (x : List Item). AreBehind v 1 (x ++ [])) i m new h.takes (rw is (
+  (λ w e. absurd (fun_never (codes "un" ++ behind) (rw (h.text, e) at begins))),
+  ((λ w e. absurd (aux_never (codes "ux" ++ behind) (rw (h.text, e) at begins))), ((λ w e. inl (2, refl, omega arith)), ((λ w e. inr refl), tt))),
+))
 
 -- where a list stands, and an overlap or the last line begins
 pub list_step : (v : Version) (i : Item) (m : Mark) (b behind : List ℕ) (new : List Item) → BeginsList v i → BeginsEntry b → Move i m b behind new → AreBehind v 1 (new ++ [])

@@ -1,11 +1,11 @@
 -- Where an entry stands, no reader stops within it.
 use Rattle.cert_text.proofs.Prelude.{◌≡◌, ◌⊎◌, inl, inr, ◌<◌, ◌≤◌, ℕ, suc, List, [], ◌∷◌, ◌++◌, length, drop, codes, refl, sym, ap, ◌∙◌, subst, arith, cases_lt, Automaton, PairEntry, NameTable}
-use Rattle.cert_text.proofs.Prelude.{name_of, Version, first_version, second_version, CertificateCause, Mark, mark_text, pairs_marks, Item, leads, opening, pairs_from, taken, items_of, Left, Shared}
-use Rattle.cert_text.proofs.Prelude.{nothing_shared, behind_marks, first_sound, Move, Moves, behind_both, Opening, uses_with, IsRead, bytes_apart, Meet, ahead, behind_it, meet, read_more, Gone, gone}
-use Rattle.cert_text.proofs.Prelude.{gone_rest, gone_along, one_reading, with_begun, left_at, Walks, RefusesAt, same_begun, goes_where, AreBehind, BeginsList, WithinEntry, StopsWhere, place_of}
-use Rattle.cert_text.proofs.Prelude.{EndsMeasure, IsNext, read_marks, IsUpTo}
+use Rattle.cert_text.proofs.Prelude.{name_of, Version, CertificateCause, Mark, pairs_marks, Item, leads, opening, pairs_from, taken, items_of, Left, Shared, nothing_shared, first_sound, Move, Moves}
+use Rattle.cert_text.proofs.Prelude.{Opening, uses_with, IsRead, bytes_apart, Meet, ahead, behind_it, meet, read_more, Gone, gone, gone_rest, gone_along, one_reading, Walks, goes_where, AreBehind}
+use Rattle.cert_text.proofs.Prelude.{IsBehind, BeginsList, WithinEntry, StopsWhere, place_of, EndsMeasure, IsNext, read_marks, IsUpTo, entries_from, heads_from}
 use Rattle.cert_laws.proofs.FirstRefusals.{read_of, lead_move}
-use Rattle.cert_text.proofs.Ahead.{stops_ahead, pair_step, later_moves, last_pair, list_step}
+use Rattle.cert_text.proofs.Ahead.{past, pair_step, later_moves, last_pair, list_step}
+use Rattle.cert_text.proofs.Low.{list_entries}
 use Rattle.cert_text.proofs.SameMarks.{no_front}
 
 -- ---- moves
@@ -14,11 +14,6 @@ moves_split : (a b : List Mark) (s t : List Item) (bytes rest : List ℕ) → Mo
 moves_split [] b s t bytes rest h = (s, bytes, (refl, refl), h)
 moves_split (m ∷ a) b [] t bytes rest h = absurd h
 moves_split (m ∷ a) b (i ∷ s) t bytes rest h = let r = moves_split a b (h.0 ++ s) t h.1 rest h.3 in (r.0, r.1, (h.0, h.1, h.2, r.2), r.3)
-
-moves_both : (a b : List Mark) (s u t : List Item) (bytes q rest : List ℕ) → Moves a s bytes u q → Moves b u q t rest → Moves (a ++ b) s bytes t rest
-moves_both [] b s u t bytes q rest h k = subst (λ (x : List Item). Moves b x bytes t rest) (sym h.0) (subst (λ (x : List ℕ). Moves b u x t rest) (sym h.1) k)
-moves_both (m ∷ a) b [] u t bytes q rest h k = absurd h
-moves_both (m ∷ a) b (i ∷ s) u t bytes q rest h k = (h.0, h.1, h.2, moves_both a b (h.0 ++ s) u t h.1 q rest h.3 k)
 
 -- the steps of a reader
 walks_moves : (names : NameTable) (ms : List Mark) (l k : Left) → Walks names ms l k → Moves ms l.items l.bytes k.items k.bytes
@@ -36,13 +31,13 @@ walks_moves names (m ∷ ms) l k w =
 -- ---- the first move from the item that is next
 
 as_list : (v : Version) (i : Item) → EndsMeasure v i → BeginsList v i
-as_list first_version i x = inl x
-as_list second_version i (inl x) = inl x
-as_list second_version i (inr x) = inr (inr x)
+as_list v (entries_from u n) x = rw x (list_entries u n)
+as_list v (heads_from n) x = rw x (inr (inr (n, refl)))
+as_list v _ x = absurd x
 
 next_step : (v : Version) (i : Item) (n : ℕ) (m : Mark) (left behind : List ℕ) (new : List Item) → IsNext v i n left → Move i m left behind new → AreBehind v n (new ++ [])
-next_step v i n m left behind new (inl e) h = let g = subst (λ (j : Item). Move j m left behind new) e h in pair_step v n n m new (omega arith) g.takes
-next_step v i n m left behind new (inr x) h = subst (λ (k : ℕ). AreBehind v k (new ++ [])) (sym x.1) (list_step v i m left behind new (as_list v i x.0) x.2 h)
+next_step v i n m left behind new (inl e) h = pair_step v n n m new (omega arith) (rw e at h.takes)
+next_step v i n m left behind new (inr x) h = rw x.1 (list_step v i m left behind new (as_list v i x.0) x.2 h)
 
 -- ---- no reader stops within an entry that stands there
 
@@ -74,73 +69,47 @@ module _ (v : Version) (shared : List Automaton) (names : NameTable) (bytes left
       let al = gone_along names bytes u.opening u.entries at a in
       sym (gone_rest names bytes u.opening u.entries at r) ∙ (comes_here u.entries at a (al.item ∷ []) a.rest al.moves).1
 
-  -- an entry that is read more, as it stands behind the same opening and entries
-  abbrev More : PairEntry → Type 0
-  More p = (place : ℕ) × IsRead names bytes u.opening (u.entries ++ p ∷ []) place
-
-  more_there : (o : Opening) (es : List PairEntry) (p : PairEntry) (place : ℕ) → IsRead names bytes o es (place_of bytes left) → IsRead names bytes o (es ++ p ∷ []) place → More p
+  -- an entry that is read more stands behind the same opening and entries
+  more_there : (o : Opening) (es : List PairEntry) (p : PairEntry) (place : ℕ) → IsRead names bytes o es (place_of bytes left) → IsRead names bytes o (es ++ p ∷ []) place
+      → Gone names bytes u.opening (u.entries ++ p ∷ []) place
   more_there o es p place before after =
       let same = one_reading names bytes o u.opening es u.entries (place_of bytes left) before u.read.read in
-      (place, subst (λ (x : Opening). IsRead names bytes x (u.entries ++ p ∷ []) place) same.opening (subst (λ (x : List PairEntry). IsRead names bytes o (x ++ p ∷ []) place) same.entries after))
+      gone names bytes u.opening (u.entries ++ p ∷ []) place (rw (same.opening, same.entries) at after)
 
-  -- behind its first mark
-  entry_behind : (ms : List Mark) (t : List Item) (rest : List ℕ) (m : Mark) (ns : List Mark) → ms ≡ m ∷ ns → Moves ms (u.item ∷ []) left t rest
-      → AreBehind v (suc count) t × (behind : List ℕ) × (left ≡ mark_text m ++ behind)
-  entry_behind ms t rest m ns e h =
-      let k = subst (λ (x : List Mark). Moves x (u.item ∷ []) left t rest) e h in
-      (later_moves v (suc count) ns (k.0 ++ []) t k.1 rest k.3 (next_step v u.item (suc count) m left k.1 k.0 u.next k.2), k.1, k.2.text)
-
-  -- its items, and no last line before it
-  record Entered (p : PairEntry) (place : ℕ) (a : Gone names bytes u.opening (u.entries ++ p ∷ []) place) : Type 0 where
-    number : ℕ
-    later : suc count < number
-    moves : Moves (read_marks (name_of names) a.uses a.shared a.answer u.opening (u.entries ++ p ∷ [])) (opening ∷ []) bytes (pairs_from v number ∷ []) a.rest
-    no_end : (w : List ℕ) → left ≡ codes "end" ++ w → ⊥
-
-  entry_there : (p : PairEntry) (place : ℕ) (a : Gone names bytes u.opening (u.entries ++ p ∷ []) place) → Entered p place a
+  -- a later number stands behind it, and no last line before it
+  entry_there : (p : PairEntry) (place : ℕ) (a : Gone names bytes u.opening (u.entries ++ p ∷ []) place)
+      → IsBehind v (suc count) (gone_along names bytes u.opening (u.entries ++ p ∷ []) place a).item × ((w : List ℕ) → left ≡ codes "end" ++ w → ⊥)
   entry_there p place a =
       let x = name_of names in
       let more = pairs_marks x a.uses (suc (length u.entries)) (p ∷ []) in
       let al = gone_along names bytes u.opening (u.entries ++ p ∷ []) place a in
       let parts = moves_split (read_marks x a.uses a.shared a.answer u.opening u.entries) more (opening ∷ []) (al.item ∷ []) bytes a.rest
-      (subst (λ (k : List Mark). Moves k (opening ∷ []) bytes (al.item ∷ []) a.rest) (sym (read_more x a.uses a.shared a.answer u.opening u.entries p)) al.moves) in
+      (rw (read_more x a.uses a.shared a.answer u.opening u.entries p) al.moves) in
       let same = comes_here (u.entries ++ p ∷ []) place a parts.0 parts.1 parts.2 in
-      let on = subst (λ (s : List Item). Moves more s left (al.item ∷ []) a.rest) same.0 (subst (λ (q : List ℕ). Moves more parts.0 q (al.item ∷ []) a.rest) same.1 parts.3) in
-      let behind = entry_behind more (al.item ∷ []) a.rest _ _ refl on in
-      let low = last_pair v (suc count) al.item behind.0 al.may_end in
-      record {
-        number = low.0;
-        later = low.2;
-        moves = subst (λ (i : Item). Moves (read_marks x a.uses a.shared a.answer u.opening (u.entries ++ p ∷ [])) (opening ∷ []) bytes (i ∷ []) a.rest) low.1 al.moves;
-        no_end = λ w e. bytes_apart 112 101 _ _ refl (sym behind.2 ∙ e);
-      }
+      let on = rw (same.0, same.1) at parts.3 in
+      let behind = later_moves v (suc count) (drop 1 more) (on.0 ++ []) (al.item ∷ []) on.1 a.rest on.3 (next_step v u.item (suc count) _ left on.1 on.0 u.next on.2) in
+      (last_pair v (suc count) al.item behind al.may_end, λ w e. bytes_apart 112 101 _ _ refl (sym on.2.text ∙ e))
 
   pub entry_stands : (o : Opening) (es : List PairEntry) (p : PairEntry) (place : ℕ) → IsRead names bytes o es (place_of bytes left) → IsRead names bytes o (es ++ p ∷ []) place
       → (w : List ℕ) → left ≡ codes "end" ++ w → ⊥
-  entry_stands o es p place before after = let more = more_there o es p place before after in (entry_there p more.0 (gone names bytes u.opening (u.entries ++ p ∷ []) more.0 more.1)).no_end
+  entry_stands o es p place before after = (entry_there p place (more_there o es p place before after)).1
 
-  module _ (e : CertificateCause × ℕ) (s : StopsWhere (WithinEntry v (suc count) left) names (length bytes) (u.item ∷ []) left now e) where
-    -- where it stops, what stands there is not behind the entry
-    never_behind : (m : ℕ) (rest : List ℕ) (ms : List Mark) → suc count < m → ((w : List ℕ) → left ≡ codes "end" ++ w → ⊥) → Moves ms (pairs_from v m ∷ []) rest (s.item ∷ s.more) s.rest → ⊥
-    never_behind m rest [] less not_end k = by (cases_lt (suc (suc count)) m)
-      where
-        by : (suc (suc count) < m) ⊎ (m ≤ suc (suc count)) → ⊥
-        by (inl lt) = not_end s.rest (s.place.early (subst (AreBehind v (suc (suc count))) k.0 (inl (m, refl, lt))))
-        by (inr le) = let equal : m ≡ suc (suc count) = omega (arith, le, less) in s.place.going (sym k.0 ∙ ap (λ (n : ℕ). pairs_from v n ∷ []) equal)
-    never_behind m rest (n ∷ ms) less not_end k =
-        not_end s.rest (s.place.early (later_moves v (suc (suc count)) ms (k.0 ++ []) (s.item ∷ s.more) k.1 s.rest k.3 (pair_step v (suc (suc count)) m n k.0 (omega (arith, less)) k.2.takes)))
+  -- behind the entry no reader stops within it
+  never_behind : (i : Item) (ms : List Mark) (t : List Item) (b q : List ℕ) → IsBehind v (suc count) i → ((w : List ℕ) → left ≡ codes "end" ++ w → ⊥) → Moves ms (i ∷ []) b t q
+      → WithinEntry v (suc count) left t q → ⊥
+  never_behind i [] t b q (m, is, less) not_end h p = by (cases_lt (suc (suc count)) m)
+    where
+      by : (suc (suc count) < m) ⊎ (m ≤ suc (suc count)) → ⊥
+      by (inl lt) = not_end q (p.early (rw (← h.0) (inl (m, is, lt))))
+      by (inr le) = let equal : m ≡ suc (suc count) = omega (arith, le, less) in p.going (sym h.0 ∙ ap (λ (j : Item). j ∷ []) (is ∙ ap (pairs_from v) equal))
+  never_behind i (n ∷ ms) t b q (m, is, less) not_end h p =
+      let step = pair_step v (suc (suc count)) m n h.0 (omega (arith, less)) (rw is at h.2.takes) in
+      not_end q (p.early (later_moves v (suc (suc count)) ms (h.0 ++ []) t h.1 q h.3 step))
 
-    pub in_entry : (o : Opening) (es : List PairEntry) (p : PairEntry) (place : ℕ) → IsRead names bytes o es (place_of bytes left) → IsRead names bytes o (es ++ p ∷ []) place → ⊥
-    in_entry o es p place before after =
-        let more = more_there o es p place before after in
-        let a = gone names bytes u.opening (u.entries ++ p ∷ []) more.0 more.1 in
-        let there = entry_there p more.0 a in
-        let y = behind_marks gone_marks nothing_shared in
-        let known = u.run.shares (omega arith) [] in
-        let is_y : with_begun y.begun now ≡ y = sym (same_begun y now known.1) in
-        let refused = subst (λ (x : Shared). RefusesAt names (left_at (length bytes) (s.item ∷ s.more) s.rest) (behind_marks s.marks x) e) is_y (s.stops y.begun).1 in
-        let moves = moves_both gone_marks s.marks (opening ∷ []) (u.item ∷ []) (s.item ∷ s.more) bytes left s.rest here (walks_moves names s.marks _ _ s.walks) in
-        let further = stops_ahead names (length bytes) (read_marks (name_of names) a.uses a.shared a.answer u.opening (u.entries ++ p ∷ [])) (gone_marks ++ s.marks) (opening ∷ [])
-        (pairs_from v there.number ∷ []) bytes a.rest s.item s.more s.rest nothing_shared (behind_marks s.marks y) e there.moves a.spells.passed a.pass_shared moves
-        (sym (behind_both gone_marks s.marks nothing_shared)) refused in
-        never_behind there.number a.rest further.0 there.later there.no_end further.1
+  pub in_entry : (e : CertificateCause × ℕ) (s : StopsWhere (WithinEntry v (suc count) left) names (length bytes) (opening ∷ []) bytes nothing_shared e)
+      → (o : Opening) (es : List PairEntry) (p : PairEntry) (place : ℕ) → IsRead names bytes o es (place_of bytes left) → IsRead names bytes o (es ++ p ∷ []) place → ⊥
+  in_entry e s o es p place before after =
+      let a = more_there o es p place before after in
+      let there = entry_there p place a in
+      let further = past a s in
+      never_behind _ further.0 _ a.rest _ there.0 there.1 further.1 s.place

@@ -1,6 +1,6 @@
 -- What a text that is opened stands for.
-use Rattle.cert_text.proofs.Prelude.{◌≡◌, map, Vec, Global, Box, rules, measure_view, peak_view, simp_view, ortho_opening, quasi_opening, Reading, at_entries, whole, behind_steps, opened_view}
-use Rattle.cert_text.proofs.Prelude.{Opened, Ortho, Quasi, Simplified, the_lemmas}
+use Rattle.cert_text.proofs.Prelude.{◌≡◌, map, Vec, Global, Box, rules, measure_view, peak_view, simp_view, ortho_opening, quasi_opening, Reading, at_entries, whole, behind_steps, opened_view, Opened}
+use Rattle.cert_text.proofs.Prelude.{Ortho, Quasi, Simplified, the_lemmas}
 use Rattle.certificates.specs.Certificates.{peak_certificate}
 use Rattle.cert_model.specs.declared.model.MeasureCert.{MeasureCert}
 use Rattle.cert_model.specs.declared.model.Simp.{Simp}

@@ -1,10 +1,12 @@
 -- What a run along the marks of an opening and of entries has read, and where a run refuses a text.
-use Rattle.cert_text.proofs.Prelude.{◌≡◌, ◌+◌, ◌-◌, ◌==◌, ℕ, Bool, true, false, List, [], ◌∷◌, length, drop, Option, Some, None, refl, sym, ap, ◌∙◌, subst, arith, length-append, false≢true}
-use Rattle.cert_text.proofs.Prelude.{nil_from_length, Automaton, PairEntry, NameTable, name_of, Version, IsCertificateRefused, CertificateCause, syntax, Naming, Mark, marks_text, Item, opening}
-use Rattle.cert_text.proofs.Prelude.{Shared, nothing_shared, behind_marks, Opening, certificate_for, uses_with, IsReadTo, CertError, told, IsRefusedAs, left_at, Run, walks_text, walks_pass, walks_at}
-use Rattle.cert_text.proofs.Prelude.{start_at, refused_at, IsPlainBy, ArePlainAutomata, CanShare, Anywhere, StopsWhere, IsStoppedWhere, walks_named, front_found, place_of, read_marks}
+use Rattle.cert_text.proofs.Prelude.{◌≡◌, ◌+◌, ◌-◌, ◌==◌, ℕ, Bool, true, false, List, [], ◌∷◌, length, drop, Option, Some, None, refl, sym, ap, ◌∙◌, subst, arith, length-append}
+use Rattle.cert_text.proofs.Prelude.{false≢true, nil_from_length, Automaton, PairEntry, NameTable, name_of, Version, IsCertificateRefused, CertificateCause, syntax, Naming, Mark}
+use Rattle.cert_text.proofs.Prelude.{marks_text, Item, opening, Shared, nothing_shared, behind_marks, Opening, certificate_for, uses_with, IsReadTo, CertError, told, IsRefusedAs}
+use Rattle.cert_text.proofs.Prelude.{left_at, Run, walks_text, walks_pass, walks_at, start_at, refused_at, IsPlainBy, ArePlainAutomata, CanShare, Anywhere, StopsWhere, IsStoppedWhere}
+use Rattle.cert_text.proofs.Prelude.{walks_named, front_found, place_of, read_marks, IfSome, Place}
 use Rattle.std.proofs.lemmas.Bool.{eqb-true}
 use Rattle.std.specs.Prelude.{MatchOption}
+use Rattle.cert_words.specs.declared.error.CertError.TheVariants.{NoMemory}
 
 -- ---- a run to the end, and one behind an opening and entries
 
@@ -24,43 +26,23 @@ run_read {t} v all names bytes left given o es to share p q r =
 
 -- ---- refusals
 
-stop_refused : (names : NameTable) (bytes : List ℕ) (e : CertificateCause × ℕ) → StopsWhere Anywhere names (length bytes) (opening ∷ []) bytes nothing_shared e
-    → IsCertificateRefused names bytes e.0 e.1
-stop_refused names bytes e s =
-    let there = s.stops [] in
-    refused_at names bytes _ (behind_marks s.marks nothing_shared) e (walks_at names bytes s.marks _ _ nothing_shared (start_at names bytes) s.walks there.0) there.1
-
 -- what is told where a reader stops is the refusal of the text
-refused_from : (names : NameTable) (bytes : List ℕ) (t : Option (CertificateCause × ℕ)) → IsStoppedWhere Anywhere names (length bytes) (opening ∷ []) bytes nothing_shared t
-    → MatchOption t (Unit {0}) (λ r. IsCertificateRefused names bytes r.0 r.1)
-refused_from names bytes None s = tt
-refused_from names bytes (Some e) s = stop_refused names bytes e (s (omega arith))
-
-pub refused_as : (names : NameTable) (bytes : List ℕ) (e : CertError) → {sa : Shared} → sa ≡ nothing_shared
-    → IsStoppedWhere Anywhere names (length bytes) (opening ∷ []) bytes sa (told e) → IsRefusedAs names bytes e
-refused_as names bytes e fresh s = refused_from names bytes (told e) (rw fresh at s)
+pub refused_as : (P : Place) (names : NameTable) (bytes : List ℕ) (e : CertError) → {sa : Shared} → sa ≡ nothing_shared
+    → IsStoppedWhere P names (length bytes) (opening ∷ []) bytes sa (told e) → IsRefusedAs names bytes e
+refused_as P names bytes NoMemory fresh s = tt
+refused_as P names bytes _ fresh s =
+    let stop = (rw fresh at s) (omega arith) in
+    refused_at names bytes _ (behind_marks stop.marks nothing_shared) _ (walks_at names bytes stop.marks _ _ nothing_shared (start_at names bytes) stop.walks (stop.stops []).0) (stop.stops []).1
 
 -- bytes behind the last line are refused
-behind_from : (names : NameTable) (bytes left : List ℕ) (marks : Naming → List Mark) (sb : Shared) → (left ≡ [] → ⊥)
-    → Run names (length bytes) (opening ∷ []) marks [] bytes left nothing_shared sb → IsCertificateRefused names bytes syntax (length bytes - length left)
-behind_from names bytes [] marks sb some r = absurd (some refl)
-behind_from names bytes (b ∷ left) marks sb some r =
-    refused_at names bytes (left_at (length bytes) [] (b ∷ left)) (behind_marks (marks (name_of names)) nothing_shared) (syntax, length bytes - length (b ∷ left))
-    (walks_at names bytes (marks (name_of names)) _ _ nothing_shared (start_at names bytes) (r.walks (omega arith) []) (r.shares (omega arith) []).0) refl
-
 pub refused_behind : (names : NameTable) (bytes left : List ℕ) (marks : Naming → List Mark) (at : ℕ) → {sa sb : Shared} → sa ≡ nothing_shared → (left ≡ [] → ⊥)
     → at ≡ length bytes - length left → Run names (length bytes) (opening ∷ []) marks [] bytes left sa sb → IsCertificateRefused names bytes syntax at
-refused_behind names bytes left marks at {sb = sb} fresh some e r = rw e (behind_from names bytes left marks sb some (rw fresh at r))
+refused_behind names bytes [] marks at fresh some e r = absurd (some refl)
+refused_behind names bytes (b ∷ left) marks at {sb = sb} fresh some e r =
+    let run : Run names (length bytes) (opening ∷ []) marks [] bytes (b ∷ left) nothing_shared sb = rw (← fresh) r in
+    rw e (refused_at names bytes (left_at (length bytes) [] (b ∷ left)) (behind_marks (marks (name_of names)) nothing_shared) (syntax, length bytes - length (b ∷ left))
+    (walks_at names bytes (marks (name_of names)) _ _ nothing_shared (start_at names bytes) (run.walks (omega arith) []) (run.shares (omega arith) []).0) refl)
 
 -- the refusal that an error tells
 pub refused_as_told : (names : NameTable) (bytes : List ℕ) (e : CertError) (f : CertificateCause) (at : ℕ) → IsRefusedAs names bytes e → told e ≡ Some (f, at) → IsCertificateRefused names bytes f at
 refused_as_told names bytes e f at h t = rw t at h
-
--- ---- bytes that are left, or none
-
--- the same by the code's test
-pub left_none : (b : List ℕ) (e : Bool) → e ≡ (length b == 0) → e ≡ true → b ≡ []
-left_none b e is q = nil_from_length b (eqb-true (length b) 0 (sym is ∙ q))
-
-pub left_some : (b : List ℕ) (e : Bool) → e ≡ (length b == 0) → e ≡ false → b ≡ [] → ⊥
-left_some b e is q none = false≢true (sym q ∙ is ∙ ap (λ (x : List ℕ). length x == 0) none)

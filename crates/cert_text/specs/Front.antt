@@ -2,11 +2,12 @@
 use Rattle.std.specs.Prelude.{◌≡◌, ℕ, suc, Bool, List, [], ◌∷◌, ◌++◌, length, Option, None, Some, codes}
 use Rattle.certificates.specs.Prelude.{Automaton, Simplification}
 use Rattle.cops_names.specs.NameTable.{NameTable}
-use Rattle.cert_grammar.specs.Prelude.{largest, Version, second_version, Uses, in_range, is_few, simplifications, Naming, Mark, fixed, word, simplifications_marks, answer_marks}
-use Rattle.cert_grammar.specs.Prelude.{heading_marks, Item, nothing_shared}
+use Rattle.cert_grammar.specs.Prelude.{largest, Version, second_version, Uses, in_range, is_few, simplifications, Naming, Mark, fixed, word, simplifications_marks, answer_marks, heading_marks, Item}
+use Rattle.cert_grammar.specs.Prelude.{nothing_shared}
 use Rattle.cert_grammar.specs.WordMarks.{numeral}
 use Rattle.cert_grammar.specs.Items as Items
-use Rattle.cert_openings.specs.Openings.{Opening, simplified_opening, uses_with}
+use Rattle.cert_openings.specs.Openings.{Opening, simplified_opening, uses_with, IsOpened}
+use Rattle.cert_words.specs.declared.error.CertError.{CertError}
 use Rattle.cert_words.specs.declared.reading.Reading.{Reading}
 use Rattle.cert_reading.specs.declared.headings.Kind.{Kind}
 use Rattle.cert_reading.specs.Headings.{kind_mark, item_by}
@@ -14,7 +15,8 @@ use Rattle.cert_reading.specs.Plain.{StepsUse}
 use Rattle.cert_reading.specs.Shared.{ArePlainAutomata, CanShare}
 use Rattle.cert_reading.specs.Stops.{ReadsWhere, BeforeEntries}
 use Rattle.cert_reading.specs.Uses.{AreShared}
-use Rattle.cert_text.specs.OpenedText.{OpenedText, behind_steps}
+use Rattle.cert_text.specs.OpenedText.{OpenedText, behind_steps, IsBad}
+use Rattle.cert_text.specs.ReadingView.{IsUpTo, place_of}
 
 -- the steps before a body, if there are any
 abbrev pub steps_marks : Naming → Uses → Option (List Simplification) → List Mark
@@ -40,21 +42,30 @@ CanStep v shared (Some steps) = (v ≡ second_version) × StepsUse v shared step
 abbrev pub front_marks : Naming → Uses → List Automaton → Option Bool → Option (List Simplification) → List Mark
 front_marks names uses shared given steps = answer_marks given ++ (heading_marks names uses shared ++ steps_marks names uses steps)
 
+-- the first byte of a text is next, and nothing is known yet
+pub record IsStart (bytes : List ℕ) (at : Reading) : Type 0 where
+  pub all_left : at.left.now ≡ bytes
+  pub fresh : at.shares ≡ nothing_shared
+  pub not_refused : at.refused ≡ None
+
 -- a text that is read from its first byte on, along these and further marks, up to these items
 pub record IsBegun (names : NameTable) (bytes : List ℕ) (v : Version) (shared : List Automaton) (given : Option Bool) (steps : Option (List Simplification)) (further : List Mark)
     (items : List Item) (at : Reading) : Type 0 where
   pub can_share : CanShare v shared
   pub start : Reading
-  pub all_left : start.left.now ≡ bytes
-  pub fresh : start.shares ≡ nothing_shared
-  pub not_refused : start.refused ≡ None
+  pub first : IsStart bytes start
   pub read : ReadsWhere BeforeEntries names (length bytes) (Items.opening ∷ []) (λ u. front_marks u (uses_with v names shared) shared given steps ++ further) items start at
   pub known : AreShared v names shared (length bytes) at
   pub plain_shared : at.refused ≡ None → ArePlainAutomata shared
   pub can_step : at.refused ≡ None → CanStep v shared steps
 
 -- behind the word of this kind
-pub record BeginsBody (names : NameTable) (bytes : List ℕ) (v : Version) (shared : List Automaton) (kind : Kind) (at : Reading) : Type 0 where
+pub record BeginsBody (names : NameTable) (bytes : List ℕ) (v : Version) (shared : List Automaton) (steps : Option (List Simplification)) (kind : Kind) (at : Reading) : Type 0 where
   pub given : Option Bool
-  pub steps : Option (List Simplification)
   pub begun : IsBegun names bytes v shared given steps (kind_mark given kind ∷ []) (Items.between Items.line ∷ item_by v kind ∷ []) at
+
+-- an opening is read, or refused
+pub record ReadsOpening (names : NameTable) (bytes : List ℕ) (v : Version) (shared : List Automaton) (o : Opening) (at : Reading) : Type 0 where
+  pub up_to : at.refused ≡ None → IsUpTo v shared names bytes at.left.now 0 at.shares
+  pub opened : at.refused ≡ None → IsOpened names bytes o (place_of bytes at.left.now)
+  pub refused : (e : CertError) → at.refused ≡ Some e → IsBad names bytes e

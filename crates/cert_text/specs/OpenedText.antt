@@ -1,8 +1,11 @@
 -- What is said of a text that is read up to its entries.
-use Rattle.std.specs.Prelude.{◌≡◌, ◌≤◌, ◌<◌, ℕ, suc, List, [], Some, None, map}
+use Rattle.std.specs.Prelude.{◌≡◌, ◌≤◌, ◌<◌, ℕ, suc, List, [], Option, None, Some, Result, Ok, Err, Vec, map}
+use Rattle.std.specs.Global.{Global}
 use Rattle.certificates.specs.Certificates.{PairEntry, Simplification, Certificate, peak_certificate, simplified_certificate}
 use Rattle.cops_names.specs.NameTable.{NameTable}
 use Rattle.cert_model.specs.CertificateView.{measure_view, peak_view, simp_view}
+use Rattle.cert_model.specs.declared.model.MeasureCert.{MeasureCert}
+use Rattle.cert_model.specs.declared.model.Simp.{Simp}
 use Rattle.cert_grammar.specs.Prelude.{IsCertificateText, IsCertificateRefused, CertificateCause}
 use Rattle.cert_openings.specs.Openings.{Opening, ortho_opening, quasi_opening, simplified_opening, certificate_for, IsOpeningEnd, IsOpened}
 use Rattle.cert_words.specs.CertRefusals.{IsRefusedAs}
@@ -49,6 +52,26 @@ IsToldBefore bytes e = (f : CertificateCause) (at : ℕ) → told e ≡ Some (f,
 abbrev pub HasNoEndAtWhole : List ℕ → OpenedText → Type 0
 HasNoEndAtWhole bytes (at_entries o r) = Unit {0}
 HasNoEndAtWhole bytes (whole c) = (end : ℕ) → IsOpeningEnd bytes end → ⊥
+
+-- steps that are read, and the opening with a measure that is read, or without one
+abbrev pub steps_view : Option (Vec Simp Global) → Option (List Simplification)
+steps_view None = None
+steps_view (Some steps) = Some (map simp_view steps.items)
+
+abbrev pub opening_view : Option MeasureCert → Opening
+opening_view None = ortho_opening
+opening_view (Some measure) = quasi_opening (measure_view measure)
+
+-- what is said of a text that is opened, and of one that is refused
+abbrev pub IsGood : NameTable → List ℕ → OpenedText → Type 0
+IsGood names bytes t = IsOpenedAs names bytes t × HasNoEndAtWhole bytes t
+
+abbrev pub IsBad : NameTable → List ℕ → CertError → Type 0
+IsBad names bytes e = IsRefusedAs names bytes e × IsToldBefore bytes e
+
+abbrev pub IsAnswer : NameTable → List ℕ → Result Opened CertError → Type 0
+IsAnswer names bytes (Ok o) = IsGood names bytes (opened_view o)
+IsAnswer names bytes (Err e) = IsBad names bytes e
 
 -- ---- what is read behind an opening, to the end
 

@@ -6,8 +6,8 @@ use Rattle.certificates.specs.Certificates.{PairEntry}
 use Rattle.cops_names.specs.NameTable.{NameTable}
 use Rattle.cert_model.specs.declared.evidence.Automaton.{Automaton}
 use Rattle.cert_model.specs.EvidenceView.{automaton_view}
-use Rattle.cert_grammar.specs.Prelude.{Naming, Mark, answer_marks, heading_marks, body_marks, Item, pairs_from, entries_from, heads_from, Version, first_version, second_version, Uses}
-use Rattle.cert_grammar.specs.Prelude.{Shared, nothing_shared}
+use Rattle.cert_grammar.specs.Prelude.{Naming, Mark, answer_marks, heading_marks, body_marks, Item, pairs_from, entries_from, heads_from, Version, first_version, second_version, Uses, Shared}
+use Rattle.cert_grammar.specs.Prelude.{nothing_shared}
 use Rattle.cert_grammar.specs.Items as Items
 use Rattle.cert_openings.specs.Openings.{Opening, certificate_for, uses_with, BeginsEntry}
 use Rattle.cert_openings.specs.Laws.{IsReadTo}
@@ -35,8 +35,9 @@ shared_in (Some automata) = map automaton_view automata.items
 
 -- an item of a measure at which it may end
 abbrev pub EndsMeasure : Version → Item → Type 0
-EndsMeasure first_version item = (k : ℕ) × (item ≡ entries_from first_version k)
-EndsMeasure second_version item = ((k : ℕ) × (item ≡ entries_from second_version k)) ⊎ ((k : ℕ) × (item ≡ heads_from k))
+EndsMeasure v (entries_from u k) = v ≡ u
+EndsMeasure v (heads_from k) = v ≡ second_version
+EndsMeasure v _ = ⊥
 
 -- what the text goes on with: an overlap with this number; or, behind a measure, the first
 abbrev pub IsNext : Version → Item → ℕ → List ℕ → Type 0

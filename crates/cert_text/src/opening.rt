@@ -1,13 +1,14 @@
 //! Reads the text of a certificate up to its entries.
 
-ghost use Rattle.std.specs.Prelude.{[], ◌∷◌, None, map, IfOk, IfErr};
+ghost use Rattle.std.specs.Prelude.{ℕ, List, [], ◌∷◌, None, map, IfOk, IfErr};
+ghost use Rattle.cops_names.specs.NameTable.{NameTable};
 ghost use Rattle.cert_model.specs.EvidenceView.{automaton_view};
 ghost use Rattle.cert_grammar.specs.Versions.{second_version};
 ghost use Rattle.cert_grammar.specs.Items as spec;
 ghost use Rattle.cert_words.specs.CertRefusals.{IsRefusedAs};
 ghost use Rattle.cert_text.specs.ReadingView.{version_with, shared_in};
-ghost use Rattle.cert_text.specs.Front.{opened_behind, IsBegun, BeginsBody};
-ghost use Rattle.cert_text.specs.OpenedText.{opened_view, IsOpenedAs, IsRefusedBehind, IsToldBefore, HasNoEndAtWhole};
+ghost use Rattle.cert_text.specs.Front.{opening_behind, opened_behind, IsBegun, BeginsBody, ReadsOpening};
+ghost use Rattle.cert_text.specs.OpenedText.{opened_view, IsOpenedAs, IsRefusedBehind, IsToldBefore, HasNoEndAtWhole, steps_view, opening_view, IsGood, IsAnswer};
 
 use crate::pairs::{Pairs, uses_of};
 use cert_model::{Automaton, MeasureCert, Peak, Simp};
@@ -58,7 +59,7 @@ pub fn open_cert<'a>(
         return open_second(alloc, names, bytes, automata, at, given);
     }
     let kind = kind_word(end, &mut at, given);
-    open_body(alloc, names, bytes, None, at, kind)
+    open_body(alloc, names, bytes, None, None, at, kind)
 }
 
 // The rest of a text of the second version, behind its shared automata.
@@ -71,25 +72,18 @@ fn open_second<'a>(
     given: Option<bool>,
 ) -> Result<Opened<'a>, CertError>
     requires { IsBegun names.now bytes.now second_version (map automaton_view automata.items) given None [] (spec.simplified given ∷ []) at }
-    ensures opened { IfOk result (λ o. IsOpenedAs names.now bytes.now (opened_view o)) }
-    ensures refused { IfErr result (λ e. IsRefusedAs names.now bytes.now e) }
-    ensures early { IfErr result (IsToldBefore bytes.now) }
-    ensures peak { IfOk result (λ o. HasNoEndAtWhole bytes.now (opened_view o)) }
+    ensures { IsAnswer names.now bytes.now result }
 {
     let end = bytes.len();
     let mut at = at;
     if let Some(kind) = simplified_word(end, &mut at, given) {
-        return open_body(alloc, names, bytes, Some(automata), at, kind);
+        return open_body(alloc, names, bytes, Some(automata), None, at, kind);
     }
     let count = counted_steps(end, &mut at);
     text(end, &mut at, b"\n");
     let steps = all_simplifications(alloc, names, &automata, end, &mut at, count);
     let kind = kind_word(end, &mut at, given);
-    let body = open_body(alloc, names, bytes, Some(automata), at, kind)?;
-    match Box::new(alloc, body) {
-        Ok(body) => Ok(Opened::Simplified(steps, body)),
-        Err(_) => Err(CertError::NoMemory),
-    }
+    open_body(alloc, names, bytes, Some(automata), Some(steps), at, kind)
 }
 
 // The rest of a text behind the word of its kind.
@@ -98,14 +92,12 @@ fn open_body<'a>(
     names: &'a Names,
     bytes: &'a [u8],
     automata: Option<Vec<Automaton>>,
+    steps: Option<Vec<Simp>>,
     at: Reading<'a>,
     kind: Kind,
 ) -> Result<Opened<'a>, CertError>
-    requires { BeginsBody names.now bytes.now (version_with automata) (shared_in automata) kind at }
-    ensures opened { (begun : BeginsBody names.now bytes.now (version_with automata) (shared_in automata) kind at.entry) → IfOk result (λ o. IsOpenedAs names.now bytes.now (opened_behind begun.steps (opened_view o))) }
-    ensures refused { IfErr result (λ e. IsRefusedAs names.now bytes.now e) }
-    ensures early { IfErr result (IsToldBefore bytes.now) }
-    ensures peak { IfOk result (λ o. HasNoEndAtWhole bytes.now (opened_view o)) }
+    requires { BeginsBody names.now bytes.now (version_with automata) (shared_in automata) (steps_view steps) kind at }
+    ensures { IsAnswer names.now bytes.now result }
 {
     let end = bytes.len();
     let mut at = at;
@@ -113,17 +105,11 @@ fn open_body<'a>(
     match kind {
         Kind::Ortho => {
             entries_begin(end, &mut at);
-            match at.refused {
-                Some(refused) => Err(refused),
-                None => Ok(Opened::Ortho(Pairs::behind(names, bytes, automata, at))),
-            }
+            entries(alloc, names, bytes, automata, steps, at, None)
         }
         Kind::Quasi => {
             let measure = measure(alloc, names, uses_of(&automata), end, &mut at);
-            match at.refused {
-                Some(refused) => Err(refused),
-                None => Ok(Opened::Quasi(measure, Pairs::behind(names, bytes, automata, at))),
-            }
+            entries(alloc, names, bytes, automata, steps, at, Some(measure))
         }
         Kind::Peak => {
             let peak = peak(alloc, names, uses_of(&automata), end, &mut at);
@@ -135,7 +121,47 @@ fn open_body<'a>(
                     at: end.saturating_sub(at.left.len()),
                 });
             }
-            Ok(Opened::Peak(peak))
+            behind_steps(alloc, steps, Opened::Peak(peak))
         }
+    }
+}
+
+// The entries behind a measure, or behind none.
+fn entries<'a>(
+    alloc: Global,
+    names: &'a Names,
+    bytes: &'a [u8],
+    automata: Option<Vec<Automaton>>,
+    steps: Option<Vec<Simp>>,
+    at: Reading<'a>,
+    measure: Option<MeasureCert>,
+) -> Result<Opened<'a>, CertError>
+    requires { ReadsOpening names.now bytes.now (version_with automata) (shared_in automata) (opening_behind (steps_view steps) (opening_view measure)) at }
+    ensures { IsAnswer names.now bytes.now result }
+{
+    if let Some(refused) = at.refused {
+        return Err(refused);
+    }
+    let pairs = Pairs::behind(names, bytes, automata, at);
+    match measure {
+        None => behind_steps(alloc, steps, Opened::Ortho(pairs)),
+        Some(measure) => behind_steps(alloc, steps, Opened::Quasi(measure, pairs)),
+    }
+}
+
+// What stands behind these steps, if there are any.
+fn behind_steps<'a>(
+    alloc: Global,
+    steps: Option<Vec<Simp>>,
+    body: Opened<'a>,
+) -> Result<Opened<'a>, CertError>
+    ensures { (names : NameTable) (bytes : List ℕ) → IsGood names bytes (opened_behind (steps_view steps) (opened_view body.entry)) → IsAnswer names bytes result }
+{
+    let Some(steps) = steps else {
+        return Ok(body);
+    };
+    match Box::new(alloc, body) {
+        Ok(body) => Ok(Opened::Simplified(steps, body)),
+        Err(_) => Err(CertError::NoMemory),
     }
 }

@@ -1,14 +1,12 @@
-use Rattle.cert_text.proofs.Prelude.{map, [], ◌∷◌, length, Some, None, refl, sym, ap, subst, automaton_view, simp_view, second_version, between, line, simplification_count, simplifications_of}
-use Rattle.cert_text.proofs.Prelude.{then_reads, framed, AreShared}
-use Rattle.cert_text.proofs.OpenedViews.{simplified_opened}
-use Rattle.cert_text.proofs.Openings.{word_begun, steps_begin, known_at_steps}
+use Rattle.cert_text.proofs.Prelude.{map, [], ◌∷◌, length, refl, sym, ap, subst, automaton_view, simp_view, second_version, between, line, simplification_count, simplifications_of, then_reads, framed}
+use Rattle.cert_text.proofs.Prelude.{AreShared}
+use Rattle.cert_reading.proofs.KindMarks.{kind_still}
+use Rattle.cert_text.proofs.Fronts.{begun_on}
+use Rattle.cert_text.proofs.Openings.{steps_begin, known_at_steps}
 use Rattle.cert_text.proofs.opening.open_second.Goals as goal
 
 pub open_body-requires : goal.open_body-requires
-open_body-requires c = record { given = c.args.given; steps = None; begun = word_begun c.in-Some.kind c.requires (c.in-Some.ensures.kind c.args.names.now) }
-
-pub returns-in-Some-clause-opened : goal.returns-in-Some-clause-opened
-returns-in-Some-clause-opened c = c.open_body.ensures.opened (record { given = c.args.given; steps = None; begun = word_begun c.in-Some.kind c.requires (c.in-Some.ensures.kind c.args.names.now) })
+open_body-requires c = record { given = c.args.given; begun = begun_on c.requires (kind_still c.args.given c.in-Some.kind) (c.in-Some.ensures.kind c.args.names.now) }
 
 pub all_simplifications-steps-requires : goal.all_simplifications-steps-requires
 all_simplifications-steps-requires c =
@@ -28,22 +26,6 @@ open_body-requires-2 c =
     let steps = c.all_simplifications-steps.ensures in
     record {
       given = c.args.given;
-      steps = Some (map simp_view c.all_simplifications-steps.result.items);
-      begun = steps_begin _ n (map simp_view c.all_simplifications-steps.result.items) c.kind_word-kind.result (ap (map automaton_view) c.deref.ensures.value) c.requires
-          (c.in_default.ensures.steps names) count steps.read steps.counted steps.plain steps.known (c.kind_word-kind.ensures names second_version);
+      begun = steps_begin n c.requires (c.in_default.ensures.steps names) count _ (map simp_view c.all_simplifications-steps.result.items) c.kind_word-kind.result
+          (ap (map automaton_view) c.deref.ensures.value) steps.read steps.counted steps.plain steps.known (c.kind_word-kind.ensures names second_version);
     }
-
-pub returns-in-Ok-clause-opened : goal.returns-in-Ok-clause-opened
-returns-in-Ok-clause-opened c =
-    let names = c.args.names.now in
-    let n = c.counted_steps-count.result in
-    let count = then_reads (c.counted_steps-count.ensures names simplification_count (λ k. between line ∷ simplifications_of k) refl)
-    (framed (simplifications_of n) (c.text.ensures.read names (between line) [] refl)) in
-    let steps = c.all_simplifications-steps.ensures in
-    let ss = map simp_view c.all_simplifications-steps.result.items in
-    rw (simplified_opened, c.in-Ok.ensures.ok) (c.in_ok-body.ensures.opened (record {
-      given = c.args.given;
-      steps = Some ss;
-      begun = steps_begin _ n ss c.kind_word-kind.result (ap (map automaton_view) c.deref.ensures.value) c.requires (c.in_default.ensures.steps names) count steps.read
-          steps.counted steps.plain steps.known (c.kind_word-kind.ensures names second_version);
-    }))

@@ -1,30 +1,29 @@
-use Rattle.cert_text.proofs.Prelude.{rules, ◌≡◌, ◌<◌, ◌+◌, refl, sym, ◌∙◌, length, arith, nil_from_length, not_nil, pair_entry_view, version_by, automata_by, ran}
-use Rattle.cert_text.proofs.Advancing.{up_to_by, front_kept, held_back, next_refused, held_on, reads_on, never_whole, at_end, no_entry, not_whole, behind_refused, refused_there, not_told}
-use Rattle.cert_text.proofs.Advancing.{not_told_at}
+use Rattle.cert_text.proofs.Prelude.{rules, ◌≡◌, ◌<◌, ◌+◌, sym, ◌∙◌, length, nil_from_length, not_nil, pair_entry_view, version_by, automata_by, ran}
+use Rattle.cert_text.proofs.Advancing.{up_to_by, next_read, held_back, held_on, reads_on, never_whole, at_end, no_entry, not_whole, behind_refused, refused_there, not_told, not_told_at}
 use Rattle.cert_text.proofs.pairs.Pairs.next.Goals as goal
 
 pub invariant_of-self : goal.invariant_of-self
 invariant_of-self c =
-    let front = front_kept c.self.inside.names.now (version_by c.uses_of-uses.result) (automata_by c.uses_of-uses.result) _ (c.self.inside.count + 1) c.self.inside.at
+    let read = next_read c.self.inside.names.now (version_by c.uses_of-uses.result) (automata_by c.uses_of-uses.result) _ (c.self.inside.count + 1) c.self.inside.at
     c.next_pair-found.new.at c.next_pair-found.result c.next_pair-found.ensures.pair c.next_pair-found.ensures.last in (
       c.take.ensures.after,
       held_back _ _ c.self.inside.names.now c.self.inside.bytes.now c.self.inside.at.left.now c.self.inside.count c.self.inside.at.shares
-          c.next_pair-found.new.at.shares c.go_back.new.self c.so_far-known.result front c.so_far-known.ensures c.go_back.ensures c.self.invariant.1,
+          c.next_pair-found.new.at.shares c.go_back.new.self c.so_far-known.result read.0 c.so_far-known.ensures c.go_back.ensures c.self.invariant.1,
     )
 
 pub returns-in-Some : goal.returns-in-Some
 returns-in-Some c =
     let u = up_to_by (sym c.uses_of-uses.ensures.version) (sym c.uses_of-uses.ensures.automata) c.self.invariant.1 in
     let e = c.in-Some.refused in
-    let stop = next_refused c.self.inside.names.now (version_by c.uses_of-uses.result) (automata_by c.uses_of-uses.result) _ (c.self.inside.count + 1) c.self.inside.at
-    c.next_pair-found.new.at c.next_pair-found.result e c.self.invariant.0 (sym c.take.ensures.value ∙ c.in-Some.is) c.next_pair-found.ensures.pair
-    c.next_pair-found.ensures.last in
+    let read = next_read c.self.inside.names.now (version_by c.uses_of-uses.result) (automata_by c.uses_of-uses.result) _ (c.self.inside.count + 1) c.self.inside.at
+    c.next_pair-found.new.at c.next_pair-found.result c.next_pair-found.ensures.pair c.next_pair-found.ensures.last in
+    let stop = read.1 e c.self.invariant.0 (sym c.take.ensures.value ∙ c.in-Some.is) in
     record {
       entry = tt;
       none = tt;
-      none_exactly = rw (← c.self.view_is) (not_told u (c.self.inside.count + 1) (omega arith) e stop);
-      ready = rw (← c.self.view_is) (not_told_at u (c.self.inside.count + 1) (omega arith) e stop);
-      refused = rw (← c.self.view_is) (refused_there u (c.self.inside.count + 1) (omega arith) e stop);
+      none_exactly = rw (← c.self.view_is) (not_told u e stop);
+      ready = rw (← c.self.view_is) (not_told_at u e stop);
+      refused = rw (← c.self.view_is) (refused_there u e stop);
       stays = search rules;
       text = search rules;
     }
@@ -35,8 +34,7 @@ invariant_of-self-in-Some-found c =
     let none = sym c.take.ensures.value ∙ c.in_default.is in (
       c.take.ensures.after,
       up_to_by c.uses_of-uses.ensures.version c.uses_of-uses.ensures.automata
-          (held_on u (c.self.inside.count + 1) (omega arith) (pair_entry_view c.in-Some-found.entry) c.next_pair-found.new.at.left.now (c.self.inside.count + 1)
-          (c.in-Some-found.ensures.plain none) refl (ran c.self.invariant.0 none c.in-Some-found.ensures.pair)),
+          (held_on u (pair_entry_view c.in-Some-found.entry) c.next_pair-found.new.at.left.now (c.in-Some-found.ensures.plain none) (ran c.self.invariant.0 none c.in-Some-found.ensures.pair)),
     )
 
 pub returns-in-Some-found : goal.returns-in-Some-found
@@ -46,9 +44,9 @@ returns-in-Some-found c =
     let run = ran c.self.invariant.0 none c.in-Some-found.ensures.pair in
     let p = pair_entry_view c.in-Some-found.entry in
     record {
-      entry = rw (← c.self.view_is) (reads_on u (c.self.inside.count + 1) (omega arith) p c.next_pair-found.new.at.left.now (c.in-Some-found.ensures.plain none) run);
+      entry = rw (← c.self.view_is) (reads_on u p c.next_pair-found.new.at.left.now (c.in-Some-found.ensures.plain none) run);
       none = tt;
-      none_exactly = rw (← c.self.view_is) (never_whole u (c.self.inside.count + 1) (omega arith) p c.next_pair-found.new.at.left.now run);
+      none_exactly = rw (← c.self.view_is) (never_whole u p c.next_pair-found.new.at.left.now run);
       ready = λ o es e place h k. tt;
       refused = tt;
       stays = tt;
@@ -63,9 +61,9 @@ returns-then-more-eq0 c =
     let zero : length c.next_pair-found.new.at.left.now ≡ 0 = search rules in
     record {
       entry = tt;
-      none = rw (← c.self.view_is) (at_end u (c.self.inside.count + 1) (omega arith) left _ run (nil_from_length left zero));
+      none = rw (← c.self.view_is) (at_end u left _ run (nil_from_length left zero));
       none_exactly = λ o es h k. tt;
-      ready = rw (← c.self.view_is) (no_entry u (c.self.inside.count + 1) (omega arith) left _ run);
+      ready = rw (← c.self.view_is) (no_entry u left _ run);
       refused = tt;
       stays = search rules;
       text = search rules;
@@ -81,9 +79,9 @@ returns-else-more-eq0 c =
     record {
       entry = tt;
       none = tt;
-      none_exactly = rw (← c.self.view_is) (λ o es h k. absurd (not_whole u (c.self.inside.count + 1) (omega arith) left _ run some o es h k));
-      ready = rw (← c.self.view_is) (λ o es e place h k. absurd (no_entry u (c.self.inside.count + 1) (omega arith) left _ run o es e place h k));
-      refused = rw (← c.self.view_is) (behind_refused u (c.self.inside.count + 1) (omega arith) left _ run c.saturating_sub.result some c.saturating_sub.ensures);
+      none_exactly = rw (← c.self.view_is) (λ o es h k. absurd (not_whole u left _ run some o es h k));
+      ready = rw (← c.self.view_is) (λ o es e place h k. absurd (no_entry u left _ run o es e place h k));
+      refused = rw (← c.self.view_is) (behind_refused u left _ run c.saturating_sub.result some c.saturating_sub.ensures);
       stays = search rules;
       text = search rules;
     }
