@@ -1,16 +1,16 @@
 -- Texts that are read up to a body, or behind the word of its kind.
-use Rattle.cert_text.proofs.Prelude.{◌≡◌, ℕ, Bool, List, [], ◌∷◌, ◌++◌, length, Option, Some, None, codes, refl, sym, ap, ◌∙◌, subst, arith, append_assoc, append-nil, Automaton}
-use Rattle.cert_text.proofs.Prelude.{PairEntry, Simplification, Certificate, simplified_certificate, NameTable, name_of, Version, first_version, second_version, Uses, number_in}
+use Rattle.cert_text.proofs.Prelude.{◌≡◌, ℕ, Bool, List, [], ◌∷◌, ◌++◌, length, Option, Some, None, codes, refl, sym, ap, ◌∙◌, arith, append_assoc, append-nil, Automaton}
+use Rattle.cert_text.proofs.Prelude.{Simplification, Certificate, simplified_certificate, NameTable, name_of, Version, first_version, second_version, Uses, number_in}
 use Rattle.cert_text.proofs.Prelude.{CertificateCause, Naming, Mark, fixed, marks_text, answer_marks, heading_marks, body_marks, closing, certificate_marks, HaveNames, Item, opening}
 use Rattle.cert_text.proofs.Prelude.{between, line, nothing_shared, AreStill, counts_still, Opening, certificate_for, uses_with, IsOpeningEnd, IsOpened, CertError, told, IsRefusedAs}
 use Rattle.cert_text.proofs.Prelude.{Run, Reads, walks_text, kind_mark, item_by, Peak, Place, IsStoppedWhere, ReadsWhere, WithinOpening, BeforeEntries, Anywhere, walks_named, kind_item}
 use Rattle.cert_text.proofs.Prelude.{then_where, as_marks_where, low_where, elsewhere, anywhere, reads_anywhere, open_before_where, ran, stopped_where, low_unopened, known_where}
-use Rattle.cert_text.proofs.Prelude.{read_marks, steps_marks, opening_behind, CanStep, front_marks, IsBegun, BeginsBody, lines_text, gone}
+use Rattle.cert_text.proofs.Prelude.{read_marks, steps_marks, opening_behind, CanStep, front_marks, IsBegun, BeginsBody, gone}
 use Rattle.cert_laws.proofs.Spelt.{have_append, text_both}
 use Rattle.cert_openings.proofs.OwnLines.{TellNone, tell_both, front_tells, simplify_tells}
 use Rattle.cert_openings.proofs.Lines.{front_of, text_of, opened}
 use Rattle.cert_sharing.proofs.SpeltShares.{same_version}
-use Rattle.cert_openings.proofs.Bare.{openings_end, none_at_peak as no_opening}
+use Rattle.cert_openings.proofs.Bare.{none_at_peak as no_opening}
 use Rattle.cert_text.specs.OpenedText.{IsBad}
 use Rattle.cert_openings.proofs.BadOpenings.{bad_openings_are_refused}
 use Rattle.cert_words.specs.declared.reading.Reading.{Reading}

@@ -99,8 +99,8 @@ part_still (Some m) u = measure_still m u
 
 part_next : (v : Version) (m : Option MeasureCertificate) (b : List ℕ) → CanMeasure v m → BeginsEntry b → IsNext v (behind_part v m) 1 b
 part_next v None b h x = inl refl
-part_next first_version (Some m) b h x = inr (refl, refl, x)
-part_next second_version (Some (linear_measure es)) b h x = inr (refl, refl, x)
+part_next v (Some (linear_measure es)) b h x = inr (refl, refl, x)
+part_next first_version (Some (precedence_measure order)) b h x = absurd h
 part_next second_version (Some (precedence_measure order)) b h x = inr (refl, refl, x)
 
 part_plain : (v : Version) (shared : List Automaton) (steps : Option (List Simplification)) (m : Option MeasureCertificate) → CanStep v shared steps → CanMeasure v m

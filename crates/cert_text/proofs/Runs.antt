@@ -1,11 +1,9 @@
 -- What a run along the marks of an opening and of entries has read, and where a run refuses a text.
-use Rattle.cert_text.proofs.Prelude.{◌≡◌, ◌+◌, ◌-◌, ◌==◌, ℕ, Bool, true, false, List, [], ◌∷◌, length, drop, Option, Some, None, refl, sym, ap, ◌∙◌, subst, arith, length-append}
-use Rattle.cert_text.proofs.Prelude.{false≢true, nil_from_length, Automaton, PairEntry, NameTable, name_of, Version, IsCertificateRefused, CertificateCause, syntax, Naming, Mark}
+use Rattle.cert_text.proofs.Prelude.{◌≡◌, ◌+◌, ◌-◌, ℕ, Bool, List, [], ◌∷◌, length, drop, Option, Some, refl, ap, ◌∙◌, arith, length-append}
+use Rattle.cert_text.proofs.Prelude.{Automaton, PairEntry, NameTable, name_of, Version, IsCertificateRefused, CertificateCause, syntax, Naming, Mark}
 use Rattle.cert_text.proofs.Prelude.{marks_text, Item, opening, Shared, nothing_shared, behind_marks, Opening, certificate_for, uses_with, IsReadTo, CertError, told, IsRefusedAs}
-use Rattle.cert_text.proofs.Prelude.{left_at, Run, walks_text, walks_pass, walks_at, start_at, refused_at, IsPlainBy, ArePlainAutomata, CanShare, Anywhere, StopsWhere, IsStoppedWhere}
-use Rattle.cert_text.proofs.Prelude.{walks_named, front_found, place_of, read_marks, IfSome, Place}
-use Rattle.std.proofs.lemmas.Bool.{eqb-true}
-use Rattle.std.specs.Prelude.{MatchOption}
+use Rattle.cert_text.proofs.Prelude.{left_at, Run, walks_text, walks_pass, walks_at, start_at, refused_at, IsPlainBy, ArePlainAutomata, CanShare, IsStoppedWhere}
+use Rattle.cert_text.proofs.Prelude.{walks_named, front_found, place_of, read_marks, Place}
 use Rattle.cert_words.specs.declared.error.CertError.TheVariants.{NoMemory}
 
 -- ---- a run to the end, and one behind an opening and entries
