@@ -396,7 +396,8 @@ text_tells a b names h i e =
     let mine = spelt_automaton names a h in
     let yours = spelt_automaton names b i in
     let texts : marks_text (automaton_marks x a ++ []) ≡ marks_text (automaton_marks x b ++ []) = cc (append-nil (automaton_marks x a), append-nil (automaton_marks x b)) in
-    (same_automata a b names [] [] h i (same_marks (automaton_marks x a ++ []) (automaton_marks x b ++ []) (states_line ∷ []) (automaton_alone x a mine.named) (automaton_alone x b yours.named) texts)).0
+    (same_automata a b names [] [] h i
+    (same_marks (automaton_marks x a ++ []) (automaton_marks x b ++ []) (states_line ∷ []) (automaton_alone x a mine.named) (automaton_alone x b yours.named) texts)).0
 
 -- ---- certificates
 

@@ -7,7 +7,8 @@ pub use Rattle.term_core.proofs.Views.{view-Var}
 pub use Rattle.cert_model.specs.CertificateView.{pair_entry_view, redex_view, simp_view, certificate_view}
 pub use Rattle.cert_model.specs.EvidenceView.{automaton_view, transition_view}
 pub use Rattle.cert_model.proofs.CertificateViews.{simplified_shown}
-pub use Rattle.cert_grammar.specs.Prelude.{used_by_pairs, used_by_redexes, used_by_steps, automaton_text, texts_of, place_among, automata_of, automata_text, arguments_text, further_text, shared_by, each_behind}
+pub use Rattle.cert_grammar.specs.Prelude.{used_by_pairs, used_by_redexes, used_by_steps, automaton_text, texts_of, place_among, automata_of, automata_text}
+pub use Rattle.cert_grammar.specs.Prelude.{arguments_text, further_text, shared_by, each_behind}
 pub use Rattle.cert_writing.specs.SharedAutomata.{lent, seen, with_text, with_texts, joined}
 pub use Rattle.cert_writing.specs.Written.{each}
 pub use Rattle.cert_writing.specs.WrittenUses.{uses_view}

@@ -1,4 +1,5 @@
-use Rattle.cert_writing.proofs.Prelude.{ℕ, List, [], refl, ap, sym, ◌∙◌, Automaton, automaton_view, certificate_view, automaton_text, texts_of, automata_of, seen, with_text, with_texts, new_texts, texts_next, texts, inserted}
+use Rattle.cert_writing.proofs.Prelude.{ℕ, List, [], refl, ap, sym, ◌∙◌, Automaton, automaton_view, certificate_view, automaton_text, texts_of, automata_of, seen}
+use Rattle.cert_writing.proofs.Prelude.{with_text, with_texts, new_texts, texts_next, texts, inserted}
 use Rattle.cert_writing.proofs.numbers.AutomatonTexts.of.Goals as goal
 
 pub automata-init : goal.automata-init
