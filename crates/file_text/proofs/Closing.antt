@@ -2,12 +2,12 @@
 use Rattle.std.proofs.Common.{◌≡◌, ℕ, List, [], ◌∷◌, ◌++◌, map, Some, None, refl, sym, ap, ◌∙◌, append_assoc, codes}
 use Rattle.std.proofs.lemmas.List.{append-nil}
 use Rattle.file_text.specs.declared.ConditionType.TheVariants.{Oriented}
-use Rattle.file_text.specs.Syntax.{Name, Phrase, word, call, none, with_last, ConditionTree, RuleTree}
+use Rattle.file_text.specs.Syntax.{Name, Phrase, word, call, none, with_last, RuleTree}
 use Rattle.file_text.specs.Grammar.{Word, id, left_paren, right_paren, arrow, equal, spelled, spelled_rule, spelled_rules, id_at, type_text, Block, condition_type, variables}
 use Rattle.file_text.specs.Grammar.{rules, spelled_block, spelled_blocks}
-use Rattle.file_text.proofs.Machine.{Last, want, first, bare, done, Opens, Part, left, right, condition_left, condition_right, Reading, guard_with, ended, State, outside}
+use Rattle.file_text.proofs.Machine.{Last, want, first, bare, done, Opens, Part, left, right, condition_left, condition_right, Reading, ended, State, outside}
 use Rattle.file_text.proofs.Machine.{behind_bracket, behind_type, behind_type_word, in_variables, in_rules}
-use Rattle.file_text.proofs.ReadingWords.{commaed, begun, open_words, last_words, part_words, reading_words, arguments-last, rules-last, ended_reads}
+use Rattle.file_text.proofs.ReadingWords.{commaed, begun, open_words, last_words, part_words, reading_words, arguments-last, rules-last, rule_if, ended_reads}
 
 -- the words of the blocks so far
 abbrev pub state_words : State → List Word
@@ -61,9 +61,6 @@ term_closes os l =
       ap (λ (ws : List Word). open_words os ++ ws) (sym (append_assoc (last_words l) inner.0 outer.0))
           ∙ ap (λ (ws : List Word). open_words os ++ (ws ++ outer.0)) inner.2 ∙ outer.2,
     )
-
-abbrev rule_if : Phrase → Phrase → ℕ → List ConditionTree → Phrase → Phrase → RuleTree
-rule_if l r at cs s t = record { left = l; right = r; guard = Some (guard_with at cs record { left = s; right = t }) }
 
 ended_closes : (p : Part) (t : Phrase) (r : RuleTree) → ended p t ≡ Some r → (rest : List Word) × (r : RuleTree) × (part_words p ++ (spelled t ++ rest) ≡ spelled_rule r)
 ended_closes p t r e = ([], r, ap (λ (ws : List Word). part_words p ++ ws) (append-nil (spelled t)) ∙ sym (ended_reads p t r e))

@@ -77,7 +77,7 @@ rules-last (q ∷ qs) r = ap (λ (w : List Word). spelled_rule q ++ w) (rules-la
 abbrev rule_to : Phrase → Phrase → RuleTree
 rule_to l t = record { left = l; right = t; guard = None }
 
-abbrev rule_if : Phrase → Phrase → ℕ → List ConditionTree → Phrase → Phrase → RuleTree
+abbrev pub rule_if : Phrase → Phrase → ℕ → List ConditionTree → Phrase → Phrase → RuleTree
 rule_if l r at cs s t = record { left = l; right = r; guard = Some (guard_with at cs record { left = s; right = t }) }
 
 pub ended_reads : (p : Part) (t : Phrase) (r : RuleTree) → ended p t ≡ Some r → spelled_rule r ≡ part_words p ++ spelled t

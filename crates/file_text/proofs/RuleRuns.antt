@@ -23,7 +23,7 @@ ends_then s t a ws rs r e h = record { part = h.part; last = h.last; term = h.te
 ends_step : (s t : Reading) (w : Word) (ws : List Word) (rs : List RuleTree) (r : RuleTree) → step_term s.rules s.part s.opens s.last w ≡ Some t → RuleEnds t ws rs r → RuleEnds s (w ∷ ws) rs r
 ends_step s t w ws rs r e h = record { part = h.part; last = h.last; term = h.term; runs = term_step_then s t w ws e ∙ h.runs; is_last = h.is_last; rule = h.rule }
 
-abbrev rule_of : Phrase → Phrase → Option Guard → RuleTree
+abbrev pub rule_of : Phrase → Phrase → Option Guard → RuleTree
 rule_of l r g = record { left = l; right = r; guard = g }
 
 -- the guard with these conditions, then this one, then these
