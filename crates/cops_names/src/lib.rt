@@ -4,6 +4,8 @@
 
 mod name_set;
 mod names;
+mod numbered;
 
 pub use name_set::NameSet;
 pub use names::Names;
+pub use numbered::numbered;

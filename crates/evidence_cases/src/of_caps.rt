@@ -13,24 +13,7 @@ use tcap_infeasible::{
     Cap, TcapEvidence, compare_caps, compare_rigid_caps, made_caps_clash, rigid_cap, rigid_cap_in,
     tcap,
 };
-use term_core::{Cond, System, Term, fits, size, try_clone};
-
-// Whether the variables of a term are below a number.
-fn is_below(t: &Term, fresh: u32) -> bool
-    ensures { IsTrue result → (k : ℕ) → occurs k (view t.now) ≡ true → k < fresh }
-{
-    match t {
-        Term::Var(k) => *k < fresh,
-        Term::Fun(_, args) => {
-            for arg in args {
-                if !is_below(arg, fresh) {
-                    return false;
-                }
-            }
-            true
-        }
-    }
-}
+use term_core::{Cond, System, Term, fits, has_variables_below, size, try_clone};
 
 /// The caps of the term, the account of whose case begins with the number of the first hole, and how those of its arguments
 /// compare, where they are two.
@@ -41,7 +24,7 @@ pub fn print_caps(rt: &HostRuntime, title: &str, sys: &System, t: &Term) -> io::
         return println!(rt; "no numbers for holes");
     }
     println!(rt; "cap: {:?}", tcap(rt.alloc(), sys, t, fresh))?;
-    if is_below(t, fresh) {
+    if has_variables_below(fresh, t) {
         println!(rt; "rigid cap: {:?}", rigid_cap(rt.alloc(), sys, t, fresh))?;
     }
     let Ok(indexed) = IndexedSystem::new(rt.alloc(), sys) else {
@@ -55,7 +38,7 @@ fn made_cap(alloc: Global, sys: &IndexedSystem, t: &Term, fresh: u32) -> Option<
     if !fits(t) || u64::from(fresh) + u64::from(size(t)) > 4294967296 {
         return None;
     }
-    if !is_below(t, fresh) {
+    if !has_variables_below(fresh, t) {
         return None;
     }
     match rigid_cap_in(alloc, sys, t, fresh) {

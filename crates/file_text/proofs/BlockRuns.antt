@@ -35,12 +35,7 @@ bracket_goes rs p [] (done t) r e = let h = side_bracket rs p t in absurd cc
 
 no_closing : (s : Reading) (w : Word) (r : Reading) → step_term s.rules s.part s.opens s.last w ≡ Some r → closing s w ≡ None
 no_closing s right_paren r e = bracket_goes s.rules s.part s.opens s.last r e
-no_closing s (id f) r e = refl
-no_closing s left_paren r e = refl
-no_closing s comma r e = refl
-no_closing s (bar at) r e = refl
-no_closing s arrow r e = refl
-no_closing s equal r e = refl
+no_closing s _ r e = refl
 
 rules_step : (k : Bool) (bs : List Block) (at : ℕ) (s r : Reading) (w : Word) → step_term s.rules s.part s.opens s.last w ≡ Some r → goes_one k (in_rules bs at s) w ≡ Some (in_rules bs at r)
 rules_step k bs at s r w e =

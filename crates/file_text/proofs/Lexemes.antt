@@ -117,28 +117,14 @@ white_cases false false true d e f g h k = h refl
 white_cases false false false true e f g h k = k refl
 white_cases false false false false e f g h k = absurd (let both : false ≡ true = e in cc)
 
-no_kind_9 : (bs : List ℕ) → kind_at (9 ∷ bs) ≡ None
-no_kind_9 [] = refl
-no_kind_9 (c ∷ cs) = refl
-
-no_kind_10 : (bs : List ℕ) → kind_at (10 ∷ bs) ≡ None
-no_kind_10 [] = refl
-no_kind_10 (c ∷ cs) = refl
-
-no_kind_13 : (bs : List ℕ) → kind_at (13 ∷ bs) ≡ None
-no_kind_13 [] = refl
-no_kind_13 (c ∷ cs) = refl
-
-no_kind_32 : (bs : List ℕ) → kind_at (32 ∷ bs) ≡ None
-no_kind_32 [] = refl
-no_kind_32 (c ∷ cs) = refl
+white_as : (b n : ℕ) (bs : List ℕ) → kind_at (n ∷ bs) ≡ None → eqb b n ≡ true → kind_at (b ∷ bs) ≡ None
+white_as b n bs none e = subst (λ (m : ℕ). kind_at (m ∷ bs) ≡ None) (sym (eqb-true b n e)) none
 
 white_no_kind : (b : ℕ) (bs : List ℕ) → is_white b ≡ true → kind_at (b ∷ bs) ≡ None
-white_no_kind b bs w = white_cases (eqb b 9) (eqb b 10) (eqb b 13) (eqb b 32) w
-    (λ e. subst (λ (n : ℕ). kind_at (n ∷ bs) ≡ None) (sym (eqb-true b 9 e)) (no_kind_9 bs))
-    (λ e. subst (λ (n : ℕ). kind_at (n ∷ bs) ≡ None) (sym (eqb-true b 10 e)) (no_kind_10 bs))
-    (λ e. subst (λ (n : ℕ). kind_at (n ∷ bs) ≡ None) (sym (eqb-true b 13 e)) (no_kind_13 bs))
-    (λ e. subst (λ (n : ℕ). kind_at (n ∷ bs) ≡ None) (sym (eqb-true b 32 e)) (no_kind_32 bs))
+white_no_kind b [] w = white_cases (eqb b 9) (eqb b 10) (eqb b 13) (eqb b 32) w (white_as b 9 [] refl) (white_as b 10 [] refl) (white_as b 13 [] refl) (white_as b 32 [] refl)
+white_no_kind b (c ∷ cs) w =
+    white_cases (eqb b 9) (eqb b 10) (eqb b 13) (eqb b 32) w (white_as b 9 (c ∷ cs) refl) (white_as b 10 (c ∷ cs) refl) (white_as b 13 (c ∷ cs) refl)
+    (white_as b 32 (c ∷ cs) refl)
 
 -- no white space stands before a token's first byte
 kind_no_white : (bytes : List ℕ) (k : Kind) → kind_at bytes ≡ Some k → white_len bytes ≡ 0

@@ -1,6 +1,7 @@
 -- Where the reader of files refuses a word, this word calls for the refusal, and the other way round.
 use Rattle.std.proofs.Common.{◌≡◌, ℕ, Bool, true, false, ◌||◌, if◌then◌else◌, List, [], ◌∷◌, ◌++◌, Option, Some, None, Result, Ok, Err, refl, sym, ap, subst, ◌∙◌, codes, bytes_eq}
 use Rattle.std.proofs.Math.Bool.{and-false}
+use Rattle.std.proofs.lemmas.Bool.{or_left, or_right}
 use Rattle.std.proofs.lemmas.Option.{same_Some}
 use Rattle.file_text.specs.declared.ConditionType.{ConditionType}
 use Rattle.file_text.specs.declared.ConditionType.TheVariants.{Oriented, Join}
@@ -25,24 +26,9 @@ cause_is c d e = cc
 -- ---- a word that calls for one of the three causes is refused
 
 has_title_one : (text : List ℕ) (b : Block) → bytes_eq text (title b) ≡ true → is_title text ≡ true
-has_title_one text (condition_type p q kind) e = first_of (bytes_eq text (codes "CONDITIONTYPE")) (bytes_eq text (codes "VAR")) (bytes_eq text (codes "RULES")) e
-  where
-    first_of : (a b c : Bool) → a ≡ true → (a || b || c) ≡ true
-    first_of true b c e = refl
-    first_of false b c e = absurd cc
-has_title_one text (variables p names) e = second_of (bytes_eq text (codes "CONDITIONTYPE")) (bytes_eq text (codes "VAR")) (bytes_eq text (codes "RULES")) e
-  where
-    second_of : (a b c : Bool) → b ≡ true → (a || b || c) ≡ true
-    second_of true b c e = refl
-    second_of false true c e = refl
-    second_of false false c e = absurd cc
-has_title_one text (rules p rs) e = third_of (bytes_eq text (codes "CONDITIONTYPE")) (bytes_eq text (codes "VAR")) (bytes_eq text (codes "RULES")) e
-  where
-    third_of : (a b c : Bool) → c ≡ true → (a || b || c) ≡ true
-    third_of true b c e = refl
-    third_of false true c e = refl
-    third_of false false true e = refl
-    third_of false false false e = absurd cc
+has_title_one text (condition_type p q kind) e = or_left (bytes_eq text (codes "CONDITIONTYPE") || bytes_eq text (codes "VAR")) (bytes_eq text (codes "RULES")) (or_left (bytes_eq text (codes "CONDITIONTYPE")) (bytes_eq text (codes "VAR")) e)
+has_title_one text (variables p names) e = or_left (bytes_eq text (codes "CONDITIONTYPE") || bytes_eq text (codes "VAR")) (bytes_eq text (codes "RULES")) (or_right (bytes_eq text (codes "CONDITIONTYPE")) (bytes_eq text (codes "VAR")) e)
+has_title_one text (rules p rs) e = or_right (bytes_eq text (codes "CONDITIONTYPE") || bytes_eq text (codes "VAR")) (bytes_eq text (codes "RULES")) e
 
 -- a title of a block is one of the three
 has_title : (bs : List Block) (text : List ℕ) → is_title text ≡ false → has_block bs text ≡ false
@@ -109,12 +95,7 @@ wrong_blames front w c e = subst (Blames front w) (cause_is wrong_syntax c e) tt
 
 outside_blames : (bs : List Block) (w : Word) (c : SyntaxCause) → step_outside bs w ≡ Err c → Blames (spelled_blocks bs) w c
 outside_blames bs left_paren c e = absurd cc
-outside_blames bs (id f) c e = wrong_blames _ _ c e
-outside_blames bs right_paren c e = wrong_blames _ _ c e
-outside_blames bs comma c e = wrong_blames _ _ c e
-outside_blames bs (bar at) c e = wrong_blames _ _ c e
-outside_blames bs arrow c e = wrong_blames _ _ c e
-outside_blames bs equal c e = wrong_blames _ _ c e
+outside_blames bs _ c e = wrong_blames _ _ c e
 
 unknown_of : (a b c : Bool) (x y z : State) (d : SyntaxCause) → (if a then made x else if b then made y else if c then made z else refuse unknown_block) ≡ Err d
     → (unknown_block ≡ d) × ((a || b || c) ≡ false)
@@ -131,12 +112,7 @@ title_blames bs name c e =
 
 bracket_blames : (bs : List Block) (w : Word) (c : SyntaxCause) → step_bracket bs w ≡ Err c → Blames (spelled_blocks bs ++ left_paren ∷ []) w c
 bracket_blames bs (id name) c e = title_blames bs name c e
-bracket_blames bs left_paren c e = wrong_blames _ _ c e
-bracket_blames bs right_paren c e = wrong_blames _ _ c e
-bracket_blames bs comma c e = wrong_blames _ _ c e
-bracket_blames bs (bar at) c e = wrong_blames _ _ c e
-bracket_blames bs arrow c e = wrong_blames _ _ c e
-bracket_blames bs equal c e = wrong_blames _ _ c e
+bracket_blames bs _ c e = wrong_blames _ _ c e
 
 other_of : (a b : Bool) (x y : State) (d : SyntaxCause) → (if a then made x else if b then made y else refuse other_condition_type) ≡ Err d → (other_condition_type ≡ d) × ((a || b) ≡ false)
 other_of true b x y d e = absurd cc
@@ -147,30 +123,16 @@ type_blames : (bs : List Block) (at : ℕ) (w : Word) (c : SyntaxCause) → step
 type_blames bs at (id name) c e =
     let h = other_of (bytes_eq name.text (codes "ORIENTED")) (bytes_eq name.text (codes "JOIN")) (behind_type_word bs at name.at Oriented) (behind_type_word bs at name.at Join) c e in
     subst (Blames (spelled_blocks bs ++ left_paren ∷ id_at at (codes "CONDITIONTYPE") ∷ []) (id name)) h.0 (bs, at, name, refl, refl, h.1)
-type_blames bs at left_paren c e = wrong_blames _ _ c e
-type_blames bs at right_paren c e = wrong_blames _ _ c e
-type_blames bs at comma c e = wrong_blames _ _ c e
-type_blames bs at (bar p) c e = wrong_blames _ _ c e
-type_blames bs at arrow c e = wrong_blames _ _ c e
-type_blames bs at equal c e = wrong_blames _ _ c e
+type_blames bs at _ c e = wrong_blames _ _ c e
 
 type_word_blames : (front : List Word) (bs : List Block) (at place : ℕ) (kind : ConditionType) (w : Word) (c : SyntaxCause) → step_type_word bs at place kind w ≡ Err c → Blames front w c
 type_word_blames front bs at place kind right_paren c e = absurd cc
-type_word_blames front bs at place kind (id f) c e = wrong_blames _ _ c e
-type_word_blames front bs at place kind left_paren c e = wrong_blames _ _ c e
-type_word_blames front bs at place kind comma c e = wrong_blames _ _ c e
-type_word_blames front bs at place kind (bar p) c e = wrong_blames _ _ c e
-type_word_blames front bs at place kind arrow c e = wrong_blames _ _ c e
-type_word_blames front bs at place kind equal c e = wrong_blames _ _ c e
+type_word_blames front bs at place kind _ c e = wrong_blames _ _ c e
 
 variables_blame : (front : List Word) (bs : List Block) (at : ℕ) (names : List Name) (w : Word) (c : SyntaxCause) → step_variables bs at names w ≡ Err c → Blames front w c
 variables_blame front bs at names right_paren c e = absurd cc
 variables_blame front bs at names (id f) c e = absurd cc
-variables_blame front bs at names left_paren c e = wrong_blames _ _ c e
-variables_blame front bs at names comma c e = wrong_blames _ _ c e
-variables_blame front bs at names (bar p) c e = wrong_blames _ _ c e
-variables_blame front bs at names arrow c e = wrong_blames _ _ c e
-variables_blame front bs at names equal c e = wrong_blames _ _ c e
+variables_blame front bs at names _ c e = wrong_blames _ _ c e
 
 rules_blame : (front : List Word) (w : Word) (bs : List Block) (at : ℕ) (m : Option (List RuleTree)) (r : Option Reading) (c : SyntaxCause) → rules_or bs at m r ≡ Err c → Blames front w c
 rules_blame front w bs at (Some rs) r c e = absurd cc

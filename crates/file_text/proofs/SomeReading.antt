@@ -48,12 +48,7 @@ data Front (bytes : List ℕ) (at : ℕ) (count : ℕ) : Type 0 where
 -- only an identifier is long
 pub long_is_id : (k : Kind) (bytes : List ℕ) → longest < len_at k bytes → k ≡ Id
 long_is_id Id bytes lt = refl
-long_is_id LeftParen bytes lt = absurd (omega arith)
-long_is_id RightParen bytes lt = absurd (omega arith)
-long_is_id Comma bytes lt = absurd (omega arith)
-long_is_id Bar bytes lt = absurd (omega arith)
-long_is_id Arrow bytes lt = absurd (omega arith)
-long_is_id Equal bytes lt = absurd (omega arith)
+long_is_id _ bytes lt = absurd (omega arith)
 
 comment_front : (bytes : List ℕ) (at count : ℕ) → behind_white bytes at ≤ length bytes → is_comment_at count (drop (behind_white bytes at) bytes) ≡ true
     → (o : Option ℕ) → comment_len (drop (behind_white bytes at) bytes) ≡ o → Front bytes at count

@@ -34,14 +34,15 @@ behind_step rs p os (bare f) t arrow h b = ap (λ (u : Phrase). behind rs p os u
 behind_step rs p os (bare f) t equal h b = ap (λ (u : Phrase). behind rs p os u equal) h
 behind_step rs p os (done u) t w h b = ap (λ (v : Phrase). behind rs p os v w) h
 
-goes_on : (a b : List Word) (o : Option Reading) → ((t : Reading) → term_run t (a ++ b) ≡ option_and_then (λ t. term_run t b) (term_run t a))
-    → option_and_then (λ t. term_run t (a ++ b)) o ≡ option_and_then (λ t. term_run t b) (option_and_then (λ t. term_run t a) o)
-goes_on a b None each = refl
-goes_on a b (Some t) each = each t
+-- what a run goes through it goes through by halves
+pub goes_on : {S : Type 0} (whole front behind : S → Option S) (o : Option S) → ((t : S) → whole t ≡ option_and_then behind (front t))
+    → option_and_then whole o ≡ option_and_then behind (option_and_then front o)
+goes_on whole front behind None each = refl
+goes_on whole front behind (Some t) each = each t
 
 pub term_run-append : (a b : List Word) (s : Reading) → term_run s (a ++ b) ≡ option_and_then (λ t. term_run t b) (term_run s a)
 term_run-append [] b s = refl
-term_run-append (w ∷ a) b s = goes_on a b (step_term s.rules s.part s.opens s.last w) (λ t. term_run-append a b t)
+term_run-append (w ∷ a) b s = goes_on (λ t. term_run t (a ++ b)) (λ t. term_run t a) (λ t. term_run t b) (step_term s.rules s.part s.opens s.last w) (λ t. term_run-append a b t)
 
 pub term_run_then : (a b : List Word) (s t : Reading) → term_run s a ≡ Some t → term_run s (a ++ b) ≡ term_run t b
 term_run_then a b s t e = term_run-append a b s ∙ ap (option_and_then (λ (t : Reading). term_run t b)) e

@@ -4,20 +4,9 @@ ghost use Rattle.cops_names.specs.NamesView.{texts_of};
 ghost use Rattle.generated_systems.specs.Generated.{generated_names, variables_for};
 ghost use Rattle.cops_read.specs.Meaning.{with_symbol};
 
-use cops_names::Names;
-use itoa::Buffer;
+use cops_names::{Names, numbered};
 use std::alloc::Global;
 use term_core::NoMemory;
-
-// A letter with a number behind it.
-fn numbered(alloc: Global, letter: &str, n: u32) -> Result<String, NoMemory>
-    ensures { IfOk result (λ name. string_bytes name ≡ letter.now ++ decimal n) }
-{
-    let mut name = String::from_str(alloc, letter)?;
-    let mut buffer = Buffer::new();
-    name.push_str(buffer.format(n))?;
-    Ok(name)
-}
 
 // Puts a symbol last, where no symbol has its name.
 fn add(names: &mut Names, name: String, arity: u32) -> Result<(), NoMemory>

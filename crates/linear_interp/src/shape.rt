@@ -7,17 +7,7 @@ ghost use Rattle.linear_interp.specs.Entries.{IsEntryAt, is_wrong_at, MisshapenA
 use cert_model::LinearEntry;
 use interpretations::MOST_COEFFICIENT;
 use itertools::Itertools;
-use term_core::Head;
-
-fn is_same_head(a: Head, b: Head) -> bool
-    ensures { IsTrue result ↔ (head_view a ≡ head_view b) }
-{
-    match (a, b) {
-        (Head::File(f), Head::File(g)) => f == g,
-        (Head::Aux { rule: i, cond: k }, Head::Aux { rule: j, cond: l }) => i == j && k == l,
-        _ => false,
-    }
-}
+use term_core::{Head, is_same_head};
 
 // Whether the entry at a place is that of the symbol there.
 #[tactic(auto, using(crate::proofs::EntryChecks::absent, crate::proofs::EntryChecks::present, crate::proofs::EntryChecks::shaped))]

@@ -4,17 +4,7 @@ ghost use Rattle.rewriting.specs.Lists.{IsSorted};
 ghost use Rattle.term_core.specs.HeadView.{head_view};
 ghost use Rattle.lpo.specs.Symbols.{IsHeadBefore, SymbolAnswers};
 
-use term_core::Head;
-
-fn is_same_head(a: Head, b: Head) -> bool
-    ensures { IsTrue result ↔ (head_view a ≡ head_view b) }
-{
-    match (a, b) {
-        (Head::File(f), Head::File(g)) => f == g,
-        (Head::Aux { rule: i, cond: k }, Head::Aux { rule: j, cond: l }) => i == j && k == l,
-        _ => false,
-    }
-}
+use term_core::{Head, is_same_head};
 
 fn is_head_before(a: Head, b: Head) -> bool
     ensures { IsTrue result ↔ IsHeadBefore (head_view a) (head_view b) }

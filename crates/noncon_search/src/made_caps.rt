@@ -8,24 +8,7 @@ ghost use Rattle.noncon_search.specs.Ends.{StandsForCap};
 use rule_index::IndexedSystem;
 use std::alloc::Global;
 use tcap_infeasible::{Cap, FIRST_HOLE, rigid_cap_in};
-use term_core::{NoMemory, Term};
-
-// Whether the variables of a term are below a number.
-fn is_below(t: &Term, bound: u32) -> bool
-    ensures { IsTrue result → (k : ℕ) → occurs k (view t.now) ≡ true → k < bound }
-{
-    match t {
-        Term::Var(k) => *k < bound,
-        Term::Fun(_, args) => {
-            for arg in args {
-                if !is_below(arg, bound) {
-                    return false;
-                }
-            }
-            true
-        }
-    }
-}
+use term_core::{NoMemory, Term, has_variables_below};
 
 /// The rigid cap of a term, with holes from `FIRST_HOLE` on. Where there is none, a hole stands for it, since neither clashes
 /// with any other cap. It is not made where the term has such variables itself.
@@ -33,7 +16,7 @@ pub fn cap_of(alloc: Global, sys: &IndexedSystem<'_>, t: &Term) -> Result<Option
     requires { math.Fits (view t.now) }
     ensures { IfOk result (λ o. IfSome o (λ u. StandsForCap sys.now (view t.now) (view u))) }
 {
-    if !is_below(t, FIRST_HOLE) {
+    if !has_variables_below(FIRST_HOLE, t) {
         return Ok(None);
     }
     match rigid_cap_in(alloc, sys, t, FIRST_HOLE)? {

@@ -19,20 +19,13 @@ meets_behind : (S : Relation Term) (s : Substitution) (cs ds : List Condition) �
 meets_behind S s [] ds h = h
 meets_behind S s (c ∷ cs) ds h = meets_behind S s cs ds h.1
 
--- x is another variable than those of a term without it
-other_variable : (x y : ℕ) (u : Term) → occurs x u ≡ false → occurs y u ≡ true → nat_eq y x ≡ false
-other_variable x y u none there = go (nat_eq y x) refl
+-- a number without a property is another than one that has it
+other_number : (p : ℕ → Bool) (x y : ℕ) → p x ≡ false → p y ≡ true → nat_eq y x ≡ false
+other_number p x y none there = go (nat_eq y x) refl
   where
     go : (b : Bool) → nat_eq y x ≡ b → nat_eq y x ≡ false
     go false e = e
-    go true e = (let same : y ≡ x = eqb-true y x e in let bad : true ≡ false = sym there ∙ ap (λ z. occurs z u) same ∙ none in cc)
-
-other_variable_in : (x y : ℕ) (us : Terms) → occurs_in x us ≡ false → occurs_in y us ≡ true → nat_eq y x ≡ false
-other_variable_in x y us none there = go (nat_eq y x) refl
-  where
-    go : (b : Bool) → nat_eq y x ≡ b → nat_eq y x ≡ false
-    go false e = e
-    go true e = (let same : y ≡ x = eqb-true y x e in let bad : true ≡ false = sym there ∙ ap (λ z. occurs_in z us) same ∙ none in cc)
+    go true e = (let same : y ≡ x = eqb-true y x e in let bad : true ≡ false = sym there ∙ ap p same ∙ none in cc)
 
 module _ (ar : Signature) (S : Relation Term) (r : Rule) (k : ℕ) (c : Condition) (x : ℕ) (is : slice_get r.conditions k ≡ Some c) (names : Names r k c x) where
   abbrev front : List Condition
@@ -64,13 +57,13 @@ module _ (ar : Signature) (S : Relation Term) (r : Rule) (k : ℕ) (c : Conditio
     meets_later s [] none h = tt
     meets_later s (d ∷ cs) none (h, hs) = (
       subst₂ S (apply-apply (replacing x c.left) s d.left)
-          (sym (apply-agree (named s) s d.right (λ y o. named_other s y (other_variable x y d.right (or_parts _ _ none).0 o)))) h,
+          (sym (apply-agree (named s) s d.right (λ y o. named_other s y (other_number (λ z. occurs z d.right) x y (or_parts _ _ none).0 o)))) h,
       meets_later s cs (or_parts (occurs x d.right) _ none).1 hs,
     )
 
     own_met : (s : Substitution) → S (apply (named s) c.left) (apply (named s) c.right)
     own_met s =
-        let to_left : apply (named s) c.left ≡ apply s c.left = apply-agree (named s) s c.left (λ y o. named_other s y (other_variable x y c.left names.not_in_own o)) in
+        let to_left : apply (named s) c.left ≡ apply s c.left = apply-agree (named s) s c.left (λ y o. named_other s y (other_number (λ z. occurs z c.left) x y names.not_in_own o)) in
         let to_right : apply (named s) c.right ≡ apply s c.left = ap (apply (named s)) names.variable ∙ named_here s in
         subst₂ S (sym to_left) (sym to_right) (here (apply s c.left))
 
@@ -81,9 +74,9 @@ module _ (ar : Signature) (S : Relation Term) (r : Rule) (k : ℕ) (c : Conditio
           values = named_over b.by b.values;
           holds = subst (Meets S (named b.by)) (sym (split_at r.conditions k c is))
               (Meets-append S (named b.by) front (c ∷ behind)
-              (Meets-agree S b.by (named b.by) front (λ y o. sym (named_other b.by y (other_variable_in x y (sides front) names.not_before o))) (meets_front S b.by front _ b.holds))
+              (Meets-agree S b.by (named b.by) front (λ y o. sym (named_other b.by y (other_number (λ z. occurs_in z (sides front)) x y names.not_before o))) (meets_front S b.by front _ b.holds))
               (own_met b.by, meets_later b.by behind names.not_asked_behind (meets_behind S b.by front _ b.holds)));
-          left = b.left ∙ sym (apply-agree (named b.by) b.by r.left (λ y o. named_other b.by y (other_variable x y r.left names.not_in_left o)));
+          left = b.left ∙ sym (apply-agree (named b.by) b.by r.left (λ y o. named_other b.by y (other_number (λ z. occurs z r.left) x y names.not_in_left o)));
           right = b.right ∙ apply-apply (replacing x c.left) b.by r.right;
         }
 

@@ -1,6 +1,7 @@
 //! Conditions, rules and conditional rewrite systems, and why rules make no system.
-ghost use Rattle.std.specs.Prelude.{◌≡◌, ◌<◌, ◌+◌, ◌^◌, OnOk, map, length};
+ghost use Rattle.std.specs.Prelude.{◌≡◌, ◌<◌, ◌+◌, ◌^◌, ◌↔◌, IsTrue, OnOk, map, length};
 ghost use Rattle.rewriting.specs.Prelude.{system_of, condition_count, IsSystem};
+ghost use Rattle.term_core.specs.HeadView.{head_view};
 ghost use Rattle.term_core.specs.RuleView.{rule_view, AreCounted};
 
 use crate::joins::JoinError;
@@ -45,6 +46,17 @@ pub enum SystemFault {
 pub enum Head {
     File(u32),
     Aux { rule: u32, cond: u32 },
+}
+
+/// Whether two symbols of an unraveled system are the same.
+pub fn is_same_head(a: Head, b: Head) -> bool
+    ensures { IsTrue result ↔ (head_view a ≡ head_view b) }
+{
+    match (a, b) {
+        (Head::File(f), Head::File(g)) => f == g,
+        (Head::Aux { rule: i, cond: k }, Head::Aux { rule: j, cond: l }) => i == j && k == l,
+        _ => false,
+    }
 }
 
 /// A conditional rewrite system: the arities of its symbols, its rules, and how many of the symbols are its file's.

@@ -1,5 +1,5 @@
 //! The variables of a term: whether one occurs, all in order of first occurrence, those that are repeated, and whether the term is linear.
-ghost use Rattle.std.specs.Prelude.{◌≡◌, ◌≤◌, ◌<◌, ◌+◌, ◌↔◌, ℕ, IfOk, OnOk, IfSome, IsTrue, false, map};
+ghost use Rattle.std.specs.Prelude.{◌≡◌, ◌≤◌, ◌<◌, ◌+◌, ◌↔◌, ℕ, IfOk, OnOk, IfSome, IsTrue, true, false, map};
 ghost use Rattle.rewriting.specs.Prelude.{with_new, with_variables, variables, occurrences, IsLinear, var, right_sides};
 ghost use Rattle.rewriting.specs.Variables as math;
 ghost use Rattle.term_core.specs.View.{view, views};
@@ -33,6 +33,33 @@ fn occurs_any(x: u32, args: &[Term]) -> bool
     match args {
         [] => false,
         [first, rest @ ..] => occurs(x, first) || occurs_any(x, rest),
+    }
+}
+
+/// Whether each variable of a term, of any size, has a number below `bound`.
+#[cycle(below)]
+#[tactic(auto, using(rewriting::proofs::Lengths::size_positive))]
+pub fn has_variables_below(bound: u32, t: &Term) -> bool
+    ensures yes { IsTrue result → (x : ℕ) → math.occurs x (view t.now) ≡ true → x < bound }
+    ensures no { result ≡ false → (x : ℕ) × (math.occurs x (view t.now) ≡ true) × (bound ≤ x) }
+{
+    match t {
+        Term::Var(x) => *x < bound,
+        Term::Fun(_, args) => have_variables_below(bound, args),
+    }
+}
+
+// The same of some terms.
+#[cycle(below)]
+#[tactic(auto, using(rewriting::proofs::Lengths::size_positive))]
+fn have_variables_below(bound: u32, args: &[Term]) -> bool
+    ensures yes { IsTrue result → (x : ℕ) → math.occurs_in x (views args.now) ≡ true → x < bound }
+    ensures no { result ≡ false → (x : ℕ) × (math.occurs_in x (views args.now) ≡ true) × (bound ≤ x) }
+{
+    match args {
+        [] => true,
+        [first, rest @ ..] => has_variables_below(bound, first)
+            && have_variables_below(bound, rest),
     }
 }
 
