@@ -1,7 +1,4 @@
 //! Caps of a term, and how those of its two arguments compare, with the evidence by them that the first never reaches the second.
-ghost use Rattle.std.specs.Prelude.{◌≡◌, ◌<◌, ℕ, true, IsTrue};
-ghost use Rattle.rewriting.specs.Variables.{occurs};
-ghost use Rattle.term_core.specs.View.{view};
 
 use cert_model::InfEvidence;
 use infeasible::check_infeasible;

@@ -1,7 +1,6 @@
 //! The rigid caps of listed terms, each made once for all pairs.
-ghost use Rattle.std.specs.Prelude.{◌≡◌, ◌<◌, ℕ, true, IfOk, IfSome, IsTrue};
+ghost use Rattle.std.specs.Prelude.{IfOk, IfSome};
 ghost use Rattle.rewriting.specs.Terms as math;
-ghost use Rattle.rewriting.specs.Variables.{occurs};
 ghost use Rattle.term_core.specs.View.{view};
 ghost use Rattle.noncon_search.specs.Ends.{StandsForCap};
 
