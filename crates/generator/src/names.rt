@@ -1,5 +1,5 @@
 //! The names of a generated system.
-ghost use Rattle.std.specs.Prelude.{◌≡◌, ◌+◌, ◌<◌, ◌≤◌, ◌^◌, ◌∷◌, ◌++◌, [], IfOk, OnOk, codes, decimal, length, suc, string_bytes};
+ghost use Rattle.std.specs.Prelude.{◌≡◌, ◌+◌, ◌<◌, ◌≤◌, ◌^◌, ◌∷◌, ◌++◌, [], IfOk, OnOk, codes, length, suc, string_bytes};
 ghost use Rattle.cops_names.specs.NamesView.{texts_of};
 ghost use Rattle.generated_systems.specs.Generated.{generated_names, variables_for};
 ghost use Rattle.cops_read.specs.Meaning.{with_symbol};
