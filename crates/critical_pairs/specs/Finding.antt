@@ -2,7 +2,9 @@
 use Rattle.std.specs.Prelude.{ℕ, suc, ◌≡◌, ◌≤◌, [], Option, None, Some, Result, Ok, Err}
 use Rattle.unifier_run.specs.declared.TheConstants.{MOST_OVERLAPS}
 use Rattle.rewriting.specs.Rules.{System}
+use Rattle.unifier_run.specs.Overlaps as math
 use Rattle.unifier_run.specs.Overlaps.{Triple, IsTooLargeAt}
+use Rattle.critical_pairs.specs.Offers.{Search, IsOffered, IsDone, IsRefused}
 use Rattle.critical_pairs.specs.Cursors.{rest_of, StandsBefore}
 use Rattle.critical_pairs.specs.declared.cursor.Cursor.{Cursor}
 use Rattle.critical_pairs.specs.Spots.{IsUnifierAt}
@@ -46,3 +48,9 @@ pub record IsCounted (before : Cursor) (n : ℕ) (after : Cursor) (m : ℕ) : Ty
 abbrev pub CountAnswers : Cursor → ℕ → Cursor → ℕ → Result (Unit {0}) OverlapError → Type 0
 CountAnswers before n after m (Ok u) = IsCounted before n after m
 CountAnswers before n after m (Err e) = (e ≡ TooManyPairs) × (n ≡ MOST_OVERLAPS) × (after ≡ before) × (m ≡ n)
+
+-- what is made of the next overlap, or none, or why it is refused
+abbrev pub StepAnswers : {M : Type 0} (is_of : M → math.Overlap → Type 0) → Search → Search → Result (Option M) OverlapError → Type 0
+StepAnswers is_of before after (Ok (Some made)) = (o : math.Overlap) × is_of made o × IsOffered before after o
+StepAnswers is_of before after (Ok None) = IsDone before after
+StepAnswers is_of before after (Err e) = IsRefused before e

@@ -52,18 +52,13 @@ UnifierAnswers sys i p j (Ok None) = DoesClash sys (i, (p, j))
 UnifierAnswers sys i p j (Ok (Some m)) = IsUnifierAt sys i p j m
 UnifierAnswers sys i p j (Err e) = IsRefusedAt sys i p j e
 
--- the overlap at the triple
-abbrev pub OverlapAnswers : System → ℕ → Position → ℕ → Result Overlap OverlapError → Type 0
-OverlapAnswers sys i p j (Ok o) = IsOverlapAt sys i p j (overlap_view o)
-OverlapAnswers sys i p j (Err e) = IsRefusedAt sys i p j e
-
 -- the overlap at the triple, or none where the run clashes
 abbrev pub SpotAnswers : System → ℕ → Position → ℕ → Result (Option Overlap) OverlapError → Type 0
 SpotAnswers sys i p j (Ok None) = DoesClash sys (i, (p, j))
 SpotAnswers sys i p j (Ok (Some o)) = IsOverlapAt sys i p j (overlap_view o)
 SpotAnswers sys i p j (Err e) = IsRefusedAt sys i p j e
 
--- that there is one
-abbrev pub MeasureAnswers : System → ℕ → Position → ℕ → Result (Unit {0}) OverlapError → Type 0
-MeasureAnswers sys i p j (Ok u) = (o : math.Overlap) × IsOverlapAt sys i p j o
-MeasureAnswers sys i p j (Err e) = IsRefusedAt sys i p j e
+-- what is made of an overlap at the triple
+abbrev pub MadeAnswers : {M : Type 0} (is_of : M → math.Overlap → Type 0) → System → ℕ → Position → ℕ → Result M OverlapError → Type 0
+MadeAnswers is_of sys i p j (Ok made) = (o : math.Overlap) × is_of made o × IsOverlapAt sys i p j o
+MadeAnswers is_of sys i p j (Err e) = IsRefusedAt sys i p j e

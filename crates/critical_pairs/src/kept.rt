@@ -8,7 +8,7 @@ ghost use Rattle.critical_pairs.specs.Spots.{IsSpotOf, SpotAnswers};
 ghost use Rattle.critical_pairs.specs.Kept.{number_at as held_under, AreOrigins, AreKnown, AreNumbersNow, noted, renumbered as with_numbers_now, IsOld, AreKept, TakeAnswers};
 
 use crate::pairs::Triple;
-use crate::spots::{overlap_by, unifier_at};
+use crate::spots::{Made, unifier_at};
 use crate::{Overlap, OverlapError};
 use prepared_system::PreparedSystem;
 use std::alloc::Global;
@@ -158,7 +158,7 @@ pub fn overlap_at(
         return Ok(kept.take(triple));
     }
     match unifier_at(alloc, sys, triple)? {
-        Some(unifier) => Ok(Some(overlap_by(alloc, sys, &unifier, triple)?)),
+        Some(unifier) => Ok(Some(Overlap::make_by(alloc, sys, &unifier, triple)?)),
         None => Ok(None),
     }
 }

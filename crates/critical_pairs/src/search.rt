@@ -3,10 +3,10 @@ ghost use Rattle.std.specs.Prelude.{◌≡◌, ◌+◌, ◌<◌, ◌≤◌, ◌^
 ghost use Rattle.rewriting.specs.Systems.{IsSystem};
 ghost use Rattle.critical_pairs.specs.Offers.{search_of, OfferAnswers, PassAnswers, DoesStay, DoesPass};
 ghost use Rattle.critical_pairs.specs.Cursors.{rest_of, IsCursor};
-ghost use Rattle.critical_pairs.specs.Finding.{FindAnswers, CountAnswers};
+ghost use Rattle.critical_pairs.specs.Finding.{FindAnswers, CountAnswers, StepAnswers};
 
 use crate::cursor::Cursor;
-use crate::spots::{measure_by, overlap_by, unifier_at};
+use crate::spots::{Made, unifier_at};
 use crate::{Overlap, OverlapError};
 use prepared_system::PreparedSystem;
 use std::alloc::Global;
@@ -93,6 +93,21 @@ impl<'a> OverlapSearch<'a> {
         }
     }
 
+    // Goes past the next overlap, and hands out what is made of it.
+    fn step<M: Made>(&mut self, alloc: Global) -> Result<Option<M>, OverlapError>
+        ensures answer { StepAnswers M.is_of self.old self.new result }
+        ensures system { self.new.system ≡ self.old.system }
+        ensures refused { OnErr result (DoesStay self.old self.new) }
+    {
+        let Some(found) = find(alloc, self.sys, &mut self.cursor)? else {
+            return Ok(None);
+        };
+        let triple = self.cursor.triple(found.inner);
+        let made = M::make_by(alloc, self.sys, &found.unifier, &triple)?;
+        count(&mut self.cursor, &mut self.offered)?;
+        Ok(Some(made))
+    }
+
     /// The next overlap, or none where there is no further one.
     ///
     /// # Errors
@@ -104,13 +119,7 @@ impl<'a> OverlapSearch<'a> {
         ensures system { self.new.system ≡ self.old.system }
         ensures refused { OnErr result (DoesStay self.old self.new) }
     {
-        let Some(found) = find(alloc, self.sys, &mut self.cursor)? else {
-            return Ok(None);
-        };
-        let triple = self.cursor.triple(found.inner);
-        let overlap = overlap_by(alloc, self.sys, &found.unifier, &triple)?;
-        count(&mut self.cursor, &mut self.offered)?;
-        Ok(Some(overlap))
+        self.step(alloc)
     }
 
     /// Goes past the next overlap without making it: true where there was one, false where there is no further one. Whether
@@ -124,12 +133,6 @@ impl<'a> OverlapSearch<'a> {
         ensures system { self.new.system ≡ self.old.system }
         ensures refused { OnErr result (DoesStay self.old self.new) }
     {
-        let Some(found) = find(alloc, self.sys, &mut self.cursor)? else {
-            return Ok(false);
-        };
-        let triple = self.cursor.triple(found.inner);
-        measure_by(alloc, self.sys, &found.unifier, &triple)?;
-        count(&mut self.cursor, &mut self.offered)?;
-        Ok(true)
+        Ok(self.step::<()>(alloc)?.is_some())
     }
 }

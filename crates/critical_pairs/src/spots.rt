@@ -1,7 +1,10 @@
 //! The unifiers and overlaps of two rules of a prepared system.
+ghost use Rattle.std.specs.Prelude.{◌≡◌};
 ghost use Rattle.rewriting.specs.Systems.{IsSystem};
 ghost use Rattle.term_core.specs.RuleView.{rule_view};
-ghost use Rattle.critical_pairs.specs.Spots.{IsSpotOf, AreRulesAt, IsUnifierAt, UnifierAnswers, OverlapAnswers, MeasureAnswers, IsRefusal};
+ghost use Rattle.critical_pairs.specs.Spots.{IsSpotOf, AreRulesAt, IsUnifierAt, UnifierAnswers, MadeAnswers, IsRefusal};
+ghost use Rattle.critical_pairs.specs.View.{overlap_view};
+ghost use Rattle.unifier_run.specs.Overlaps as math;
 
 use crate::fitting::does_pair_fit;
 use crate::pairs::{Triple, copy, pair};
@@ -56,39 +59,56 @@ pub fn unifier_at(
     }
 }
 
-/// The overlap at a triple by the unifier of its run, or the refusal of one that does not fit.
-pub fn overlap_by(
-    alloc: Global,
-    sys: &PreparedSystem<'_>,
-    m: &Subst,
-    triple: &Triple,
-) -> Result<Overlap, OverlapError>
-    requires { IsUnifierAt sys.now triple.now.inner triple.now.pos.now triple.now.outer m.now }
-    ensures { OverlapAnswers sys.now triple.now.inner triple.now.pos.now triple.now.outer result }
-{
-    let (inner, outer) = rules_at(sys, triple);
-    match pair(alloc, m, inner, outer, triple) {
-        Ok(overlap) => Ok(overlap),
-        Err(TermError::TooLarge) => Err(too_large(alloc, triple)),
-        Err(TermError::NoPosition) => unreachable!(),
-        Err(TermError::NoMemory) => Err(OverlapError::NoMemory),
+/// What is made at a triple by the unifier of its run.
+pub trait Made: Drop {
+    /// Whether it is made of the overlap.
+    ghost is_of: { Self → math.Overlap → Type 0 };
+
+    /// Makes it, or refuses an overlap that does not fit.
+    fn make_by(
+        alloc: Global,
+        sys: &PreparedSystem<'_>,
+        m: &Subst,
+        triple: &Triple,
+    ) -> Result<Self, OverlapError>
+        requires { IsUnifierAt sys.now triple.now.inner triple.now.pos.now triple.now.outer m.now }
+        ensures { MadeAnswers is_of sys.now triple.now.inner triple.now.pos.now triple.now.outer result };
+}
+
+impl Made for Overlap {
+    ghost is_of = { λ made o. overlap_view made ≡ o };
+
+    fn make_by(
+        alloc: Global,
+        sys: &PreparedSystem<'_>,
+        m: &Subst,
+        triple: &Triple,
+    ) -> Result<Overlap, OverlapError> {
+        let (inner, outer) = rules_at(sys, triple);
+        match pair(alloc, m, inner, outer, triple) {
+            Ok(overlap) => Ok(overlap),
+            Err(TermError::TooLarge) => Err(too_large(alloc, triple)),
+            Err(TermError::NoPosition) => unreachable!(),
+            Err(TermError::NoMemory) => Err(OverlapError::NoMemory),
+        }
     }
 }
 
-/// Refuses the same overlaps, and makes none.
-pub fn measure_by(
-    alloc: Global,
-    sys: &PreparedSystem<'_>,
-    m: &Subst,
-    triple: &Triple,
-) -> Result<(), OverlapError>
-    requires { IsUnifierAt sys.now triple.now.inner triple.now.pos.now triple.now.outer m.now }
-    ensures { MeasureAnswers sys.now triple.now.inner triple.now.pos.now triple.now.outer result }
-{
-    let (inner, outer) = rules_at(sys, triple);
-    if does_pair_fit(m, inner, outer, triple.pos) {
-        Ok(())
-    } else {
-        Err(too_large(alloc, triple))
+/// Only measures the overlap.
+impl Made for () {
+    ghost is_of = { λ _ _. Unit {0} };
+
+    fn make_by(
+        alloc: Global,
+        sys: &PreparedSystem<'_>,
+        m: &Subst,
+        triple: &Triple,
+    ) -> Result<(), OverlapError> {
+        let (inner, outer) = rules_at(sys, triple);
+        if does_pair_fit(m, inner, outer, triple.pos) {
+            Ok(())
+        } else {
+            Err(too_large(alloc, triple))
+        }
     }
 }

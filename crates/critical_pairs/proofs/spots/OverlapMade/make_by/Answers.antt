@@ -1,10 +1,10 @@
-use Rattle.std.proofs.Common.{subst, Err}
+use Rattle.std.proofs.Common.{refl, subst, Err}
 use Rattle.rewriting.specs.Prelude.{values_of}
 use Rattle.term_core.specs.RuleView.{rule_view}
 use Rattle.critical_pairs.specs.Building.{PairAnswers}
 use Rattle.critical_pairs.proofs.Runs.{has_position, refused_there}
 use Rattle.critical_pairs.proofs.Spot.{inner_fits, outer_fits, few_conditions, overlap_there, pair_too_large}
-use Rattle.critical_pairs.proofs.spots.overlap_by.Goals as goal
+use Rattle.critical_pairs.proofs.spots.OverlapMade.make_by.Goals as goal
 
 pub pair-requires-clause-inner : goal.pair-requires-clause-inner
 pair-requires-clause-inner c =
@@ -28,7 +28,7 @@ pub returns-in-Ok : goal.returns-in-Ok
 returns-in-Ok c =
     let rules = c.rules_at.ensures.renamed c.requires.spot in
     let q = c.in-Ok.ensures in
-    overlap_there c.args.sys.now _ _ _ c.args.m.now c.requires _ _ rules.0 rules.1 c.in-Ok.overlap q.0 q.1 q.2
+    (_, refl, overlap_there c.args.sys.now _ _ _ c.args.m.now c.requires _ _ rules.0 rules.1 c.in-Ok.overlap q.0 q.1 q.2)
 
 pub unreachable-requires : goal.unreachable-requires
 unreachable-requires c = rw c.in-Err-NoPosition.field-0-is at c.in-Err-NoPosition.ensures
