@@ -11,7 +11,7 @@ use Rattle.cert_words.specs.declared.error.CertError.TheVariants as refusing
 use Rattle.cert_grammar.specs.Prelude.{Counted, pairs, entries, numbers, steps, redexes, states, transitions, nodes, shared_automata, unfolded, CertificateCause, syntax, unknown_name}
 use Rattle.cert_grammar.specs.Prelude.{wrong_arity, bad_number, bad_share, too_many, too_deep, Lead, text, check, keyword, numeral_lead, position_lead, variable_lead, name_lead, is_short}
 use Rattle.cert_grammar.specs.Prelude.{is_there, taken, Mode, spelling, bar_begins, number_begins, number_zero, number_more, place_begins, place_root, place_number, place_zero, place_more}
-use Rattle.cert_grammar.specs.Prelude.{name_begins, name_dash, name_equals, name_more}
+use Rattle.cert_grammar.specs.Prelude.{name_begins, name_dash, name_equals, name_more, mode_of, ends_lead, ends_here, scan}
 
 abbrev pub mode_view : mode.Mode → Mode
 mode_view (reading.Spelling left) = spelling left.now
@@ -46,6 +46,10 @@ pub record IsLeadRead (a : Lead) (bytes w behind : List ℕ) : Type 0 where
   pub word : w ≡ take (taken a bytes) bytes
   pub rest : behind ≡ drop (taken a bytes) bytes
   pub within : taken a bytes ≤ length bytes
+
+-- all bytes of the word are read, and no byte of an identifier follows
+abbrev pub IsScanned : Lead → Type 0
+IsScanned a = (bytes : List ℕ) → (taken a bytes ≡ (scan (mode_of a) bytes).size) × (ends_lead a bytes ≡ ends_here bytes)
 
 abbrev pub counted_view : counts.CertCount → Counted
 counted_view counting.Pairs = pairs

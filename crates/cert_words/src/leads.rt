@@ -3,8 +3,7 @@
 ghost use Rattle.std.specs.Prelude.{◌≡◌, ◌≤◌, ◌+◌, ◌-◌, MatchOption, ℕ, Some, length, map, true, false};
 ghost use Rattle.cert_grammar.specs.Marks.{syntax};
 ghost use Rattle.cert_grammar.specs.FirstRefusal as spec;
-ghost use Rattle.cert_words.specs.declared.leads.Lead.TheVariants as leading;
-ghost use Rattle.cert_words.specs.Words.{mode_view, bare, told, IsLeadRead};
+ghost use Rattle.cert_words.specs.Words.{mode_view, bare, told, IsLeadRead, IsScanned};
 
 use crate::error::CertError;
 use crate::scans::{Mode, is_word, scan};
@@ -50,17 +49,6 @@ fn ends_here(rest: &[u8]) -> bool
     }
 }
 
-fn ends_lead(lead: Lead, rest: &[u8]) -> bool
-    ensures { result ≡ spec.ends_lead (bare lead) rest.now }
-{
-    match lead {
-        Lead::Text(_) | Lead::Check(_) => true,
-        Lead::Keyword(_) | Lead::Number | Lead::Position | Lead::Variable | Lead::Name => {
-            ends_here(rest)
-        }
-    }
-}
-
 /// The bytes that are read with the lead, and what is behind them, where all of the lead is there.
 pub fn front(lead: Lead, left: &[u8]) -> Option<(&[u8], &[u8])>
     ensures { MatchOption result (spec.is_there (bare lead) left.now ≡ false) (λ x. IsLeadRead (bare lead) left.now x.0.now x.1.now) }
@@ -70,22 +58,26 @@ pub fn front(lead: Lead, left: &[u8]) -> Option<(&[u8], &[u8])>
             Some(rest) => Some((word, rest)),
             None => None,
         },
+        Lead::Keyword(word) => match behind(left, word) {
+            Some(rest) if ends_here(rest) => Some((word, rest)),
+            _ => None,
+        },
         Lead::Check(b) => match behind(left, &[b]) {
             Some(_) => Some((b"", left)),
             None => None,
         },
-        other => whole(other, left),
+        Lead::Number | Lead::Position | Lead::Variable | Lead::Name => whole(lead, left),
     }
 }
 
-// the same of a word, which ends where no byte of an identifier follows
+// the same of a word that is found byte by byte
 fn whole(lead: Lead, left: &[u8]) -> Option<(&[u8], &[u8])>
-    requires { (b : ℕ) → lead ≡ leading.Check b → ⊥ }
+    requires { IsScanned (bare lead) }
     ensures { MatchOption result (spec.is_there (bare lead) left.now ≡ false) (λ x. IsLeadRead (bare lead) left.now x.0.now x.1.now) }
 {
     let (size, mode) = scan(mode_of(lead), left);
     let (word, rest) = left.split_at(size);
-    if !is_word(mode) || !ends_lead(lead, rest) {
+    if !is_word(mode) || !ends_here(rest) {
         return None;
     }
     Some((word, rest))

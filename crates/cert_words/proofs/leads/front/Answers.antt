@@ -1,11 +1,23 @@
-use Rattle.cert_words.proofs.Fronts.{text_front, no_text, check_front}
+use Rattle.cert_words.proofs.Prelude.{[], text, keyword, refl, sym}
+use Rattle.cert_words.proofs.Fronts.{spelt_front, not_front, not_ended, check_front}
+use Rattle.cert_words.proofs.leads.front.Goals.{in_default-via-in-Some-behind+else-ends_here, in_default-via-in_default}
 use Rattle.cert_words.proofs.leads.front.Goals as goal
 
 pub returns-in-Some : goal.returns-in-Some
-returns-in-Some c = rw c.in-Text.is (text_front c.in-Text.word.now c.args.left.now c.in-Some.rest.now c.in-Some.ensures)
+returns-in-Some c = rw c.in-Text.is (spelt_front (text c.in-Text.word.now []) c.in-Text.word.now c.args.left.now c.in-Some.rest.now refl refl refl c.in-Some.ensures)
 
 pub returns-in-None : goal.returns-in-None
-returns-in-None c = rw c.in-Text.is (no_text c.in-Text.word.now c.args.left.now c.in-None.ensures)
+returns-in-None c = rw c.in-Text.is (not_front (text c.in-Text.word.now []) c.in-Text.word.now c.args.left.now refl (λ rest e t. c.in-None.ensures rest e))
 
 pub returns-in-Some-behind : goal.returns-in-Some-behind
-returns-in-Some-behind c = rw c.in-Check.is (check_front c.in-Check.b c.args.left.now c.in-Some-behind.field-0.now c.in-Some-behind.ensures)
+returns-in-Some-behind c = rw c.in-Keyword.is
+    (spelt_front (keyword c.in-Keyword.word.now [] []) c.in-Keyword.word.now c.args.left.now c.in-Some-behind.rest.now refl refl (sym c.if-ends_here.ensures) c.in-Some-behind.ensures)
+
+pub returns-in_default : goal.returns-in_default
+returns-in_default c = rw c.in-Keyword.is (elim c.in_default.branch [
+  | in_default-via-in-Some-behind+else-ends_here w ↦ not_ended c.in-Keyword.word.now c.args.left.now w.in-Some-behind.rest.now w.in-Some-behind.ensures (sym w.if-ends_here.ensures)
+  | in_default-via-in_default w ↦ not_front (keyword c.in-Keyword.word.now [] []) c.in-Keyword.word.now c.args.left.now refl (λ rest e t. w.in_default.ensures rest e)
+])
+
+pub returns-in-Some-behind-2 : goal.returns-in-Some-behind-2
+returns-in-Some-behind-2 c = rw c.in-Check.is (check_front c.in-Check.b c.args.left.now c.in-Some-behind-2.field-0.now c.in-Some-behind-2.ensures)
