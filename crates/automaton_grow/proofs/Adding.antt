@@ -1,5 +1,5 @@
 -- Sets of transitions with what was added to them.
-use Rattle.std.proofs.Common.{◌≡◌, ℕ, zero, suc, ◌+◌, ◌<◌, ◌≤◌, ◌⊎◌, inl, inr, refl, sym, ◌∙◌, subst, List, [], ◌∷◌, ◌++◌, take, drop, length, Ok, Err, Result, arith}
+use Rattle.std.proofs.Common.{◌≡◌, ℕ, zero, suc, ◌+◌, ◌<◌, ◌⊎◌, inl, inr, refl, sym, ◌∙◌, subst, List, [], ◌∷◌, ◌++◌, take, drop, length, Ok, Err, Result, arith}
 use Rattle.std.specs.Prelude.{Contains, slice_get, Some}
 use Rattle.std.specs.List.{insert}
 use Rattle.std.proofs.lemmas.List.{take-append-drop}
@@ -50,19 +50,19 @@ inserted_only k ds d x h = go (Contains-append_cases (take k ds) (d ∷ drop k d
     go (inl a) = inl (whole (Contains-append_left (take k ds) (drop k ds) x a))
     go (inr a) = behind (contains_cases d (drop k ds) x a)
 
-pub inserted_part : (k : ℕ) (ds : List Transition) (d : Transition) → IsSorted IsTransitionBefore ds → IsPlace ds d k → IsPartOf (λ x. x ≡ d) ds (insert ds k d)
-inserted_part k ds d sorted place = record { only = inserted_only k ds d; sorted = inserted_sorted d k ds sorted place.before place.behind }
-
-pub inserted : (k : ℕ) (ds : List Transition) (d : Transition) → IsSorted IsTransitionBefore ds → IsPlace ds d k → IsAdded (λ x. x ≡ d) ds (insert ds k d)
+inserted : (k : ℕ) (ds : List Transition) (d : Transition) → IsSorted IsTransitionBefore ds → IsPlace ds d k → IsAdded (λ x. x ≡ d) ds (insert ds k d)
 inserted k ds d sorted place =
     let longer : length (insert ds k d) ≡ length ds + 1 = length-insert ds k d place.within in
     record {
-      part = inserted_part k ds d sorted place;
+      part = record { only = inserted_only k ds d; sorted = inserted_sorted d k ds sorted place.before place.behind };
       kept = inserted_kept k ds d;
       every = λ x e. subst (Contains (insert ds k d)) (sym e) (Contains-append_right (take k ds) (d ∷ drop k ds) d (contains_head d (drop k ds)));
       more = omega arith;
       same = λ e. absurd (omega arith);
     }
+
+pub put_there : (k : ℕ) (before after : List Transition) (d : Transition) → IsSorted IsTransitionBefore before → IsPlace before d k → after ≡ insert before k d → IsAdded (λ x. x ≡ d) before after
+put_there k before after d sorted place e = subst (IsAdded (λ x. x ≡ d) before) (sym e) (inserted k before d sorted place)
 
 -- a transition that stands there already
 pub standing : (k : ℕ) (ds : List Transition) (d : Transition) → IsSorted IsTransitionBefore ds → slice_get ds k ≡ Some d → IsAdded (λ x. x ≡ d) ds ds
@@ -146,14 +146,3 @@ answers_after_error P Q R a b c e TooManyStates p q first h same = h
 answers_after_error P Q R a b c e TooManyTransitions p q first (h, many) same =
     subst (λ z. IsPartOf R a z × (5000 < length z)) same (part_after P Q R a b c p q first.part h, many)
 answers_after_error P Q R a b c e NoMemory p q first h same = tt
-
--- what adding one answers
-module _ (before after : List Transition) (d : Transition) (sorted : IsSorted IsTransitionBefore before) (few : length before ≤ 5000) where
-  pub add_found : (k : ℕ) → slice_get before k ≡ Some d → IsAdded (λ x. x ≡ d) before before × (length before ≤ 5000)
-  add_found k at = (standing k before d sorted at, few)
-
-  pub add_put : (k : ℕ) → IsPlace before d k → after ≡ insert before k d → length after ≤ 5000 → IsAdded (λ x. x ≡ d) before after × (length after ≤ 5000)
-  add_put k place e low = (subst (IsAdded (λ x. x ≡ d) before) (sym e) (inserted k before d sorted place), low)
-
-  pub add_full : (k : ℕ) → IsPlace before d k → after ≡ insert before k d → 5000 < length after → IsPartOf (λ x. x ≡ d) before after × (5000 < length after)
-  add_full k place e many = (subst (IsPartOf (λ x. x ≡ d) before) (sym e) (inserted_part k before d sorted place), many)

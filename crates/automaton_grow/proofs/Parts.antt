@@ -164,11 +164,11 @@ module _ (arities : Signature) (i n : ℕ) (h : i < length arities) (at : slice_
   symbols_next a b c = answers_next (IsForSymbol arities i) (λ d. d ≡ record { symbol = Some i; arguments = replicate n 0; target = 0 }) (IsForSymbol arities (i + 1)) a b c
       (λ d k. wider i (i + 1) d (omega arith) k) (λ d k. this (i + 1) d (omega arith) k) either
 
-  pub symbols_error : (a b c : List evidence.Transition) (why : GrowError) → IsAdded (IsForSymbol arities i) a b × (length b ≤ 5000)
+  pub symbols_error : (some a b c : List evidence.Transition) (why : GrowError) → IsAdded (IsForSymbol arities i) a b × (length b ≤ 5000)
       → AddAnswers (λ d. d ≡ record { symbol = Some i; arguments = replicate n 0; target = 0 }) b c (Err why)
-      → AddAnswers (IsForSymbol arities (length arities)) a c (Err why)
-  symbols_error a b c why = answers_error (IsForSymbol arities i) (λ d. d ≡ record { symbol = Some i; arguments = replicate n 0; target = 0 }) (IsForSymbol arities (length arities)) a b c why
-      (λ d k. wider i (length arities) d (omega arith) k) (λ d k. this (length arities) d h k)
+      → AddAnswers (IsBasicOf arities some) a c (Err why)
+  symbols_error some a b c why = answers_error (IsForSymbol arities i) (λ d. d ≡ record { symbol = Some i; arguments = replicate n 0; target = 0 }) (IsBasicOf arities some) a b c why
+      (λ d k. inl (wider i (length arities) d (omega arith) k)) (λ d k. inl (this (length arities) d h k))
 
 -- what state 0 and the term ask for
 pub basic_from : (sys : math.System) (s : terms.Term) (ds : List evidence.Transition) (d : evidence.Transition) → ds ≡ inside (λ x. 0) 1 s → IsBasicOf sys.arities ds d → IsBasic sys s d
@@ -307,7 +307,10 @@ pub answers_then : (P Q R : evidence.Transition → Type 0) (a b c : List eviden
 answers_then P Q R a b c (Ok u) p q r h k = answers_next P Q R a b c p q r h k
 answers_then P Q R a b c (Err why) p q r h k = answers_error P Q R a b c why p q h k
 
-module _ (arities : Signature) (some a b c : List evidence.Transition) (symbols : IsAdded (IsForSymbol arities (length arities)) a b × (length b ≤ 5000)) where
+module _ (arities : Signature) (some a b c : List evidence.Transition) (i : ℕ) (all : i ≡ length arities) (so_far : IsAdded (IsForSymbol arities i) a b × (length b ≤ 5000)) where
+  symbols : IsAdded (IsForSymbol arities (length arities)) a b × (length b ≤ 5000)
+  symbols = subst (λ k. IsAdded (IsForSymbol arities k) a b × (length b ≤ 5000)) all so_far
+
   abbrev IsEarly : evidence.Transition → Type 0
   IsEarly d = IsForSymbol arities (length arities) d ⊎ (d ≡ record { symbol = None; arguments = []; target = 0 })
 

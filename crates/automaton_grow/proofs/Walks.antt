@@ -1,5 +1,5 @@
 -- Walks over the arguments of a term.
-use Rattle.std.proofs.Common.{◌≡◌, ℕ, zero, suc, ◌+◌, ◌<◌, ◌≤◌, refl, sym, ap, ap₂, ◌∙◌, List, [], ◌∷◌, ◌++◌, drop, length, get_or, append_assoc, add-one, min, arith}
+use Rattle.std.proofs.Common.{◌≡◌, ℕ, zero, suc, ◌+◌, ◌<◌, ◌≤◌, ◌^◌, refl, sym, ap, ap₂, ◌∙◌, List, [], ◌∷◌, ◌++◌, drop, length, get_or, append_assoc, add-one, min, arith}
 use Rattle.rewriting.specs.Terms as math
 use Rattle.rewriting.specs.Terms.{var, app, size, size_all}
 use Rattle.certificates.specs.Evidence as evidence
@@ -9,6 +9,7 @@ use Rattle.term_core.specs.View.{view, views}
 use Rattle.term_core.specs.declared.terms.Term.{Term}
 use Rattle.term_core.proofs.Views.{views-drop}
 use Rattle.automaton_runs.proofs.BatchParts.{other_name}
+use Rattle.automaton_grow.proofs.Sizes.{inner_size}
 
 module _ (e : ℕ → ℕ) (ts : List Term) (i : ℕ) where
   pub tops_next : (t : Term) (qs more all : List ℕ) (n q k : ℕ) → i < length ts → t ≡ get_or ts i t → qs ++ tops e n (views (drop i ts)) ≡ all → more ≡ qs ++ q ∷ []
@@ -32,8 +33,13 @@ module _ (e : ℕ → ℕ) (ts : List Term) (i : ℕ) where
       ∙ ap (λ z. out ++ inside_all e n z) (sym (views-drop ts i t h at)) ∙ inv
 
 -- how many nodes are left
-pub size_left : (ts : List Term) (i : ℕ) (t : Term) → i < length ts → t ≡ get_or ts i t → size_all (views (drop i ts)) ≡ size (view t) + size_all (views (drop (i + 1) ts))
+size_left : (ts : List Term) (i : ℕ) (t : Term) → i < length ts → t ≡ get_or ts i t → size_all (views (drop i ts)) ≡ size (view t) + size_all (views (drop (i + 1) ts))
 size_left ts i t h e = ap size_all (views-drop ts i t h e)
+
+-- where there is room for what is left, there is room behind the next argument
+pub room_behind : (n : ℕ) (ts : List Term) (i : ℕ) (t : Term) → i < length ts → t ≡ get_or ts i t → n + size_all (views (drop i ts)) < 2 ^ 32
+    → n + inner (view t) + size_all (views (drop (i + 1) ts)) < 2 ^ 32
+room_behind n ts i t h e room = omega (arith, inner_size (view t), size_left ts i t h e, room)
 
 pub inner_left : (ts : List Term) (i : ℕ) (t : Term) → i < length ts → t ≡ get_or ts i t → inner_in (views (drop i ts)) ≡ inner (view t) + inner_in (views (drop (i + 1) ts))
 inner_left ts i t h e = ap inner_in (views-drop ts i t h e)

@@ -8,7 +8,7 @@ ghost use Rattle.automaton_runs.specs.Counted.{under_all};
 ghost use Rattle.automaton_runs.specs.Arrivals.{arrival_view};
 ghost use Rattle.automaton_grow.specs.Growing.{twins, HasAll, IsAskedAt, IsAskedByRule, IsAskedBelow, AddAnswers, AreAllStates, IsPartial};
 ghost use Rattle.automaton_grow.specs.Limits.{AreNarrowBelow};
-ghost use Rattle.automaton_grow.specs.Rounds.{IsForSymbol, IsBasicOf, IsAskedByRows, PartialAnswers, RoundAnswers};
+ghost use Rattle.automaton_grow.specs.Rounds.{IsBasicOf, IsAskedByRows, PartialAnswers, RoundAnswers};
 
 use crate::GrowError;
 use crate::ordered::{add, add_all};
@@ -19,25 +19,7 @@ use cert_model::{Automaton, Transition};
 use std::alloc::Global;
 use term_core::{Rule, System, Term};
 
-// Adds the transitions from states 0 to the state 0 under each symbol.
-fn add_symbols(
-    alloc: Global,
-    arities: &[u32],
-    transitions: &mut Vec<Transition>,
-) -> Result<(), GrowError>
-    requires few { length arities.now < 2 ^ 31 }
-    requires sorted { IsSorted IsTransitionBefore (map transition_view transitions.old.items) }
-    requires most { length (map transition_view transitions.old.items) ≤ MOST_GROWN_TRANSITIONS }
-    ensures { AddAnswers (IsForSymbol arities.now (length arities.now)) (map transition_view transitions.old.items) (map transition_view transitions.new.items) result }
-{
-    for f in 0..arities.len() {
-        let args = vec![in alloc; 0; arities[f] as usize]?;
-        add(alloc, Some(f as u32), &args, 0, transitions)?;
-    }
-    Ok(())
-}
-
-// Adds those, then the one for variables, then some others.
+// Adds the transitions from states 0 to the state 0 under each symbol, then the one for variables, then some others.
 fn add_basic(
     alloc: Global,
     arities: &[u32],
@@ -49,7 +31,10 @@ fn add_basic(
     requires most { length (map transition_view transitions.old.items) ≤ MOST_GROWN_TRANSITIONS }
     ensures { AddAnswers (IsBasicOf arities.now (map transition_view inside.now)) (map transition_view transitions.old.items) (map transition_view transitions.new.items) result }
 {
-    add_symbols(alloc, arities, transitions)?;
+    for f in 0..arities.len() {
+        let args = vec![in alloc; 0; arities[f] as usize]?;
+        add(alloc, Some(f as u32), &args, 0, transitions)?;
+    }
     add(alloc, None, &[], 0, transitions)?;
     add_all(alloc, inside, transitions)
 }

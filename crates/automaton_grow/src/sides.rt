@@ -70,20 +70,14 @@ pub struct Assigned<'a> {
 }
 
 // The states of some terms.
-fn tops(
-    alloc: Global,
-    leaves: &[u32],
-    states: &[u32],
-    n: u32,
-    args: &[Term],
-) -> Result<Vec<u32>, NoMemory>
+fn tops(alloc: Global, values: Assigned<'_>, n: u32, args: &[Term]) -> Result<Vec<u32>, NoMemory>
     requires { n + size_all (views args.now) < 2 ^ 32 }
-    ensures { IfOk result (λ qs. qs.items ≡ growth.tops (closed.state_of leaves.now states.now) n (views args.now)) }
+    ensures { IfOk result (λ qs. qs.items ≡ growth.tops (closed.state_of values.entry.leaves.now values.entry.states.now) n (views args.now)) }
 {
     let mut qs = Vec::with_capacity(alloc, args.len())?;
     let mut next = n;
     for arg in args {
-        qs.push(top(leaves, states, next, arg))?;
+        qs.push(top(values.leaves, values.states, next, arg))?;
         next += inner(arg);
     }
     Ok(qs)
@@ -107,7 +101,7 @@ pub fn push_grown(
         Term::Fun(f, args) => {
             out.push(Transition {
                 symbol: Some(*f),
-                args: tops(alloc, values.leaves, values.states, n, args)?,
+                args: tops(alloc, values, n, args)?,
                 target: q,
             })?;
             let mut next = n;

@@ -1,20 +1,12 @@
 use Rattle.std.proofs.Common.{◌+◌, ap, map, arith}
 use Rattle.automata.specs.Closed.{state_of}
-use Rattle.term_core.specs.View.{view}
 use Rattle.cert_model.specs.EvidenceView.{transition_view}
-use Rattle.automaton_grow.proofs.Sizes.{inner_size}
-use Rattle.automaton_grow.proofs.Walks.{grown_next, size_left}
+use Rattle.automaton_grow.proofs.Walks.{grown_next, room_behind}
 use Rattle.automaton_grow.proofs.sides.+push_grown.Goals as goal
 
 pub overflow_add-next-in-loop-arg : goal.overflow_add-next-in-loop-arg
 overflow_add-next-in-loop-arg t c =
-    omega (
-      arith,
-      inner_size (view c.arg-item.result),
-      size_left c.deref-arg-items.result.now c.loop-arg.arg-index c.arg-item.result c.loop-arg-test.true c.arg-item.is,
-      c.inner.ensures,
-      c.loop-arg.invariant.room,
-    )
+    omega (arith, room_behind (c.loop-arg.next + 1) c.deref-arg-items.result.now c.loop-arg.arg-index c.arg-item.result c.loop-arg-test.true c.arg-item.is c.loop-arg.invariant.room, c.inner.ensures)
 
 pub loop-arg-preserved : goal.loop-arg-preserved
 loop-arg-preserved t c = record {
@@ -25,9 +17,7 @@ loop-arg-preserved t c = record {
   room =
       omega (
         arith,
-        inner_size (view c.arg-item.result),
-        size_left c.deref-arg-items.result.now c.loop-arg.arg-index c.arg-item.result c.loop-arg-test.true c.arg-item.is,
+        room_behind (c.loop-arg.next + 1) c.deref-arg-items.result.now c.loop-arg.arg-index c.arg-item.result c.loop-arg-test.true c.arg-item.is c.loop-arg.invariant.room,
         c.inner.ensures,
-        c.loop-arg.invariant.room,
       );
 }

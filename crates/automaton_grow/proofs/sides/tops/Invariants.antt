@@ -7,6 +7,6 @@ use Rattle.automaton_grow.proofs.sides.tops.Given as goal
 
 abbrev pub invariant-loop-arg : goal.invariant-loop-arg
 invariant-loop-arg l = record {
-  put : l.qs.items ++ tops (state_of l.leaves l.states) l.next (views (drop l.arg-index l.args)) ≡ tops (state_of l.leaves l.states) l.n (views l.args);
+  put : l.qs.items ++ tops (state_of l.values.leaves.now l.values.states.now) l.next (views (drop l.arg-index l.args)) ≡ tops (state_of l.values.leaves.now l.values.states.now) l.n (views l.args);
   room : l.next + size_all (views (drop l.arg-index l.args)) < 2 ^ 32;
 }
