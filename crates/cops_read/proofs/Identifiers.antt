@@ -1,5 +1,5 @@
 -- An identifier whose own cause is none is not refused.
-use Rattle.std.proofs.Common.{◌≡◌, ℕ, Bool, true, false, List, None, refl}
+use Rattle.std.proofs.Common.{◌≡◌, ℕ, true, false, List, None}
 use Rattle.cops_names.specs.NameLists.{is_among}
 use Rattle.cops_read.specs.Uses.{Use}
 use Rattle.cops_read.specs.Refusals.{limit_cause, variable_cause, symbol_cause, cause_at}

@@ -1,5 +1,5 @@
 -- What the use of a symbol adds to a table.
-use Rattle.std.proofs.Common.{◌≡◌, ℕ, ◌<◌, Bool, true, false, List, [], ◌∷◌, ◌++◌, length, Option, Some, None, refl, sym, ap, subst, ◌∙◌, arith}
+use Rattle.std.proofs.Common.{◌≡◌, ℕ, ◌+◌, ◌<◌, ◌≤◌, Bool, true, false, List, [], ◌∷◌, ◌++◌, length, Option, Some, None, refl, sym, ap, subst, ◌∙◌, arith}
 use Rattle.std.specs.Prelude.{option_map, slice_get, if◌then◌else◌, is_some}
 use Rattle.std.specs.List.{list_any}
 use Rattle.std.specs.Str.{bytes_eq}
@@ -9,7 +9,8 @@ use Rattle.general_lemmas.proofs.Places.{slice_get_seam}
 use Rattle.cops_names.specs.NameTable.{number_of}
 use Rattle.cops_read.specs.Meaning.{with_symbol}
 use Rattle.cops_read.specs.Uses.{Use}
-use Rattle.cops_read.specs.Refusals.{arity_in, known_symbol_cause}
+use Rattle.cops_read.specs.Refusals.{arity_in, known_symbol_cause, symbol_cause}
+use Rattle.cops_read.specs.Steps.{Tells}
 use Rattle.cops_read.specs.Heads.{IsSymbolUsed}
 use Rattle.cops_names.proofs.Lists.{position_of_any, position_end}
 
@@ -42,7 +43,7 @@ few : (table : List (List ℕ × ℕ)) (u : Use) → length table < 1000 → kno
 few table u h = grind (arith, nat_tests)
 
 added : (table : List (List ℕ × ℕ)) (u : Use) → number_of table u.spot.node.name.text ≡ None → length table < 1000
-    → IsSymbolUsed table u (table ++ (u.spot.node.name.text, u.spot.node.arguments) ∷ []) (length table)
+    → IsSymbolUsed Tells symbol_cause table u (table ++ (u.spot.node.name.text, u.spot.node.arguments) ∷ []) (length table)
 added table u h less =
     let last = put_last table u.spot.node.name.text u.spot.node.arguments h in
     record {
@@ -54,10 +55,10 @@ added table u h less =
 
 -- a name that was not there was put last
 pub put : (table after : List (List ℕ × ℕ)) (u : Use) (name bytes : List ℕ) (n f : ℕ) → name ≡ u.spot.node.name.text → n ≡ u.spot.node.arguments → None ≡ number_of table name → bytes ≡ name
-    → after ≡ table ++ (bytes, n) ∷ [] → f ≡ length table → f < 1000 → IsSymbolUsed table u after f
+    → after ≡ table ++ (bytes, n) ∷ [] → f ≡ length table → f + 1 ≤ 1000 → IsSymbolUsed Tells symbol_cause table u after f
 put table after u name bytes n f named many h same last is less =
     let whole : after ≡ table ++ (u.spot.node.name.text, u.spot.node.arguments) ∷ [] =
     last ∙ ap (λ (x : List ℕ). table ++ (x, n) ∷ []) (same ∙ named) ∙ ap (λ (m : ℕ). table ++ (u.spot.node.name.text, m) ∷ []) many in
-    subst (λ (t : List (List ℕ × ℕ)). IsSymbolUsed table u t f) (sym whole)
-    (subst (λ (i : ℕ). IsSymbolUsed table u (table ++ (u.spot.node.name.text, u.spot.node.arguments) ∷ []) i) (sym is)
+    subst (λ (t : List (List ℕ × ℕ)). IsSymbolUsed Tells symbol_cause table u t f) (sym whole)
+    (subst (λ (i : ℕ). IsSymbolUsed Tells symbol_cause table u (table ++ (u.spot.node.name.text, u.spot.node.arguments) ∷ []) i) (sym is)
     (added table u (sym (h ∙ ap (number_of table) named)) (omega arith)))

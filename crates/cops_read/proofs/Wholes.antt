@@ -1,15 +1,17 @@
 -- From the rules that were read to the system that a file means.
-use Rattle.std.proofs.Common.{◌≡◌, ◌≤◌, ℕ, Bool, List, [], ◌∷◌, map, length, Err, All, sym, ap, subst, ◌∙◌, refl}
-use Rattle.file_text.specs.Syntax.{RuleTree, FileTree, has_type}
+use Rattle.std.proofs.Common.{◌≡◌, ◌≤◌, ℕ, Bool, List, [], ◌∷◌, map, length, Err, All, Option, is_some, sym, ap, subst, ◌∙◌, refl}
+use Rattle.file_text.specs.declared.ConditionType.{ConditionType}
+use Rattle.file_text.specs.Syntax.{Name, RuleTree, FileTree, has_type}
 use Rattle.cops_syntax.specs.View as tree
-use Rattle.cops_syntax.specs.View.{IsFileText}
-use Rattle.cops_syntax.specs.declared.tree.RuleText.{RuleText}
+use Rattle.cops_syntax.specs.View.{IsFileText, names_view}
+use Rattle.cops_syntax.specs.declared.tree.Name as program
 use Rattle.cops_syntax.specs.declared.tree.FileText.{FileText}
 use Rattle.rewriting.specs.Rules as rules
 use Rattle.rewriting.specs.Systems.{IsSystem}
 use Rattle.term_core.specs.RuleView.{rule_view, AreCounted}
 use Rattle.term_core.specs.declared.systems.Rule.{Rule}
 use Rattle.cops_names.specs.NameTable.{NameTable}
+use Rattle.cops_names.specs.NameLists.{with_names}
 use Rattle.cops_read.specs.Meaning.{variables_of, rule_variables, AreRulesOf}
 use Rattle.cops_read.specs.Refusals.{refusal_of}
 use Rattle.cops_read.specs.File.{IsSystemOf}
@@ -27,33 +29,37 @@ counted block table (t ∷ ts) (r ∷ rs) h n =
     let are = ap length (variables_are block table t (rule_view r) h.0) in
     (n.0 ∙ sym (length_upto (length (rule_variables block t))) ∙ sym are, counted block table ts rs h.1 n.1)
 
+-- the block of a tree's variables
+pub block_is : {block : List (List ℕ)} {items whole : List program.Name} {variables : List Name} → block ≡ with_names [] (map (λ n. n.text) (names_view items)) → items ≡ whole
+    → names_view whole ≡ variables → block ≡ with_names [] (map (λ n. n.text) variables)
+block_is h same is = h ∙ ap (λ (ns : List Name). with_names [] (map (λ (n : Name). n.text) ns)) (ap names_view same ∙ is)
+
 -- From the values that the program has.
-module _ (file : FileTree) (text : FileText) (is_text : IsFileText text file) (other : List (List ℕ)) (start : List (List ℕ × ℕ)) (typed : Bool) (texts : List RuleText)
-    (same : other ≡ variables_of file) (first : start ≡ []) (type_is : typed ≡ has_type file) (all : texts ≡ text.rules.items) where
+module _ (file : FileTree) (text : FileText) (is_text : IsFileText text file) {other : List (List ℕ)} {items : List program.Name} {start : NameTable} {typed : Bool}
+    (named : other ≡ with_names [] (map (λ n. n.text) (names_view items))) (all : items ≡ text.variables.items) (first : start ≡ record { symbols = []; variables = [] })
+    (asked : typed ≡ is_some text.condition_type) where
   -- the system of rules that were read
   abbrev system_of : List ℕ → List Rule → rules.System
   system_of arities rs = rules.system_of arities (map rule_view rs)
 
-  trees_are : tree.AreRules texts file.rules
-  trees_are = subst (λ (rs : List RuleText). tree.AreRules rs file.rules) (sym all) is_text.rules
+  -- what holds of these values holds of the file's
+  as_file : (P : List (List ℕ) → Bool → List (List ℕ × ℕ) → Type 0) → P other typed start.symbols → P (variables_of file) (has_type file) []
+  as_file P h =
+      let h1 = subst (λ (b : List (List ℕ)). P b typed start.symbols) (block_is named all is_text.variables) h in
+      let h2 = subst (λ (t : NameTable). P (variables_of file) typed t.symbols) first h1 in
+      subst (λ (b : Bool). P (variables_of file) b []) (asked ∙ ap (λ (k : Option ConditionType). is_some k) is_text.condition_type) h2
 
   pub rules_told : (after : List (List ℕ × ℕ)) (listed : List (List (List ℕ))) (e : ReadError)
-      → ((trees : List RuleTree) → tree.AreRules texts trees → RulesAnswers other typed start trees after listed (Err e)) → Tells e (refusal_of file)
+      → ((trees : List RuleTree) → tree.AreRules text.rules.items trees → RulesAnswers other typed start.symbols trees after listed (Err e)) → Tells e (refusal_of file)
   rules_told after listed e told =
-      let h0 = told file.rules trees_are in
-      let h1 = subst (λ (b : List (List ℕ)). RulesAnswers b typed start file.rules after listed (Err e)) same h0 in
-      let h2 = subst (λ (t : List (List ℕ × ℕ)). RulesAnswers (variables_of file) typed t file.rules after listed (Err e)) first h1 in
-      let h3 = subst (λ (b : Bool). RulesAnswers (variables_of file) b [] file.rules after listed (Err e)) type_is h2 in
-      subst (Tells e) (sym (refusal_is file)) h3
+      subst (Tells e) (sym (refusal_is file))
+      (as_file (λ block t table. RulesAnswers block t table file.rules after listed (Err e)) (told file.rules is_text.rules))
 
-  module _ (names : NameTable) (arities : List ℕ) (rs : List Rule) (read : (trees : List RuleTree) → tree.AreRules texts trees → AreRulesRead other typed start trees names.symbols names.variables rs)
+  module _ (names : NameTable) (arities : List ℕ) (rs : List Rule)
+      (read : (trees : List RuleTree) → tree.AreRules text.rules.items trees → AreRulesRead other typed start.symbols trees names.symbols names.variables rs)
       (is : arities ≡ map (λ s. s.1) names.symbols) where
     read_of : AreRulesRead (variables_of file) (has_type file) [] file.rules names.symbols names.variables rs
-    read_of =
-        let h0 = read file.rules trees_are in
-        let h1 = subst (λ (b : List (List ℕ)). AreRulesRead b typed start file.rules names.symbols names.variables rs) same h0 in
-        let h2 = subst (λ (t : List (List ℕ × ℕ)). AreRulesRead (variables_of file) typed t file.rules names.symbols names.variables rs) first h1 in
-        subst (λ (b : Bool). AreRulesRead (variables_of file) b [] file.rules names.symbols names.variables rs) type_is h2
+    read_of = as_file (λ block t table. AreRulesRead block t table file.rules names.symbols names.variables rs) (read file.rules is_text.rules)
 
     meant : IsSystemOf file (system_of arities rs) names
     meant = record { accepted = refusal_is file ∙ read_of.accepted; symbols = read_of.symbols; arities = is; own = refl; variables = read_of.variables; rules = read_of.mean }

@@ -1,5 +1,5 @@
 //! The system of a whole syntax tree; rules with join conditions become oriented ones, with two symbols more.
-ghost use Rattle.std.specs.Prelude.{◌≡◌, ◌&&◌, [], IfOk, OnOk, map};
+ghost use Rattle.std.specs.Prelude.{◌≡◌, ◌&&◌, [], IfOk, map};
 ghost use Rattle.file_text.specs.Syntax as syntax;
 ghost use Rattle.cops_syntax.specs.View.{IsFileText, names_view};
 ghost use Rattle.cops_names.specs.NameLists.{with_names};
@@ -17,22 +17,15 @@ use join_names::add_join_names;
 use std::alloc::Global;
 use term_core::{NoMemory, System, join_sound};
 
-fn add_names<'a>(block: &mut NameSet<'a>, names: &[Name<'a>]) -> Result<(), NoMemory>
-    ensures { OnOk result (block.new ≡ with_names block.old (map (λ n. n.text) (names_view names.now))) }
-{
-    'names: for name in names {
-        block.add(name.text)?;
-    }
-    Ok(())
-}
-
-// The names of the variables' block, each once.
-fn read_block<'a>(alloc: Global, names: &[Name<'a>]) -> Result<Block<'a>, NoMemory>
+/// The names of the variables' block, each once.
+pub fn block_names<'a>(alloc: Global, names: &[Name<'a>]) -> Result<NameSet<'a>, NoMemory>
     ensures { IfOk result (λ block. block ≡ with_names [] (map (λ n. n.text) (names_view names.now))) }
 {
     let mut block = NameSet::new(alloc);
-    add_names(&mut block, names)?;
-    Ok(Block::new(block))
+    'names: for name in names {
+        block.add(name.text)?;
+    }
+    Ok(block)
 }
 
 // The system of the tree's rules, with its names, or the first refusal.
@@ -47,7 +40,7 @@ fn read_list<'a>(alloc: Global, file: FileText<'a>) -> Result<(System, Names), R
     } = file;
     let has_type = condition_type.is_some();
     let mut scope = Scope {
-        block: read_block(alloc, &variables)?,
+        block: Block::new(block_names(alloc, &variables)?),
         names: ReadNames::new(alloc),
         variables: NameSet::new(alloc),
     };

@@ -2,8 +2,9 @@
 ghost use Rattle.std.specs.Prelude.{◌≡◌, ◌+◌, ◌<◌, ◌≤◌, ◌^◌, ℕ, List, Option, OnOk, length};
 ghost use Rattle.cops_syntax.specs.View.{node_view};
 ghost use Rattle.cops_read.specs.Bounds.{most_variables};
-ghost use Rattle.cops_read.specs.Refusals.{limit_cause};
-ghost use Rattle.cops_read.specs.Heads.{used_at, WithinAnswers, RoomAnswers, CauseAnswers, VariableAnswers, SymbolAnswers};
+ghost use Rattle.cops_read.specs.Refusals.{limit_cause, variable_cause, symbol_cause};
+ghost use Rattle.cops_read.specs.Steps.{Tells};
+ghost use Rattle.cops_read.specs.Heads.{used_at, WithinAnswers, CauseAnswers, VariableAnswers, SymbolAnswers};
 
 use crate::block::Block;
 use crate::errors::{Count, ReadError};
@@ -53,21 +54,10 @@ fn within(what: Count, number: usize, at: usize) -> Result<(), ReadError>
     Ok(())
 }
 
-// Refuses one part more where there are so many already.
-fn check_room(what: Count, number: usize, at: usize) -> Result<(), ReadError>
-    ensures { RoomAnswers what number at result }
-{
-    let limit = what.limit();
-    if number >= limit as usize {
-        return Err(ReadError::TooMany { what, limit, at });
-    }
-    Ok(())
-}
-
 // Refuses a place that is beyond the limits.
 fn within_limits(node: &Node<'_>, place: NodePlace) -> Result<(), ReadError>
     requires { place.before + 1 < 2 ^ 64 }
-    ensures { CauseAnswers (limit_cause (used_at place (node_view node.now))) node.now.name.at result }
+    ensures { CauseAnswers Tells (limit_cause (used_at place (node_view node.now))) node.now.name.at result }
 {
     let at = node.name.at;
     within(Count::Rules, place.rule, at)?;
@@ -88,7 +78,7 @@ fn read_variable<'a>(
 ) -> Result<u32, ReadError>
     requires name { name.now ≡ node.now.name.text.now }
     requires few { length variables.old ≤ most_variables }
-    ensures variable { VariableAnswers variables.old (used_at place (node_view node.now)) variables.new result }
+    ensures variable { VariableAnswers Tells variable_cause variables.old (used_at place (node_view node.now)) variables.new result }
     ensures few { OnOk result (length variables.new ≤ most_variables) }
 {
     let at = node.name.at;
@@ -99,7 +89,7 @@ fn read_variable<'a>(
         return Err(ReadError::LeftVariable { at });
     }
     // A name that is there already needs no room, and is looked up once more only where there is none.
-    if let Err(error) = check_room(Count::Variables, variables.len(), at) {
+    if let Err(error) = within(Count::Variables, variables.len() + 1, at) {
         if !variables.has(name) {
             return Err(error);
         }
@@ -116,7 +106,7 @@ fn read_symbol(
     name: &str,
 ) -> Result<u32, ReadError>
     requires { name.now ≡ node.now.name.text.now }
-    ensures symbol { SymbolAnswers names.old.symbols (used_at place (node_view node.now)) names.new.symbols result }
+    ensures symbol { SymbolAnswers Tells symbol_cause names.old.symbols (used_at place (node_view node.now)) names.new.symbols result }
     ensures variables { names.new.variables ≡ names.old.variables }
 {
     let at = node.name.at;
@@ -127,7 +117,7 @@ fn read_symbol(
         };
     }
     let number = names.symbol_count();
-    check_room(Count::Symbols, number as usize, at)?;
+    within(Count::Symbols, number as usize + 1, at)?;
     names.add_symbol(String::from_str(alloc, name)?, node.arguments)?;
     Ok(number)
 }

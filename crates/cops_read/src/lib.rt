@@ -17,7 +17,7 @@ pub use conditions::read_conditions;
 pub use cops_names::{NameSet, Names};
 use cops_syntax::parse;
 pub use errors::{Count, ReadError};
-pub use files::read_file;
+pub use files::{block_names, read_file};
 pub use heads::{NodePlace, VariableOrSymbol};
 pub use limits::{MOST_CONDITIONS, MOST_DEPTH, MOST_NODES, MOST_VARIABLES};
 use std::alloc::Global;

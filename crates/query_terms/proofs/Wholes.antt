@@ -1,25 +1,12 @@
 -- From the parts of a query's tree to the query.
-use Rattle.std.proofs.Common.{◌≡◌, ℕ, List, [], map, sym, ap, subst, ◌∙◌}
-use Rattle.file_text.specs.Syntax.{Name}
+use Rattle.std.proofs.Common.{◌≡◌, ℕ, List, [], sym, subst, ◌∙◌}
 use Rattle.rewriting.specs.Rules as rules
-use Rattle.cops_syntax.specs.View.{names_view}
-use Rattle.cops_syntax.specs.declared.tree.Name as program
-use Rattle.cops_names.specs.NameLists.{with_names}
 use Rattle.query_text.specs.Grammar.{QueryTree, conditions_of}
 use Rattle.query_text.specs.Meaning.{variables_of, cause_at, refusal_of, IsMeantBy}
-use Rattle.query_trees.specs.declared.tree.QueryText.{QueryText}
-use Rattle.query_trees.specs.Answers.{IsTreeOf}
 use Rattle.query_terms.specs.Steps.{Tells}
 use Rattle.cops_read.specs.Walks.{conditions_refusal, AreConditionsRead}
 use Rattle.query_terms.specs.declared.errors.MeaningError.{MeaningError}
 use Rattle.query_terms.proofs.Events.{refusal_is}
-
-pub block_is : (tree : QueryTree) (q : QueryText) (none block : List (List ℕ)) (items : List program.Name) → IsTreeOf q tree → none ≡ []
-    → block ≡ with_names none (map (λ n. n.text) (names_view items))
-    → items ≡ q.variables.items → block ≡ variables_of tree
-block_is tree q none block items h empty e same =
-    e ∙ ap (λ (ns : List (List ℕ)). with_names ns (map (λ (n : Name). n.text) (names_view items))) empty
-    ∙ ap (λ (ns : List program.Name). with_names [] (map (λ (n : Name). n.text) (names_view ns))) same ∙ ap (λ (ns : List Name). with_names [] (map (λ (n : Name). n.text) ns)) h.variables
 
 module _ (table : List (List ℕ × ℕ)) (tree : QueryTree) (block names : List (List ℕ)) (is : block ≡ variables_of tree) (none : names ≡ []) where
   pub meaning_told : (e : MeaningError) → Tells e (conditions_refusal (cause_at block) block table names 1 1 (conditions_of tree)) → Tells e (refusal_of table tree)

@@ -13,4 +13,4 @@ pub returns-clause-symbol : goal.returns-clause-symbol
 returns-clause-symbol c =
     put c.args.names.now.symbols c.add_symbol.new.self.symbols (used_at c.args.place (node_view c.args.node.now)) c.args.name.now (string_bytes c.in_ok-from_str.field-0)
     c.args.node.now.arguments c.symbol_count-number.result c.requires refl
-    c.in_default.ensures c.in_ok-from_str.ensures.ok c.in_ok-add_symbol.ensures.symbols c.symbol_count-number.ensures c.in_ok-check_room.ensures
+    c.in_default.ensures c.in_ok-from_str.ensures.ok c.in_ok-add_symbol.ensures.symbols c.symbol_count-number.ensures c.in_ok-within.ensures
