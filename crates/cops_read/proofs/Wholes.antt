@@ -35,7 +35,7 @@ pub block_is : {block : List (List ℕ)} {items whole : List program.Name} {vari
 block_is h same is = h ∙ ap (λ (ns : List Name). with_names [] (map (λ (n : Name). n.text) ns)) (ap names_view same ∙ is)
 
 -- From the values that the program has.
-module _ (file : FileTree) (text : FileText) (is_text : IsFileText text file) {other : List (List ℕ)} {items : List program.Name} {start : NameTable} {typed : Bool}
+module _ {file : FileTree} {text : FileText} (is_text : IsFileText text file) {other : List (List ℕ)} {items : List program.Name} {start : NameTable} {typed : Bool}
     (named : other ≡ with_names [] (map (λ n. n.text) (names_view items))) (all : items ≡ text.variables.items) (first : start ≡ record { symbols = []; variables = [] })
     (asked : typed ≡ is_some text.condition_type) where
   -- the system of rules that were read
@@ -55,23 +55,25 @@ module _ (file : FileTree) (text : FileText) (is_text : IsFileText text file) {o
       subst (Tells e) (sym (refusal_is file))
       (as_file (λ block t table. RulesAnswers block t table file.rules after listed (Err e)) (told file.rules is_text.rules))
 
-  module _ (names : NameTable) (arities : List ℕ) (rs : List Rule)
-      (read : (trees : List RuleTree) → tree.AreRules text.rules.items trees → AreRulesRead other typed start.symbols trees names.symbols names.variables rs)
-      (is : arities ≡ map (λ s. s.1) names.symbols) where
+  module _ {names table : NameTable} {arities : List ℕ} {rs : List Rule} (given : table ≡ names) (is : arities ≡ map (λ s. s.1) table.symbols)
+      (read : (trees : List RuleTree) → tree.AreRules text.rules.items trees → AreRulesRead other typed start.symbols trees names.symbols names.variables rs) where
     read_of : AreRulesRead (variables_of file) (has_type file) [] file.rules names.symbols names.variables rs
     read_of = as_file (λ block t table. AreRulesRead block t table file.rules names.symbols names.variables rs) (read file.rules is_text.rules)
 
-    meant : IsSystemOf file (system_of arities rs) names
-    meant = record { accepted = refusal_is file ∙ read_of.accepted; symbols = read_of.symbols; arities = is; own = refl; variables = read_of.variables; rules = read_of.mean }
+    meant : IsSystemOf file (system_of arities rs) table
+    meant =
+        let counts = is ∙ ap (λ (n : NameTable). map (λ (s : List ℕ × ℕ). s.1) n.symbols) given in
+        subst (IsSystemOf file (system_of arities rs)) (sym given)
+        record { accepted = refusal_is file ∙ read_of.accepted; symbols = read_of.symbols; arities = counts; own = refl; variables = read_of.variables; rules = read_of.mean }
 
-    pub few_arguments : All (λ s. s.1 ≤ 20) names.symbols
-    few_arguments = (is_within_limits file (system_of arities rs) names meant).few_arguments
+    pub few_arguments : All (λ s. s.1 ≤ 20) table.symbols
+    few_arguments = (is_within_limits file (system_of arities rs) table meant).few_arguments
 
     pub rules_sound : IsSystem (system_of arities rs)
-    rules_sound = system_is file (system_of arities rs) names meant
+    rules_sound = system_is file (system_of arities rs) table meant
 
     pub rules_counted : AreCounted rs
     rules_counted = counted (variables_of file) names.symbols file.rules rs read_of.mean read_of.counted
 
-    pub file_read : (sys : rules.System) → sys ≡ system_of arities rs → IsSystemOf file sys names
-    file_read sys made = subst (λ (s : rules.System). IsSystemOf file s names) (sym made) meant
+    pub file_read : {sys : rules.System} → sys ≡ system_of arities rs → IsSystemOf file sys table
+    file_read made = subst (λ (s : rules.System). IsSystemOf file s table) (sym made) meant

@@ -1,6 +1,4 @@
-use Rattle.std.proofs.Common.{◌∙◌, ap, sym, subst, map, List, ℕ, refl}
-use Rattle.cops_names.specs.NameTable.{NameTable}
-use Rattle.cops_read.specs.File.{IsSystemOf}
+use Rattle.std.proofs.Common.{◌∙◌, refl}
 use Rattle.cops_read.specs.RuleSteps.{ListAnswers}
 use Rattle.cops_read.specs.declared.errors.ReadError.TheVariants.{NoMemory}
 use Rattle.cops_read.proofs.Firsts.{handed}
@@ -10,7 +8,7 @@ use Rattle.cops_read.proofs.files.read_list.Goals as goal
 pub returns-in_err-rules : goal.returns-in_err-rules
 returns-in_err-rules c tree h =
     handed (ListAnswers tree) c.in_err-rules.field-0.0 c.from_residual-in_err-rules.result c.from_residual-in_err-rules.ensures.1
-    (rules_told tree c.args.file h (c.new.ensures ∙ c.in_ok-block_names.ensures) c.deref.ensures.value c.new-2.ensures c.is_some-has_type.ensures
+    (rules_told h (c.new.ensures ∙ c.in_ok-block_names.ensures) c.deref.ensures.value c.new-2.ensures c.is_some-has_type.ensures
     c.read_rules.new.scope.names.symbols c.read_rules.new.scope.names.variables c.in_err-rules.field-0.0 c.in_err-rules.ensures.rules)
 
 pub returns-in_err-arities : goal.returns-in_err-arities
@@ -21,24 +19,20 @@ read_rules-requires-clause-texts c = (c.requires.0.rules, c.requires.1.rules)
 
 pub into_names-names-requires : goal.into_names-names-requires
 into_names-names-requires c =
-    few_arguments c.requires.0 c.args.file c.requires.1 (c.new.ensures ∙ c.in_ok-block_names.ensures) c.deref.ensures.value c.new-2.ensures c.is_some-has_type.ensures
-    c.read_rules.new.scope.names (map (λ s. s.1) c.read_rules.new.scope.names.symbols) c.in_ok-rules.rules.items c.in_ok-rules.ensures.rules refl
+    few_arguments c.requires.1 (c.new.ensures ∙ c.in_ok-block_names.ensures) c.deref.ensures.value c.new-2.ensures c.is_some-has_type.ensures
+    {names = c.read_rules.new.scope.names} refl refl c.in_ok-rules.ensures.rules
 
 pub of_sound-system-requires-clause-sound : goal.of_sound-system-requires-clause-sound
 of_sound-system-requires-clause-sound c =
-    rules_sound c.requires.0 c.args.file c.requires.1 (c.new.ensures ∙ c.in_ok-block_names.ensures) c.deref.ensures.value c.new-2.ensures c.is_some-has_type.ensures
-    c.read_rules.new.scope.names c.in_ok-arities.arities.items c.in_ok-rules.rules.items c.in_ok-rules.ensures.rules
-    (c.in_ok-arities.ensures ∙ ap (λ (n : NameTable). map (λ (s : List ℕ × ℕ). s.1) n.symbols) c.into_names-names.ensures)
+    rules_sound c.requires.1 (c.new.ensures ∙ c.in_ok-block_names.ensures) c.deref.ensures.value c.new-2.ensures c.is_some-has_type.ensures
+    c.into_names-names.ensures c.in_ok-arities.ensures c.in_ok-rules.ensures.rules
 
 pub of_sound-system-requires-clause-counted : goal.of_sound-system-requires-clause-counted
 of_sound-system-requires-clause-counted c =
-    rules_counted c.requires.0 c.args.file c.requires.1 (c.new.ensures ∙ c.in_ok-block_names.ensures) c.deref.ensures.value c.new-2.ensures c.is_some-has_type.ensures
-    c.read_rules.new.scope.names c.in_ok-arities.arities.items c.in_ok-rules.rules.items c.in_ok-rules.ensures.rules
-    (c.in_ok-arities.ensures ∙ ap (λ (n : NameTable). map (λ (s : List ℕ × ℕ). s.1) n.symbols) c.into_names-names.ensures)
+    rules_counted c.requires.1 (c.new.ensures ∙ c.in_ok-block_names.ensures) c.deref.ensures.value c.new-2.ensures c.is_some-has_type.ensures
+    c.into_names-names.ensures c.in_ok-arities.ensures c.in_ok-rules.ensures.rules
 
 pub returns : goal.returns
 returns c tree h =
-    subst (λ (n : NameTable). IsSystemOf tree c.of_sound-system.result n) (sym c.into_names-names.ensures)
-    (file_read tree c.args.file h (c.new.ensures ∙ c.in_ok-block_names.ensures) c.deref.ensures.value c.new-2.ensures c.is_some-has_type.ensures
-    c.read_rules.new.scope.names c.in_ok-arities.arities.items c.in_ok-rules.rules.items c.in_ok-rules.ensures.rules
-    (c.in_ok-arities.ensures ∙ ap (λ (n : NameTable). map (λ (s : List ℕ × ℕ). s.1) n.symbols) c.into_names-names.ensures) c.of_sound-system.result c.of_sound-system.ensures)
+    file_read h (c.new.ensures ∙ c.in_ok-block_names.ensures) c.deref.ensures.value c.new-2.ensures c.is_some-has_type.ensures
+    c.into_names-names.ensures c.in_ok-arities.ensures c.in_ok-rules.ensures.rules c.of_sound-system.ensures
