@@ -4,8 +4,8 @@
 
 mod name_set;
 mod names;
-mod numbered;
+mod numerals;
 
 pub use name_set::NameSet;
 pub use names::Names;
-pub use numbered::numbered;
+pub use numerals::numbered;

@@ -60,12 +60,12 @@ module _ (bytes : List ℕ) where
       (both_events (term_events (side_of number 0 false) r.right) _ (term_within (side_of number 0 false) r.right h.1) (guard_within number r.guard h.2)))
       (rules_within (suc number) rs h.3)
 
-  here_or_later : (here : Option MeaningCause) (first : ℕ) (later : Option (MeaningCause × ℕ)) (cause : MeaningCause) (at : ℕ)
+  pub here_or_later : {C : Type 0} (here : Option C) (first : ℕ) (later : Option (C × ℕ)) (cause : C) (at : ℕ)
       → first ≤ length bytes → (later ≡ Some (cause, at) → at ≤ length bytes) → first_or here first later ≡ Some (cause, at) → at ≤ length bytes
   here_or_later None first later cause at h further e = further e
   here_or_later (Some c) first later cause at h further e =
       let pair : (c, first) ≡ (cause, at) = cc in
-      subst (λ (n : ℕ). n ≤ length bytes) (ap (λ (r : MeaningCause × ℕ). r.1) pair) h
+      subst (λ (n : ℕ). n ≤ length bytes) (ap (λ r. r.1) pair) h
 
   -- the first refusal is at an event
   refusal_within : (block : List (List ℕ)) (typed : Bool) (front es : List Event) (cause : MeaningCause) (at : ℕ) → EventsWithin es → first_refusal block typed front es ≡ Some (cause, at)

@@ -259,25 +259,20 @@ module _ (block : List (List ℕ)) where
     no_conditions true (Some g) ds h m e = absurd cc
     no_conditions false (Some g) ds h m e = absurd cc
 
-  conditions_table : (table : List (List ℕ × ℕ)) (names : List (List ℕ)) (rule number : ℕ) (cs : List ConditionTree) → conditions_refusal block table names rule number cs ≡ None
-      → IsTable table → IsTable (with_all_symbols block table (sides cs))
-  conditions_table table names rule number [] h t = t
-  conditions_table table names rule number (c ∷ cs) h t =
-      let here = none_first (condition_refusal block table names rule number c) _ h in
-      let side = side_of rule number false in
-      let left = symbols_kept table names side 1 0 0 c.left (none_first _ _ here) t in
-      let right = symbols_kept (with_symbols block table c.left) (with_variables block names c.left) side 1 0 0 c.right (none_then _ _ here) left in
-      conditions_table (with_symbols block (with_symbols block table c.left) c.right) (with_variables block (with_variables block names c.left) c.right) rule (number + 1) cs (none_then _ _ h) right
+  -- what each term that is not refused keeps of the symbols and variables so far
+  abbrev IsKept : (List (List ℕ × ℕ) → List (List ℕ) → Type 0) → Type 0
+  IsKept P = (table : List (List ℕ × ℕ)) (names : List (List ℕ)) (side : Side) (p : Phrase) → term_refusal block table names side 1 0 0 p ≡ None
+      → P table names → P (with_symbols block table p) (with_variables block names p)
 
-  conditions_variables : (table : List (List ℕ × ℕ)) (names : List (List ℕ)) (rule number : ℕ) (cs : List ConditionTree) → conditions_refusal block table names rule number cs ≡ None
-      → length names ≤ 100 → length (with_all_variables block names (sides cs)) ≤ 100
-  conditions_variables table names rule number [] h t = t
-  conditions_variables table names rule number (c ∷ cs) h t =
+  conditions_keep : (P : List (List ℕ × ℕ) → List (List ℕ) → Type 0) → IsKept P → (table : List (List ℕ × ℕ)) (names : List (List ℕ)) (rule number : ℕ) (cs : List ConditionTree)
+      → conditions_refusal block table names rule number cs ≡ None → P table names → P (with_all_symbols block table (sides cs)) (with_all_variables block names (sides cs))
+  conditions_keep P kept table names rule number [] h t = t
+  conditions_keep P kept table names rule number (c ∷ cs) h t =
       let here = none_first (condition_refusal block table names rule number c) _ h in
       let side = side_of rule number false in
-      let left = variables_kept table names side 1 0 0 c.left (none_first _ _ here) t in
-      let right = variables_kept (with_symbols block table c.left) (with_variables block names c.left) side 1 0 0 c.right (none_then _ _ here) left in
-      conditions_variables (with_symbols block (with_symbols block table c.left) c.right) (with_variables block (with_variables block names c.left) c.right) rule
+      let left = kept table names side c.left (none_first _ _ here) t in
+      let right = kept (with_symbols block table c.left) (with_variables block names c.left) side c.right (none_then _ _ here) left in
+      conditions_keep P kept (with_symbols block (with_symbols block table c.left) c.right) (with_variables block (with_variables block names c.left) c.right) rule
       (number + 1) cs (none_then _ _ h) right
 
   module _ (typed : Bool) (table : List (List ℕ × ℕ)) (number : ℕ) (t : RuleTree) (h : rule_refusal block typed table number t ≡ None) where
@@ -296,18 +291,18 @@ module _ (block : List (List ℕ)) where
         (with_variables block (with_variables block [] t.left) t.right) number 1 (conditions_of t) ≡ None
     conditions_accepted = none_then (bar_refusal typed (option_map (λ (g : Guard). g.at) t.guard)) _ late
 
+    rule_keeps : (P : List (List ℕ × ℕ) → List (List ℕ) → Type 0) → IsKept P → P table [] → P (with_all_symbols block table (phrases_of_rule t)) (rule_variables block t)
+    rule_keeps P kept is =
+        conditions_keep P kept (with_symbols block (with_symbols block table t.left) t.right) (with_variables block (with_variables block [] t.left) t.right) number 1
+        (conditions_of t) conditions_accepted
+        (kept (with_symbols block table t.left) (with_variables block [] t.left) (side_of number 0 false) t.right right_accepted
+        (kept table [] (side_of number 0 true) t.left left_accepted is))
+
     rule_table : IsTable table → IsTable (with_all_symbols block table (phrases_of_rule t))
-    rule_table is =
-        conditions_table (with_symbols block (with_symbols block table t.left) t.right) (with_variables block (with_variables block [] t.left) t.right) number 1 (conditions_of t) conditions_accepted
-        (symbols_kept (with_symbols block table t.left) (with_variables block [] t.left) (side_of number 0 false) 1 0 0 t.right right_accepted
-        (symbols_kept table [] (side_of number 0 true) 1 0 0 t.left left_accepted is))
+    rule_table = rule_keeps (λ u names. IsTable u) (λ u names side p. symbols_kept u names side 1 0 0 p)
 
     rule_few : length (rule_variables block t) ≤ 100
-    rule_few =
-        conditions_variables (with_symbols block (with_symbols block table t.left) t.right) (with_variables block (with_variables block [] t.left) t.right) number 1
-        (conditions_of t) conditions_accepted
-        (variables_kept (with_symbols block table t.left) (with_variables block [] t.left) (side_of number 0 false) 1 0 0 t.right right_accepted
-        (variables_kept table [] (side_of number 0 true) 1 0 0 t.left left_accepted (omega arith)))
+    rule_few = rule_keeps (λ u names. length names ≤ 100) (λ u names side p. variables_kept u names side 1 0 0 p) (omega arith)
 
     rule_allowed : (symbols : List (List ℕ × ℕ)) (r : Rule) → IsRuleOf block symbols t r → IsAllowed typed r
     rule_allowed symbols r m =

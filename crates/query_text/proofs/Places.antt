@@ -8,10 +8,9 @@ use Rattle.file_text.specs.Grammar.{Word, left_paren, right_paren, id_at, rules,
 use Rattle.file_text.proofs.TreeWords.{OfWords, OfConditions, of_file}
 use Rattle.file_text.proofs.Within.{token_within, NameWithin, PlaceWithin, words_within}
 use Rattle.cops_read.specs.Uses.{Event, place}
-use Rattle.cops_read.proofs.Places.{EventsWithin, conditions_within}
+use Rattle.cops_read.proofs.Places.{EventsWithin, conditions_within, here_or_later}
 use Rattle.query_text.specs.Grammar.{QueryTree, QueryParts, conditions_of, spelled_block, spelled_conditions, spelled_query}
 use Rattle.query_text.specs.Texts.{IsQueryText, IsNoQueryText}
-use Rattle.cops_read.specs.Refusals.{first_or}
 use Rattle.query_text.specs.Meaning.{QueryCause, variables_of, query_events, event_cause, first_refusal}
 use Rattle.query_text.specs.Query.{MeansNothing}
 use Rattle.query_text.proofs.Machine.{dummy, header}
@@ -57,19 +56,12 @@ module _ (bytes : List ℕ) where
 
   -- ---- the identifiers
 
-  here_or_later : (here : Option QueryCause) (first : ℕ) (later : Option (QueryCause × ℕ)) (cause : QueryCause) (at : ℕ)
-      → first ≤ length bytes → (later ≡ Some (cause, at) → at ≤ length bytes) → first_or here first later ≡ Some (cause, at) → at ≤ length bytes
-  here_or_later None first later cause at h further e = further e
-  here_or_later (Some c) first later cause at h further e =
-      let pair : (c, first) ≡ (cause, at) = cc in
-      subst (λ (n : ℕ). n ≤ length bytes) (ap (λ (r : QueryCause × ℕ). r.1) pair) h
-
   -- the first refusal is at an event
   refusal_within : (block : List (List ℕ)) (table : List (List ℕ × ℕ)) (front es : List Event) (cause : QueryCause) (at : ℕ) → EventsWithin bytes es
       → first_refusal block table front es ≡ Some (cause, at) → at ≤ length bytes
   refusal_within block table front [] cause at h e = absurd cc
   refusal_within block table front (x ∷ es) cause at h e =
-      here_or_later (event_cause block table front x) (place x) (first_refusal block table (front ++ x ∷ []) es) cause at h.0 (refusal_within block table (front ++ x ∷ []) es cause at h.1) e
+      here_or_later bytes (event_cause block table front x) (place x) (first_refusal block table (front ++ x ∷ []) es) cause at h.0 (refusal_within block table (front ++ x ∷ []) es cause at h.1) e
 
   pub meaning_within : (symbols : List (List ℕ × ℕ)) (cause : QueryCause) (at : ℕ) → MeansNothing symbols bytes cause at → at ≤ length bytes
   meaning_within symbols cause at h =
