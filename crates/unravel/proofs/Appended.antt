@@ -3,7 +3,6 @@ use Rattle.std.proofs.Common.{◌≡◌, ℕ, suc, ◌+◌, ◌≤◌, sym, ap, 
 use Rattle.std.proofs.Common.{length-drop, Result, Ok, Err}
 use Rattle.std.proofs.lemmas.List.{take_rest}
 use Rattle.rewriting.proofs.Leaves.{fits_under, fits_before, variables_are_leaves}
-use Rattle.rewriting.specs.Terms as math
 use Rattle.rewriting.specs.Prelude.{Term, Fits, with_variables, sides, Each, DoSidesFit, numbered_anew, keeper, unraveled_from}
 use Rattle.rewriting.specs.Rules as rules
 use Rattle.term_core.specs.Prelude.{rule_view, condition_view, view}

@@ -136,12 +136,9 @@ pub sound_where_ok : (sys : rules.System) (f : ℕ) (r : Result (Vec Rule Global
 sound_where_ok sys f (Ok v) s e h = unraveled_system sys s (subst (λ n. DoSidesFit (unraveled_rules n sys.rules)) e h.1)
 sound_where_ok sys f (Err e) s same h = tt
 
-abbrev made : List ℕ → List rules.Rule → rules.System
-made arities rs = system_of arities rs
-
 pub made_sound : (sys : rules.System) (v : List Rule) (arities : List ℕ) → map rule_view v ≡ unraveled_rules (length sys.arities) sys.rules → arities ≡ (unraveled sys).arities
     → IsSystem (unraveled sys) → IsSystem (system_of arities (map rule_view v))
-made_sound sys v arities r a h = subst IsSystem (sym (ap₂ made a r)) h
+made_sound sys v arities r a h = subst IsSystem (sym (ap₂ system_of a r)) h
 
 -- the sides of a rule that is numbered anew have as many variables as before
 pub counted_anew : (l r : Term) (order : List ℕ) (u v : Term) → order ≡ with_variables (with_variables [] l) r → u ≡ apply (numbered order) l → v ≡ apply (numbered order) r

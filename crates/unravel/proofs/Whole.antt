@@ -49,10 +49,7 @@ first_large sys n h =
     let e : n ≡ suc h.place = (let m = h.is_number in omega (arith, m)) in
     subst (IsFirstTooLarge sys) (sym e) record { rule = h.rule; is_rule = h.is_rule; before = before_fit sys h.place h.before; here = h.here }
 
-abbrev made : List ℕ → List rules.Rule → rules.System
-made arities rs = system_of arities rs
-
 pub is_unraveled : (sys : rules.System) (u : Unraveled) (v : List Rule) (arities : List ℕ) → map rule_view v ≡ unraveled_rules (length sys.arities) sys.rules
     → DoSidesFit (unraveled_rules (length sys.arities) sys.rules)
     → arities ≡ (unraveled sys).arities → u.system ≡ system_of arities (map rule_view v) → map head_view u.heads.items ≡ heads sys → IsUnraveled sys u
-is_unraveled sys u v arities r fit a s h = record { system = s ∙ ap₂ made a r; heads = h; fits = all_fit sys fit }
+is_unraveled sys u v arities r fit a s h = record { system = s ∙ ap₂ system_of a r; heads = h; fits = all_fit sys fit }
