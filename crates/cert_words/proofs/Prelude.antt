@@ -10,7 +10,7 @@ pub use Rattle.cert_grammar.specs.Prelude.{Demand, meets, Mark, fixed, word, sym
 pub use Rattle.cert_grammar.specs.Prelude.{position_lead, variable_lead, name_lead, is_short, leads, is_there, taken, mark_of, items_of, longest, first_there, Left, Step, goes_on}
 pub use Rattle.cert_grammar.specs.Prelude.{behind_lead, judged, step, step_lead, Shared, share_verdict, behind_mark, ends, next_lead, shared_judged, behind_lead_shared, after_step, mode_of}
 pub use Rattle.cert_grammar.specs.Prelude.{ends_lead, refuses, at_once, bad_share, unfolded, automaton_begins, automaton_ends, is_use, is_light, all_used, shares, closed, marks_text}
-pub use Rattle.cert_grammar.specs.Prelude.{use_mark, is_among, holds, first_of, share_effect, behind_marks, PassShares, Mode, Scan, scan_next, next, step_items, further, shared_step}
+pub use Rattle.cert_grammar.specs.Prelude.{use_mark, is_among, holds, first_of, share_effect, behind_marks, PassShares, Mode, number_more, Scan, scan_next, next, step_items, further, shared_step}
 pub use Rattle.cert_grammar.specs.Prelude.{mark_text, Pass, IsCertificateRefused, opening, nothing_shared, is_node, Frame, node, name_behind, term_behind, spelling, simplifications}
 pub use Rattle.cert_grammar.specs.WordMarks.{numeral}
 pub use Rattle.cert_laws.proofs.Paths.{found_there, text_is, first_sound, lead_there}

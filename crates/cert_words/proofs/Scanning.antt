@@ -1,6 +1,6 @@
 -- How far words are read at a place inside bytes.
 use Rattle.cert_words.proofs.Prelude.{◌≡◌, ◌+◌, ◌<◌, ℕ, suc, List, ◌∷◌, Option, Some, None, option_map, length, drop, get_or, sym, ap, ◌∙◌, add-one, arith, drop-cons, Mode, Scan, scan}
-use Rattle.cert_words.proofs.Prelude.{scan_next, next, mode_view}
+use Rattle.cert_words.proofs.Prelude.{scan_next, next, mode_view, number_more, is_digit, Bool, true, false, if◌then◌else◌, [], refl}
 use Rattle.cert_words.specs.declared.scans.Mode as code
 
 -- behind so many bytes of the longest front that begins a word, with the rest of it
@@ -28,3 +28,12 @@ scan_goes_on begins m bytes at r k s h e some =
     let size : (scan m (drop at bytes)).size ≡ suc (scan (mode_view k) (drop (at + 1) bytes)).size = ap (λ (x : Scan). x.size) it in
     let mode : (scan m (drop at bytes)).mode ≡ (scan (mode_view k) (drop (at + 1) bytes)).mode = ap (λ (x : Scan). x.mode) it in
     record { size = omega (arith, size, s.size); mode = s.mode ∙ mode }
+
+-- digits go on as digits
+pub digits_on : (bytes : List ℕ) → (scan number_more bytes).mode ≡ number_more
+digits_on [] = refl
+digits_on (b ∷ bs) = by (is_digit b) (digits_on bs)
+  where
+    by : (t : Bool) → (scan number_more bs).mode ≡ number_more → (scan_next number_more (if t then Some number_more else None) (λ n. scan n bs)).mode ≡ number_more
+    by true e = e
+    by false e = refl

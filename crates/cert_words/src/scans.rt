@@ -151,6 +151,19 @@ pub fn is_word(mode: Mode) -> bool
     }
 }
 
+// how many digits stand at the front
+fn digits(bytes: &[u8]) -> usize
+    ensures size { result ≡ (spec.scan spec.number_more bytes.now).size }
+    ensures within { result ≤ length bytes.now }
+{
+    'digits: for (size, b) in bytes.iter().enumerate() {
+        if !is_digit(*b) {
+            return size;
+        }
+    }
+    bytes.len()
+}
+
 /// How long the longest front is that begins a word, and how far the word has been read with it.
 pub fn scan(begins: Mode, bytes: &[u8]) -> (usize, Mode)
     ensures size { result.0 ≡ (spec.scan (mode_view begins) bytes.now).size }
@@ -160,6 +173,9 @@ pub fn scan(begins: Mode, bytes: &[u8]) -> (usize, Mode)
     let mut mode = begins;
     'bytes: for (size, b) in bytes.iter().enumerate() {
         match next(mode, *b) {
+            Some(Mode::NumberMore) => {
+                return (size + 1 + digits(&bytes[size + 1..]), Mode::NumberMore);
+            }
             Some(further) => mode = further,
             None => return (size, mode),
         }

@@ -1,4 +1,5 @@
-use Rattle.cert_words.proofs.Scanning.{scan_stops, scan_goes_on}
+use Rattle.cert_words.proofs.Scanning.{scan_stops, scan_goes_on, digits_on}
+use Rattle.cert_words.proofs.Prelude.{sym, ap, ◌∙◌, ◌+◌, drop, scan, Mode, mode_view}
 use Rattle.cert_words.proofs.scans.scan.Goals as goal
 
 pub returns-in-None-clause-size : goal.returns-in-None-clause-size
@@ -9,3 +10,8 @@ returns-in-None-clause-mode c = (scan_stops _ _ c.args.bytes.now _ _ c.bytes.inv
 
 pub bytes-preserved : goal.bytes-preserved
 bytes-preserved c = scan_goes_on _ _ c.args.bytes.now _ _ _ c.bytes.invariant c.bytes-test.true c.next.ensures c.in-Some.is
+
+pub returns-in-Some-NumberMore-clause-mode : goal.returns-in-Some-NumberMore-clause-mode
+returns-in-Some-NumberMore-clause-mode c =
+    let on = scan_goes_on _ _ c.args.bytes.now _ _ _ c.bytes.invariant c.bytes-test.true c.next.ensures c.in-Some-NumberMore.is in
+    sym (on.mode ∙ ap (λ (m : Mode). (scan m (drop (c.bytes.size + 1) c.args.bytes.now)).mode) (ap mode_view c.in-Some-NumberMore.field-0-is) ∙ digits_on (drop (c.bytes.size + 1) c.args.bytes.now))
