@@ -6,11 +6,11 @@ use Rattle.std.proofs.Math.Bool.{and-false}
 use Rattle.file_text.specs.declared.ConditionType.{ConditionType}
 use Rattle.file_text.specs.declared.ConditionType.TheVariants.{Oriented, Join}
 use Rattle.file_text.specs.Syntax.{Name, RuleTree, FileTree}
-use Rattle.file_text.specs.Grammar.{Word, id, left_paren, right_paren, comma, bar, arrow, equal, Block, condition_type, variables, rules, has_block, type_in, variables_in, rules_in}
+use Rattle.file_text.specs.Grammar.{Word, id, left_paren, right_paren, Block, condition_type, variables, rules, has_block, type_in, variables_in, rules_in}
 use Rattle.file_text.specs.Refusals.{SyntaxCause, repeated_block, unknown_block, other_condition_type}
 use Rattle.file_text.proofs.Machine as machine
 use Rattle.cops_syntax.specs.Flat as lists
-use Rattle.cops_syntax.proofs.FlatTrees.{rules_of, reading_of, shown, step_of, close_of, can_step}
+use Rattle.cops_syntax.proofs.FlatTrees.{rules_of, reading_of, shown, no_sign, step_of, close_of, can_step}
 
 -- the identifiers of the first block of variables
 abbrev pub held : List Block → Option (List Name)
@@ -199,15 +199,6 @@ title_fresh bs at false false false false t k e = absurd cc
 
 -- ---- the block of rules
 
-no_next : (p : machine.Part) (t : _) → machine.next_part p t right_paren ≡ None
-no_next machine.left t = refl
-no_next (machine.right l) t = refl
-no_next (machine.condition_left l r at cs) t = refl
-no_next (machine.condition_right l r at cs s) t = refl
-
-no_sign : (rs : List RuleTree) (p : machine.Part) (t : _) → machine.behind_side rs p t right_paren ≡ None
-no_sign rs p t = ap (option_map (λ q. machine.reading rs q [] machine.want)) (no_next p t)
-
 closed_of : (bs : List Block) (at : ℕ) (s : lists.Stage) (o : Option (List RuleTree)) → rules_in bs ≡ None
     → lists.or_syntax (option_map (lists.with_rules (holding bs s)) (option_map rules_of o)) ≡ mapped (machine.rules_or bs at o None)
 closed_of bs at s None e = refl
@@ -255,12 +246,7 @@ close_step_of bs at s rs p (o ∷ os) (machine.done t) e = inner_step_of bs at s
 rule_step_of : (bs : List Block) (at : ℕ) (s : lists.Stage) (r : machine.Reading) (w : Word) → rules_in bs ≡ None
     → lists.rule_step (holding bs s) (reading_of r) w ≡ mapped (machine.step_rules bs at r w)
 rule_step_of bs at s r right_paren e = close_step_of bs at s r.rules r.part r.opens r.last e
-rule_step_of bs at s r (id f) e = other_step_of bs at s r.rules r.part r.opens r.last (id f) refl
-rule_step_of bs at s r left_paren e = other_step_of bs at s r.rules r.part r.opens r.last left_paren refl
-rule_step_of bs at s r comma e = other_step_of bs at s r.rules r.part r.opens r.last comma refl
-rule_step_of bs at s r (bar p) e = other_step_of bs at s r.rules r.part r.opens r.last (bar p) refl
-rule_step_of bs at s r arrow e = other_step_of bs at s r.rules r.part r.opens r.last arrow refl
-rule_step_of bs at s r equal e = other_step_of bs at s r.rules r.part r.opens r.last equal refl
+rule_step_of bs at s r w e = other_step_of bs at s r.rules r.part r.opens r.last w refl
 
 -- ---- a step
 

@@ -127,6 +127,14 @@ next_of (machine.condition_right l r at cs s) t comma =
     (sym (map_push condition_of cs record { left = s; right = t }))
 next_of (machine.condition_right l r at cs s) t _ = refl
 
+-- a closing bracket ends no side
+no_next : (p : machine.Part) (t : Phrase) → machine.next_part p t right_paren ≡ None
+no_next machine.left t = refl
+no_next _ t = refl
+
+pub no_sign : (rs : List RuleTree) (p : machine.Part) (t : Phrase) → machine.behind_side rs p t right_paren ≡ None
+no_sign rs p t = ap (option_map (λ q. machine.reading rs q [] machine.want)) (no_next p t)
+
 began : (rs : List RuleTree) (f : Name) (o : Option RuleTree)
     → option_map (λ qs. lists.reading qs lists.left_side [] [] (lists.bare f)) (option_map rules_of (option_map (λ r. rs ++ r ∷ []) o)) ≡ option_map reading_of
     (option_map (λ r. machine.reading (rs ++ r ∷ []) machine.left [] (machine.bare f)) o)
@@ -145,12 +153,7 @@ sign_of rs p t os l w = ap (option_map (λ q. lists.reading (rules_of rs) q [] [
 behind_side_of : (rs : List RuleTree) (p : machine.Part) (t : Phrase) (os : List ℕ) (l : lists.Last) (w : Word)
     → lists.behind_side (read rs p (flat t) os l) w ≡ option_map reading_of (machine.behind_side rs p t w)
 behind_side_of rs p t os l (id f) = ap (option_map (λ qs. lists.reading qs lists.left_side [] [] (lists.bare f))) (end_rule_of rs p t os l) ∙ began rs f (machine.ended p t)
-behind_side_of rs p t os l left_paren = sign_of rs p t os l left_paren
-behind_side_of rs p t os l right_paren = sign_of rs p t os l right_paren
-behind_side_of rs p t os l comma = sign_of rs p t os l comma
-behind_side_of rs p t os l (bar at) = sign_of rs p t os l (bar at)
-behind_side_of rs p t os l arrow = sign_of rs p t os l arrow
-behind_side_of rs p t os l equal = sign_of rs p t os l equal
+behind_side_of rs p t os l w = sign_of rs p t os l w
 
 behind_argument_of : (rs : List RuleTree) (p : machine.Part) (g : Name) (ts : Phrases) (os : machine.Opens) (t : Phrase) (l : lists.Last) (w : Word)
     → lists.behind_argument (read rs p (opens_nodes ((g, ts) ∷ os) ++ flat t) (places os) l) (length (opens_nodes os)) w ≡ option_map reading_of (machine.behind_argument rs p g ts os t w)
@@ -174,12 +177,7 @@ step_of rs p os (machine.first g) (id f) = refl
 step_of rs p os (machine.first g) right_paren = refl
 step_of rs p os (machine.first g) _ = refl
 step_of rs p os (machine.bare f) left_paren = refl
-step_of rs p os (machine.bare f) (id g) = behind_of rs p os (word f) (lists.bare f) (id g)
-step_of rs p os (machine.bare f) right_paren = behind_of rs p os (word f) (lists.bare f) right_paren
-step_of rs p os (machine.bare f) comma = behind_of rs p os (word f) (lists.bare f) comma
-step_of rs p os (machine.bare f) (bar at) = behind_of rs p os (word f) (lists.bare f) (bar at)
-step_of rs p os (machine.bare f) arrow = behind_of rs p os (word f) (lists.bare f) arrow
-step_of rs p os (machine.bare f) equal = behind_of rs p os (word f) (lists.bare f) equal
+step_of rs p os (machine.bare f) w = behind_of rs p os (word f) (lists.bare f) w
 step_of rs p os (machine.done t) w = behind_of rs p os t lists.closed w
 
 none_begun : (p : machine.Part) (rs : List RuleTree) → lists.no_rule (shown rs p [] machine.want) (part_of p) ≡ option_map rules_of (machine.unbegun p rs)
