@@ -46,12 +46,7 @@ step_reason_of n = get_or (no_such_rule ∷ no_such_hypothesis ∷ no_redex ∷ 
 
 pub step_reason_back : (r : StepReason) → step_reason_of (step_number r) ≡ r
 step_reason_back no_such_rule = refl
-step_reason_back no_such_hypothesis = refl
-step_reason_back no_redex = refl
-step_reason_back wrong_count = refl
-step_reason_back unbound = refl
-step_reason_back condition_fails = refl
-step_reason_back too_large = refl
+step_reason_back _ = refl
 
 abbrev coded_step_reason : Coded StepReason
 coded_step_reason = code_by ℕ coded_ℕ step_number step_reason_of step_reason_back
@@ -72,10 +67,7 @@ class_of n = get_or (left_linear ∷ type3 ∷ extended_oriented ∷ right_stabl
 
 pub class_back : (c : Class) → class_of (class_number c) ≡ c
 class_back left_linear = refl
-class_back type3 = refl
-class_back extended_oriented = refl
-class_back right_stable = refl
-class_back deterministic = refl
+class_back _ = refl
 
 abbrev coded_class : Coded Class
 coded_class = code_by ℕ coded_ℕ class_number class_of class_back
@@ -99,11 +91,7 @@ measure_reason_of (n, (i, x)) = get_or (wrong_shape i ∷ wrong_coefficient i �
 
 pub measure_reason_back : (r : MeasureReason) → measure_reason_of (measure_numbers r) ≡ r
 measure_reason_back (wrong_shape i) = refl
-measure_reason_back (wrong_coefficient i) = refl
-measure_reason_back (overflow_at i) = refl
-measure_reason_back (smaller_variable i x) = refl
-measure_reason_back (smaller_constant i) = refl
-measure_reason_back (not_ordered i) = refl
+measure_reason_back _ = refl
 
 abbrev coded_measure_reason : Coded MeasureReason
 coded_measure_reason = code_by (ℕ × (ℕ × ℕ)) (coded× coded_ℕ (coded× coded_ℕ coded_ℕ)) measure_numbers measure_reason_of measure_reason_back
@@ -153,31 +141,7 @@ evidence_reason_of (inr (inr (inr (n, bad)))) = get_or (join_left bad ∷ join_r
 
 pub evidence_reason_back : (r : EvidenceReason) → evidence_reason_of (evidence_parts r) ≡ r
 evidence_reason_back not_allowed = refl
-evidence_reason_back not_root = refl
-evidence_reason_back sides_differ = refl
-evidence_reason_back tcap_unifies = refl
-evidence_reason_back tcap_large = refl
-evidence_reason_back conflict_number = refl
-evidence_reason_back conflict_left = refl
-evidence_reason_back conflict_unifies = refl
-evidence_reason_back conflict_large = refl
-evidence_reason_back auto_number = refl
-evidence_reason_back auto_any = refl
-evidence_reason_back auto_misses = refl
-evidence_reason_back (auto_wide i) = refl
-evidence_reason_back (auto_not_closed i ks k) = refl
-evidence_reason_back auto_wide_right = refl
-evidence_reason_back auto_reaches = refl
-evidence_reason_back (join_left bad) = refl
-evidence_reason_back (join_right bad) = refl
-evidence_reason_back join_differs = refl
-evidence_reason_back unfeasible_number = refl
-evidence_reason_back (unfeasible_first bad) = refl
-evidence_reason_back (unfeasible_second bad) = refl
-evidence_reason_back first_reducible = refl
-evidence_reason_back second_reducible = refl
-evidence_reason_back unfeasible_unifies = refl
-evidence_reason_back unfeasible_large = refl
+evidence_reason_back _ = refl
 
 abbrev coded_evidence_reason : Coded EvidenceReason
 coded_evidence_reason =
@@ -198,10 +162,7 @@ simplification_reason_of (inr why) = bad_evidence why
 
 pub simplification_reason_back : (r : SimplificationReason) → simplification_reason_of (simplification_parts r) ≡ r
 simplification_reason_back missing_rule = refl
-simplification_reason_back missing_condition = refl
-simplification_reason_back not_inline = refl
-simplification_reason_back inlined_large = refl
-simplification_reason_back (bad_evidence why) = refl
+simplification_reason_back _ = refl
 
 abbrev coded_simplification_reason : Coded SimplificationReason
 coded_simplification_reason = code_by (ℕ ⊎ EvidenceReason) (coded⊎ coded_ℕ coded_evidence_reason) simplification_parts simplification_reason_of simplification_reason_back
@@ -245,24 +206,7 @@ rejection_of (inr (inr (inr (inr (inr (n, why)))))) = simplification_fails n why
 
 pub rejection_back : (r : Rejection) → rejection_of (rejection_parts r) ≡ r
 rejection_back (class_fails blame) = refl
-rejection_back (not_irreducible i k) = refl
-rejection_back (measure_fails why) = refl
-rejection_back (unraveling_large i) = refl
-rejection_back (pair_large i p j) = refl
-rejection_back too_many_pairs = refl
-rejection_back (pair_missing i p j) = refl
-rejection_back (pair_extra n) = refl
-rejection_back (evidence_fails n why) = refl
-rejection_back (foreign which) = refl
-rejection_back (first_bad bad) = refl
-rejection_back (second_bad bad) = refl
-rejection_back same_term = refl
-rejection_back (not_normal n p i) = refl
-rejection_back (redex_extra n) = refl
-rejection_back (redex_fails n why) = refl
-rejection_back caps_unify = refl
-rejection_back caps_large = refl
-rejection_back (simplification_fails n why) = refl
+rejection_back _ = refl
 
 abbrev pub coded_rejection : Coded Rejection
 coded_rejection =
