@@ -63,9 +63,9 @@ module _ (bytes : List ℕ) where
   pub here_or_later : {C : Type 0} (here : Option C) (first : ℕ) (later : Option (C × ℕ)) (cause : C) (at : ℕ)
       → first ≤ length bytes → (later ≡ Some (cause, at) → at ≤ length bytes) → first_or here first later ≡ Some (cause, at) → at ≤ length bytes
   here_or_later None first later cause at h further e = further e
-  here_or_later (Some c) first later cause at h further e =
-      let pair : (c, first) ≡ (cause, at) = cc in
-      subst (λ (n : ℕ). n ≤ length bytes) (ap (λ r. r.1) pair) h
+  here_or_later {C = C} (Some c) first later cause at h further e =
+      let pair : ◌≡◌ {A = C × ℕ} (c, first) (cause, at) = cc in
+      subst (λ (n : ℕ). n ≤ length bytes) (ap (λ (r : C × ℕ). r.1) pair) h
 
   -- the first refusal is at an event
   refusal_within : (block : List (List ℕ)) (typed : Bool) (front es : List Event) (cause : MeaningCause) (at : ℕ) → EventsWithin es → first_refusal block typed front es ≡ Some (cause, at)
