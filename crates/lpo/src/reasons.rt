@@ -18,6 +18,14 @@ use std::alloc::Global;
 use term_core::{Head, Rule, System};
 use unravel::{RuleError, UnravelError, rules_of_one};
 
+// The sum of a number and a count, which 32 bits hold.
+fn raised(number: u32, by: usize) -> u32
+    requires { number + by < 2 ^ 32 }
+    ensures { result ≡ number + by }
+{
+    number + by as u32
+}
+
 /// The reason that the entries give, while no symbol has a place.
 pub fn shape_reason(heads: &[Head], order: &[Head], places: &mut [u32]) -> Option<MeasureReason>
     requires sorted { IsSorted IsHeadBefore (map head_view heads.now) }
@@ -27,12 +35,12 @@ pub fn shape_reason(heads: &[Head], order: &[Head], places: &mut [u32]) -> Optio
 {
     if let Some(k) = place_all(heads, order, places) {
         return Some(MeasureReason::Shape {
-            entry: k as u32 + 1,
+            entry: raised(1, k),
         });
     }
     if is_one_missing(places) {
         return Some(MeasureReason::Shape {
-            entry: order.len() as u32 + 1,
+            entry: raised(1, order.len()),
         });
     }
     None
@@ -83,8 +91,8 @@ fn reason_of(
             Err(RuleError::NoMemory) => return Err(UnravelError::NoMemory),
         };
         reason = reason_with(reason, places, before, &unraveled);
-        before += unraveled.len() as u32;
-        symbol += rule.conds.len() as u32;
+        before = raised(before, unraveled.len());
+        symbol = raised(symbol, rule.conds.len());
     }
     Ok(reason)
 }

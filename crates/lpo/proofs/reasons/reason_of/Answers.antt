@@ -31,31 +31,16 @@ reason_with-reason-requires c =
     let few = c.requires.few in
     omega (arith, room, few)
 
-pub overflow_cast-before : goal.overflow_cast-before
-overflow_cast-before c =
+pub raised-before-requires : goal.raised-before-requires
+raised-before-requires c =
     let room = walk_room c.args.first c.args.rules.now c.args.shape c.args.places.now c.loop-i.i c.loop-i.symbol c.loop-i.before c.loop-i.reason c.index-rules-i.result
     c.in-Ok.unraveled.items c.loop-i.invariant c.loop-i-test.true c.index-rules-i.is c.in-Ok.ensures.0 in
     let count = c.len.ensures ∙ c.in-Ok.unraveled.ok.0 in
     let few = c.requires.few in
     omega (arith, room, count, few)
 
-pub overflow_add-before : goal.overflow_add-before
-overflow_add-before c =
-    let room = walk_room c.args.first c.args.rules.now c.args.shape c.args.places.now c.loop-i.i c.loop-i.symbol c.loop-i.before c.loop-i.reason c.index-rules-i.result
-    c.in-Ok.unraveled.items c.loop-i.invariant c.loop-i-test.true c.index-rules-i.is c.in-Ok.ensures.0 in
-    let count = c.len.ensures ∙ c.in-Ok.unraveled.ok.0 in
-    let few = c.requires.few in
-    omega (arith, room, count, few)
-
-pub overflow_cast-symbol : goal.overflow_cast-symbol
-overflow_cast-symbol c =
-    let room = front_room c.args.first c.args.rules.now c.loop-i.i c.loop-i.symbol c.index-rules-i.result c.loop-i.invariant.front c.loop-i-test.true c.index-rules-i.is in
-    let count = c.len-in-loop-i.ensures ∙ c.index-rules-i.result.conds.ok.0 in
-    let few = c.requires.symbols in
-    omega (arith, room, count, few)
-
-pub overflow_add-symbol : goal.overflow_add-symbol
-overflow_add-symbol c =
+pub raised-symbol-requires : goal.raised-symbol-requires
+raised-symbol-requires c =
     let room = front_room c.args.first c.args.rules.now c.loop-i.i c.loop-i.symbol c.index-rules-i.result c.loop-i.invariant.front c.loop-i-test.true c.index-rules-i.is in
     let count = c.len-in-loop-i.ensures ∙ c.index-rules-i.result.conds.ok.0 in
     let few = c.requires.symbols in
@@ -67,11 +52,13 @@ loop-i-preserved c =
     let next = walk_next c.args.first c.args.rules.now c.args.shape c.args.places.now c.loop-i.i c.loop-i.symbol c.loop-i.before c.loop-i.reason c.index-rules-i.result
     c.deref.result.now c.loop-i.invariant c.loop-i-test.true c.index-rules-i.is made
     c.reason_with-reason.result c.in-Ok.ensures.1 c.reason_with-reason.ensures in
-    let conditions : length c.index-rules-i.result.conds.items ≡ c.len-in-loop-i.result = omega (arith, (c.len-in-loop-i.ensures ∙ c.index-rules-i.result.conds.ok.0)) in
-    let rules : length c.deref.result.now ≡ c.len.result = omega (arith, (c.len.ensures ∙ c.in-Ok.unraveled.ok.0), ap length c.deref.ensures.value) in
-    subst (λ n. Walk c.args.first c.args.rules.now c.args.shape c.args.places.now (c.loop-i.i + 1) (c.loop-i.symbol + n) (c.loop-i.before + c.len.result) c.reason_with-reason.result) conditions
-    (subst (λ n. Walk c.args.first c.args.rules.now c.args.shape c.args.places.now (c.loop-i.i + 1) (c.loop-i.symbol + length c.index-rules-i.result.conds.items)
-    (c.loop-i.before + n) c.reason_with-reason.result) rules next)
+    let symbol : c.loop-i.symbol + length c.index-rules-i.result.conds.items ≡ c.raised-symbol.result =
+    omega (arith, c.raised-symbol.ensures, (c.len-in-loop-i.ensures ∙ c.index-rules-i.result.conds.ok.0)) in
+    let before : c.loop-i.before + length c.deref.result.now ≡ c.raised-before.result =
+    omega (arith, c.raised-before.ensures, (c.len.ensures ∙ c.in-Ok.unraveled.ok.0), ap length c.deref.ensures.value) in
+    subst (λ n. Walk c.args.first c.args.rules.now c.args.shape c.args.places.now (c.loop-i.i + 1) n c.raised-before.result c.reason_with-reason.result) symbol
+    (subst (λ n. Walk c.args.first c.args.rules.now c.args.shape c.args.places.now (c.loop-i.i + 1) (c.loop-i.symbol + length c.index-rules-i.result.conds.items) n
+    c.reason_with-reason.result) before next)
 
 pub returns : goal.returns
 returns c = walk_finish c.args.first c.args.rules.now c.args.shape c.args.places.now c.loop-i.i c.loop-i.symbol c.loop-i.before c.loop-i.reason c.loop-i.invariant c.loop-i-test.false
