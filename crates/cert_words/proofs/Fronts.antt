@@ -1,6 +1,6 @@
 -- Which lead stands at the front of bytes, and how far leads are read.
 use Rattle.cert_words.proofs.Prelude.{Lead, Mode, text, keyword, check, is_short, is_there, spelling, scan, is_word, mode_of, ends_lead, taken, longest, text_is, lead_there, found_there}
-use Rattle.cert_words.proofs.Prelude.{length-append, ◌++◌, ◌≡◌, ◌≤◌, ℕ, true, false, List, [], ◌∷◌, max, map, length, take, drop, refl, sym, ap, ◌∙◌}
+use Rattle.cert_words.proofs.Prelude.{length-append, ◌++◌, ◌≡◌, ◌≤◌, ℕ, true, false, List, [], ◌∷◌, max, map, length, get_or, take, drop, refl, sym, ap, ◌∙◌}
 use Rattle.cert_words.proofs.Prelude.{subst, arith, false_from_ne_true, drop-append_seam, take-append_seam, bare, IsLeadRead, IsScanned}
 use Rattle.cert_grammar.specs.FirstRefusal.{ends_here}
 use Rattle.cert_grammar.proofs.ScanLaws.{IsWordOf, spelling_whole}
@@ -43,5 +43,7 @@ not_ended w bytes rest e f = not_front (keyword w [] []) w bytes refl (λ r g t.
     absurd cc)
 
 -- a byte at the front
-pub check_front : (b : ℕ) (bytes rest : List ℕ) → bytes ≡ b ∷ rest → IsLeadRead (check (is_short 0) b []) bytes [] bytes
-check_front b bytes rest e = record { there = (spelt_front (text (b ∷ []) []) (b ∷ []) bytes rest refl refl refl e).there; word = refl; rest = refl; within = omega arith }
+pub check_front : (b : ℕ) (bytes : List ℕ) → 1 ≤ length bytes → get_or bytes 0 0 ≡ b → IsLeadRead (check (is_short 0) b []) bytes [] bytes
+check_front b [] l e = absurd (omega (arith, l))
+check_front b (a ∷ rest) l e =
+    record { there = (spelt_front (text (b ∷ []) []) (b ∷ []) (a ∷ rest) rest refl refl refl (ap (λ (x : ℕ). x ∷ rest) e)).there; word = refl; rest = refl; within = omega arith }

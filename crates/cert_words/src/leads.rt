@@ -62,9 +62,9 @@ pub fn front(lead: Lead, left: &[u8]) -> Option<(&[u8], &[u8])>
             Some(rest) if ends_here(rest) => Some((word, rest)),
             _ => None,
         },
-        Lead::Check(b) => match behind(left, &[b]) {
-            Some(_) => Some((b"", left)),
-            None => None,
+        Lead::Check(b) => match left {
+            [a, ..] if *a == b => Some((b"", left)),
+            _ => None,
         },
         Lead::Number | Lead::Position | Lead::Variable | Lead::Name => whole(lead, left),
     }

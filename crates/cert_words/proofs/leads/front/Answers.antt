@@ -19,5 +19,5 @@ returns-in_default c = rw c.in-Keyword.is (elim c.in_default.branch [
   | in_default-via-in_default w ↦ not_front (keyword c.in-Keyword.word.now [] []) c.in-Keyword.word.now c.args.left.now refl (λ rest e t. w.in_default.ensures rest e)
 ])
 
-pub returns-in-Some-behind-2 : goal.returns-in-Some-behind-2
-returns-in-Some-behind-2 c = rw c.in-Check.is (check_front c.in-Check.b c.args.left.now c.in-Some-behind-2.field-0.now c.in-Some-behind-2.ensures)
+pub returns-in-len1-up : goal.returns-in-len1-up
+returns-in-len1-up c = rw c.in-Check.is (check_front c.in-Check.b c.args.left.now c.in-len1-up.len_at_least c.if-a-b.true)
