@@ -6,5 +6,4 @@ pub mod Joins
 pub mod Measures
 pub mod Quasi
 pub mod Reducts
-pub mod MappedMeasures
 pub mod PrunedMeasures
