@@ -1,5 +1,5 @@
 -- One turn of the walk, over the entries that the program holds.
-use Rattle.std.proofs.Common.{ℕ, ◌≡◌, ◌<◌, List, [], ◌∷◌, ◌++◌, map, length, get_or, slice_get, option_map, Some, Ok, inl, inr, true, false, refl, sym, ap, ◌∙◌, subst, arith}
+use Rattle.std.proofs.Common.{ℕ, ◌≡◌, ◌<◌, List, [], ◌∷◌, ◌++◌, map, length, get_or, slice_get, option_map, Some, Ok, true, false, refl, sym, ap, ◌∙◌, subst, arith}
 use Rattle.std.proofs.lemmas.List.{length-map, map_push}
 use Rattle.std.proofs.lemmas.Option.{slice_get-map, slice_get-get_or}
 use Rattle.rewriting.specs.Prelude.{System, Head, heads, unraveled, IsSystem}
@@ -15,15 +15,12 @@ use Rattle.measure.specs.declared.Partial.{Partial}
 use Rattle.measure.specs.declared.Partial.TheVariants.{Unknown}
 use Rattle.grid_search.specs.Prefix.{PrefixAnswers}
 use Rattle.grid_search.proofs.Prefixes.{whole_prefix_good}
-use Rattle.cc_count.specs.Counts.{Counts}
-use Rattle.grid_search.specs.declared.walk.Seen.{Seen}
-use Rattle.grid_search.specs.declared.walk.Seen.TheVariants.{Good}
 use Rattle.cert_model.specs.CertificateView.{linear_entry_view}
 use Rattle.cert_model.specs.declared.model.LinearEntry.{LinearEntry}
 use Rattle.measure_grid.specs.Dead.{IsDead}
 use Rattle.measure_grid.specs.Pruned.{IsPrunedBarren}
 use Rattle.grid_search.specs.Columns.{IsFirstOf, AdvanceAnswers}
-use Rattle.grid_search.specs.Walks.{HasComeTo, HasDoneWith, HasOneMore, PaidAnswers, VisitAnswers}
+use Rattle.grid_search.specs.Walks.{HasComeTo, HasDoneWith, HasOneMore}
 use Rattle.grid_search.proofs.Walking.{go_across, go_up, all_done, is_prefix}
 
 abbrev views : List LinearEntry → Interpretation
@@ -55,11 +52,6 @@ module _ (start now : List LinearEntry) (done : (sys : System) (n : ℕ) → Has
 pub unknown_alive : (sys : System) (es : Interpretation) (p : Partial) → p ≡ Unknown → PrefixAnswers sys es (Ok p) → IsDead sys es → ⊥
 unknown_alive sys es p is h = subst (λ (z : Partial). PrefixAnswers sys es (Ok z)) is h
 
-paid_good : (sys : System) (es : Interpretation) (before after : Counts) (r : Seen) → length es ≡ length (heads sys) → IsInterpretationJudged sys es good → PaidAnswers before Good after r
-    → VisitAnswers sys es before after (Ok r)
-paid_good sys es before after r whole judged (inl (is, spent)) = subst (λ (z : Seen). VisitAnswers sys es before after (Ok z)) (sym is) (whole, judged, spent)
-paid_good sys es before after r whole judged (inr (is, none, same)) = subst (λ (z : Seen). VisitAnswers sys es before after (Ok z)) (sym is) (inr whole, none, same)
-
 module _ (sys : System) (es : List LinearEntry) (hs : List program.Head) (are : map head_view hs ≡ heads sys) where
   views_many : length (views es) ≡ length es
   views_many = length-map es linear_entry_view
@@ -70,16 +62,15 @@ module _ (sys : System) (es : List LinearEntry) (hs : List program.Head) (are : 
   pub some_left : (n : ℕ) → HasComeTo sys (views es) n → (length es ≡ length hs → ⊥) → length (views es) < length (heads sys)
   some_left n w not_all = let few = (is_prefix sys (views es) n w).few in let a = views_many in let b = heads_many in omega (arith, few, a, b, not_all)
 
-  pub none_further : length es ≡ length hs → length (views es) ≡ length (heads sys)
+  none_further : length es ≡ length hs → length (views es) ≡ length (heads sys)
   none_further all = let a = views_many in let b = heads_many in omega (arith, all, a, b)
 
-  -- a whole prefix that is not dead, and the unit that is taken for it
+  -- a whole prefix that is not dead
   pub good_seen : (n : ℕ) → HasComeTo sys (views es) n → IsSystem sys → DoesUnravelingFit sys → (p : Partial) → p ≡ Unknown → PrefixAnswers sys (views es) (Ok p) → length es ≡ length hs
-      → (before after : Counts) (r : Seen) → PaidAnswers before Good after r → VisitAnswers sys (views es) before after (Ok r)
-  good_seen n w sound fits p is answer all before after r paid =
+      → (length (views es) ≡ length (heads sys)) × IsInterpretationJudged sys (views es) good
+  good_seen n w sound fits p is answer all =
       let whole = none_further all in
-      paid_good sys (views es) before after r whole
-      (whole_prefix_good sys (views es) (well_formed sys sound) fits (is_prefix sys (views es) n w) whole (unknown_alive sys (views es) p is answer)) paid
+      (whole, whole_prefix_good sys (views es) (well_formed sys sound) fits (is_prefix sys (views es) n w) whole (unknown_alive sys (views es) p is answer))
 
   -- one symbol further
   pub within_arities : (ns : List ℕ) (k : ℕ) → ns ≡ (unraveled sys).arities → k ≡ length es → length es < length (heads sys) → k < length ns

@@ -12,11 +12,9 @@ use Rattle.grid_search.specs.declared.walk.Seen.{Seen}
 use Rattle.grid_search.proofs.Walking.{done_with_dead}
 
 -- what is seen of the entries that the walk holds
-pub seen : (sys : System) (before after : Counts) (es held : List LinearEntry) (r s : Seen) → es ≡ held → r ≡ s → VisitAnswers sys (map linear_entry_view es) before after (Ok r)
-    → VisitAnswers sys (map linear_entry_view held) before after (Ok s)
-seen sys before after es held r s same is h =
-    subst (λ (z : Seen). VisitAnswers sys (map linear_entry_view held) before after (Ok z)) is
-    (subst (λ (z : List LinearEntry). VisitAnswers sys (map linear_entry_view z) before after (Ok r)) same h)
+pub seen : (sys : System) (es held : List LinearEntry) (r s : Seen) → es ≡ held → r ≡ s → VisitAnswers sys (map linear_entry_view es) (Ok r) → VisitAnswers sys (map linear_entry_view held) (Ok s)
+seen sys es held r s same is h =
+    subst (λ (z : Seen). VisitAnswers sys (map linear_entry_view held) (Ok z)) is (subst (λ (z : List LinearEntry). VisitAnswers sys (map linear_entry_view z) (Ok r)) same h)
 
 -- the walk came to these entries for what was paid
 abbrev pub HasPaidTo : System → Counts → Counts → Interpretation → Type 0

@@ -1,5 +1,5 @@
 -- Where a walk through the pruned grid stands.
-use Rattle.std.specs.Prelude.{ℕ, ◌≡◌, ◌+◌, ◌<◌, ◌⊎◌, List, [], ◌∷◌, ◌++◌, length, slice_get, Some, Bool, true, false, Result, Ok, Err}
+use Rattle.std.specs.Prelude.{ℕ, ◌≡◌, ◌+◌, ◌<◌, List, [], ◌∷◌, ◌++◌, length, slice_get, Some, Bool, true, false, Result, Ok, Err}
 use Rattle.rewriting.specs.Prelude.{System, Head, heads, unraveled}
 use Rattle.certificates.specs.Certificates.{LinearEntry}
 use Rattle.interpretations.specs.Linear.{Interpretation}
@@ -8,13 +8,12 @@ use Rattle.interpretations.specs.Judged.{IsInterpretationJudged}
 use Rattle.first_found.specs.Trees.{IsBarrenBelow}
 use Rattle.first_found.specs.Paths.{HasWalked}
 use Rattle.term_core.specs.declared.terms.NoMemory.{NoMemory}
-use Rattle.cc_count.specs.Counts.{Counts, Spends}
 use Rattle.measure_grid.specs.Grid.{columns}
 use Rattle.measure_grid.specs.Dead.{IsDead}
 use Rattle.measure_grid.specs.Pruned.{extensions, IsDeadPrefix, PrefixGives, start, IsPrunedBarren}
 use Rattle.grid_search.specs.Columns.{IsFirstOf}
 use Rattle.grid_search.specs.declared.walk.Seen.{Seen}
-use Rattle.grid_search.specs.declared.walk.Seen.TheVariants.{Alive, Dead, Good, Unpaid}
+use Rattle.grid_search.specs.declared.walk.Seen.TheVariants.{Alive, Dead, Good}
 
 -- the walk came to these entries, tried nothing that begins with them, and paid n; so many columns are behind
 abbrev pub StandsAt : System → List (List LinearEntry) → Interpretation → ℕ → Type 0
@@ -48,14 +47,9 @@ pub record HasOneMore (sys : System) (before after : Interpretation) : Type 0 wh
   pub is_first : IsFirstOf head arity entry
   pub last : after ≡ before ++ entry ∷ []
 
--- a unit is paid for what is seen, or none is left
-abbrev pub PaidAnswers : Counts → Seen → Counts → Seen → Type 0
-PaidAnswers before seen after result = ((result ≡ seen) × Spends before 1 after) ⊎ ((result ≡ Unpaid) × (before.left ≡ 0) × (after ≡ before))
-
--- a unit is paid for what is dead or a good interpretation
-abbrev pub VisitAnswers : System → Interpretation → Counts → Counts → Result Seen NoMemory → Type 0
-VisitAnswers sys es before after (Ok Alive) = (IsDead sys es → ⊥) × (length es < length (heads sys)) × (after ≡ before)
-VisitAnswers sys es before after (Ok Dead) = IsDead sys es × Spends before 1 after
-VisitAnswers sys es before after (Ok Good) = (length es ≡ length (heads sys)) × IsInterpretationJudged sys es good × Spends before 1 after
-VisitAnswers sys es before after (Ok Unpaid) = (IsDead sys es ⊎ (length es ≡ length (heads sys))) × (before.left ≡ 0) × (after ≡ before)
-VisitAnswers sys es before after (Err e) = after ≡ before
+-- dead entries, a good interpretation, or entries that are neither
+abbrev pub VisitAnswers : System → Interpretation → Result Seen NoMemory → Type 0
+VisitAnswers sys es (Ok Alive) = (IsDead sys es → ⊥) × (length es < length (heads sys))
+VisitAnswers sys es (Ok Dead) = IsDead sys es
+VisitAnswers sys es (Ok Good) = (length es ≡ length (heads sys)) × IsInterpretationJudged sys es good
+VisitAnswers sys es (Err e) = Unit {0}

@@ -5,7 +5,7 @@ ghost use Rattle.rewriting.specs.Unraveling.{heads};
 ghost use Rattle.cert_model.specs.CertificateView.{linear_entry_view};
 ghost use Rattle.cc_count.specs.Counts.{Spends};
 ghost use Rattle.grid_search.specs.Answers.{GridAnswers};
-ghost use Rattle.grid_search.specs.Walks.{HasComeTo, HasDoneWith, GoesOn, HasOneMore, PaidAnswers, VisitAnswers};
+ghost use Rattle.grid_search.specs.Walks.{HasComeTo, HasDoneWith, GoesOn, HasOneMore, VisitAnswers};
 
 use crate::PrefixJudge;
 use crate::entries::{advance, first_entry};
@@ -20,36 +20,22 @@ use term_core::NoMemory;
 enum Seen {
     /// Good interpretations may begin with them.
     Alive,
-    /// None does; a unit was paid.
+    /// None does.
     Dead,
-    /// They are a good interpretation; a unit was paid.
+    /// They are a good interpretation.
     Good,
-    /// There is a unit to pay, and none is left.
-    Unpaid,
-}
-
-// Takes a unit for what is seen.
-fn paid(budget: &mut Budget, seen: Seen) -> Seen
-    ensures { PaidAnswers budget.old seen budget.new result }
-{
-    if budget.take() { seen } else { Seen::Unpaid }
 }
 
 // Looks at the entries to which the walk has come.
-fn visit(
-    alloc: Global,
-    judge: &PrefixJudge<'_>,
-    prefix: &[LinearEntry],
-    budget: &mut Budget,
-) -> Result<Seen, NoMemory>
+fn visit(alloc: Global, judge: &PrefixJudge<'_>, prefix: &[LinearEntry]) -> Result<Seen, NoMemory>
     requires { (n : ℕ) × HasComeTo judge.now (map linear_entry_view prefix.now) n }
-    ensures { VisitAnswers judge.now (map linear_entry_view prefix.now) budget.old budget.new result }
+    ensures { VisitAnswers judge.now (map linear_entry_view prefix.now) result }
 {
     let whole = prefix.len() == judge.heads().len();
     match judge.judge_last(alloc, prefix)? {
         Partial::Unknown if !whole => Ok(Seen::Alive),
-        Partial::Unknown => Ok(paid(budget, Seen::Good)),
-        Partial::Dead => Ok(paid(budget, Seen::Dead)),
+        Partial::Unknown => Ok(Seen::Good),
+        Partial::Dead => Ok(Seen::Dead),
     }
 }
 
@@ -94,15 +80,22 @@ pub(crate) fn walk_grid(
     let mut prefix = Vec::new(alloc);
     // Each visit goes down by a symbol or takes a unit.
     'visits: loop {
-        match visit(alloc, judge, &prefix, budget)? {
+        match visit(alloc, judge, &prefix)? {
             Seen::Alive => go_down(alloc, judge, &mut prefix)?,
             Seen::Dead => {
+                if !budget.take() {
+                    return Ok(Sought::Spent);
+                }
                 if !go_on(&mut prefix)? {
                     return Ok(Sought::Nothing);
                 }
             }
-            Seen::Good => return Ok(Sought::Found(Linear { entries: prefix })),
-            Seen::Unpaid => return Ok(Sought::Spent),
+            Seen::Good => {
+                if !budget.take() {
+                    return Ok(Sought::Spent);
+                }
+                return Ok(Sought::Found(Linear { entries: prefix }));
+            }
         }
     }
 }

@@ -1,4 +1,4 @@
-use Rattle.std.proofs.Common.{map, refl}
+use Rattle.std.proofs.Common.{map}
 use Rattle.cert_model.specs.CertificateView.{linear_entry_view}
 use Rattle.grid_search.proofs.Walking.{is_prefix, is_alive_before}
 use Rattle.grid_search.proofs.Standing.{unknown_alive, some_left, good_seen}
@@ -14,11 +14,10 @@ pub returns-in-Unknown : goal.returns-in-Unknown
 returns-in-Unknown c = (
   unknown_alive c.args.judge.now (map linear_entry_view c.args.prefix.now) c.in_ok-judge_last.field-0 c.in-Unknown.is c.in_ok-judge_last.ensures,
   some_left c.args.judge.now c.args.prefix.now c.heads.result.now c.heads.ensures.heads c.requires.0 c.requires.1 c.if-not-whole.true,
-  refl,
 )
 
 pub returns-in-Unknown-2 : goal.returns-in-Unknown-2
 returns-in-Unknown-2 c =
     good_seen c.args.judge.now c.args.prefix.now c.heads.result.now c.heads.ensures.heads c.requires.0 c.requires.1 c.heads.ensures.sound c.heads.ensures.fits
     c.in_ok-judge_last.field-0 c.in-Unknown.is c.in_ok-judge_last.ensures
-    c.if-not-whole.false c.args.budget.now c.paid.new.budget c.paid.result c.paid.ensures
+    c.if-not-whole.false
