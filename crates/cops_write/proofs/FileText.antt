@@ -132,10 +132,10 @@ last_block rs ws e =
     let c = next_fixed p.rest right [] tt p.left in
     record {
       at = n.name.at;
-      trees = p.trees;
+      trees = p.tree;
       split = o.split ∙ ap (λ (w : List Word). left_paren ∷ w) (n.split ∙ titled n.name (codes "RULES") n.rest n.same
           ∙ ap (λ (w : List Word). id (record { at = n.name.at; text = codes "RULES" }) ∷ w)
-          (p.split ∙ ap (λ (w : List Word). spelled_rules p.trees ++ w) (c.split ∙ ap (λ (w : List Word). right_paren ∷ w) (no_words c.rest c.left))));
+          (p.split ∙ ap (λ (w : List Word). spelled_rules p.tree ++ w) (c.split ∙ ap (λ (w : List Word). right_paren ∷ w) (no_words c.rest c.left))));
       alike = p.alike;
     }
 

@@ -33,12 +33,7 @@ Have ws ls = map bare ws ≡ map word_for ls
 
 bare_kind : (k : Kind) (n : Name) → bare (word_of_kind k n) ≡ word_of_kind k (nowhere n.text)
 bare_kind Id n = refl
-bare_kind LeftParen n = refl
-bare_kind RightParen n = refl
-bare_kind Comma n = refl
-bare_kind Bar n = refl
-bare_kind Arrow n = refl
-bare_kind Equal n = refl
+bare_kind _ n = refl
 
 pub words_have : (bytes : List ℕ) (ts : List Token) → Have (words_of bytes ts) (lexemes_of bytes ts)
 words_have bytes [] = refl
@@ -57,16 +52,10 @@ pub record NextName (ws : List Word) (s : List ℕ) (ls : List Lexeme) : Type 0 
   pub left : Have rest ls
 
 pub next_name : (ws : List Word) (s : List ℕ) (ls : List Lexeme) → Have ws (lexeme Id s ∷ ls) → NextName ws s ls
-next_name [] s ls e = absurd (cc)
 next_name (id n ∷ ws) s ls e =
     let both : nowhere n.text ≡ nowhere s = cc in
     record { name = n; rest = ws; split = refl; same = sym (ap (λ (m : Name). m.text) both); left = cc }
-next_name (left_paren ∷ ws) s ls e = absurd (cc)
-next_name (right_paren ∷ ws) s ls e = absurd (cc)
-next_name (comma ∷ ws) s ls e = absurd (cc)
-next_name (bar at ∷ ws) s ls e = absurd (cc)
-next_name (arrow ∷ ws) s ls e = absurd (cc)
-next_name (equal ∷ ws) s ls e = absurd (cc)
+next_name _ s ls e = absurd (cc)
 
 record NextBar (ws : List Word) (ls : List Lexeme) : Type 0 where
   at : ℕ
@@ -75,32 +64,18 @@ record NextBar (ws : List Word) (ls : List Lexeme) : Type 0 where
   left : Have rest ls
 
 next_bar : (ws : List Word) (ls : List Lexeme) → Have ws (lexeme Bar (124 ∷ []) ∷ ls) → NextBar ws ls
-next_bar [] ls e = absurd (cc)
-next_bar (id n ∷ ws) ls e = absurd (cc)
-next_bar (left_paren ∷ ws) ls e = absurd (cc)
-next_bar (right_paren ∷ ws) ls e = absurd (cc)
-next_bar (comma ∷ ws) ls e = absurd (cc)
 next_bar (bar at ∷ ws) ls e = record { at = at; rest = ws; split = refl; left = cc }
-next_bar (arrow ∷ ws) ls e = absurd (cc)
-next_bar (equal ∷ ws) ls e = absurd (cc)
+next_bar _ ls e = absurd (cc)
 
 abbrev pub IsFixed : Word → Type 0
 IsFixed (id n) = ⊥
-IsFixed left_paren = Unit {0}
-IsFixed right_paren = Unit {0}
-IsFixed comma = Unit {0}
 IsFixed (bar at) = ⊥
-IsFixed arrow = Unit {0}
-IsFixed equal = Unit {0}
+IsFixed _ = Unit {0}
 
 is_fixed : (w v : Word) → IsFixed v → bare w ≡ v → w ≡ v
 is_fixed (id n) v h e = absurd (subst IsFixed (sym e) h)
-is_fixed left_paren v h e = e
-is_fixed right_paren v h e = e
-is_fixed comma v h e = e
 is_fixed (bar at) v h e = absurd (subst IsFixed (sym e) h)
-is_fixed arrow v h e = e
-is_fixed equal v h e = e
+is_fixed _ v h e = e
 
 pub record NextFixed (ws : List Word) (v : Word) (ls : List Lexeme) : Type 0 where
   pub rest : List Word
@@ -114,14 +89,15 @@ next_fixed (w ∷ ws) l ls h e =
     let rest : Have ws ls = cc in
     record { rest = ws; split = ap (λ (v : Word). v ∷ ws) (is_fixed w (word_for l) h here); left = rest }
 
--- ---- a term
+-- the words begin with the spelling of a tree that is alike, and the others have the tokens
+pub record Placed (Tree : Type 0) (spell : Tree → List Word) (IsLike : Tree → Type 0) (ws : List Word) (ls : List Lexeme) : Type 0 where
+  pub tree : Tree
+  pub rest : List Word
+  pub split : ws ≡ spell tree ++ rest
+  pub left : Have rest ls
+  pub alike : IsLike tree
 
-record Placed (p : Phrase) (ws : List Word) (ls : List Lexeme) : Type 0 where
-  phrase : Phrase
-  rest : List Word
-  split : ws ≡ spelled phrase ++ rest
-  left : Have rest ls
-  alike : Alike p phrase
+-- ---- a term
 
 -- behind an identifier
 record PlacedBehind (n : Name) (ts : Phrases) (ws : List Word) (ls : List Lexeme) : Type 0 where
@@ -139,14 +115,14 @@ record PlacedFurther (ts : Phrases) (ws : List Word) (ls : List Lexeme) : Type 0
   alike : AreAlike ts phrases
 
 mutual
-  placed : (p : Phrase) (ws : List Word) (ls : List Lexeme) → Have ws (text_tokens p ls) → Placed p ws ls
+  placed : (p : Phrase) (ws : List Word) (ls : List Lexeme) → Have ws (text_tokens p ls) → Placed Phrase spelled (Alike p) ws ls
   placed (word f) ws ls e =
       let n = next_name ws f.text ls e in
-      record { phrase = word n.name; rest = n.rest; split = n.split; left = n.left; alike = n.same }
+      record { tree = word n.name; rest = n.rest; split = n.split; left = n.left; alike = n.same }
   placed (call f ts) ws ls e =
       let n = next_name ws f.text (arguments_tokens ts ls) e in
       let b = placed_arguments n.name ts n.rest ls n.left in
-      record { phrase = b.phrase; rest = b.rest; split = n.split ∙ b.split; left = b.left; alike = b.alike f n.same }
+      record { tree = b.phrase; rest = b.rest; split = n.split ∙ b.split; left = b.left; alike = b.alike f n.same }
 
   placed_arguments : (n : Name) (ts : Phrases) (ws : List Word) (ls : List Lexeme) → Have ws (arguments_tokens ts ls) → PlacedBehind n ts ws ls
   placed_arguments n none ws ls e = record { phrase = word n; rest = ws; split = refl; left = e; alike = λ f same. (same, refl) }
@@ -155,10 +131,10 @@ mutual
       let a = placed t o.rest (further_tokens ts ls) o.left in
       let b = placed_further ts a.rest ls a.left in
       record {
-        phrase = call n (more a.phrase b.phrases);
+        phrase = call n (more a.tree b.phrases);
         rest = b.rest;
-        split = ap (λ (w : List Word). id n ∷ w) (o.split ∙ ap (λ (w : List Word). left_paren ∷ w) (a.split ∙ ap (λ (w : List Word). spelled a.phrase ++ w) b.split
-            ∙ sym (append_assoc (spelled a.phrase) (spelled_further b.phrases) (right_paren ∷ b.rest)) ∙ sym (append_assoc (spelled a.phrase ++ spelled_further b.phrases) (right_paren ∷ []) b.rest)));
+        split = ap (λ (w : List Word). id n ∷ w) (o.split ∙ ap (λ (w : List Word). left_paren ∷ w) (a.split ∙ ap (λ (w : List Word). spelled a.tree ++ w) b.split
+            ∙ sym (append_assoc (spelled a.tree) (spelled_further b.phrases) (right_paren ∷ b.rest)) ∙ sym (append_assoc (spelled a.tree ++ spelled_further b.phrases) (right_paren ∷ []) b.rest)));
         left = b.left;
         alike = λ f same. (same, (a.alike, b.alike));
       }
@@ -172,107 +148,80 @@ mutual
       let a = placed t o.rest (further_tokens ts ls) o.left in
       let b = placed_further ts a.rest ls a.left in
       record {
-        phrases = more a.phrase b.phrases;
+        phrases = more a.tree b.phrases;
         rest = b.rest;
-        split = o.split ∙ ap (λ (w : List Word). comma ∷ w) (a.split ∙ ap (λ (w : List Word). spelled a.phrase ++ w) b.split
-            ∙ sym (append_assoc (spelled a.phrase) (spelled_further b.phrases) (right_paren ∷ b.rest)));
+        split = o.split ∙ ap (λ (w : List Word). comma ∷ w) (a.split ∙ ap (λ (w : List Word). spelled a.tree ++ w) b.split
+            ∙ sym (append_assoc (spelled a.tree) (spelled_further b.phrases) (right_paren ∷ b.rest)));
         left = b.left;
         alike = (a.alike, b.alike);
       }
 
 -- ---- conditions and rules
 
-record PlacedCondition (c : ConditionTree) (ws : List Word) (ls : List Lexeme) : Type 0 where
-  tree : ConditionTree
-  rest : List Word
-  split : ws ≡ spelled_condition tree ++ rest
-  left : Have rest ls
-  alike : Alike c.left tree.left × Alike c.right tree.right
-
-placed_condition : (c : ConditionTree) (ws : List Word) (ls : List Lexeme) → Have ws (condition_tokens c ls) → PlacedCondition c ws ls
+placed_condition : (c : ConditionTree) (ws : List Word) (ls : List Lexeme) → Have ws (condition_tokens c ls)
+    → Placed ConditionTree spelled_condition (λ t. Alike c.left t.left × Alike c.right t.right) ws ls
 placed_condition c ws ls e =
     let a = placed c.left ws (lexeme Equal (61 ∷ 61 ∷ []) ∷ text_tokens c.right ls) e in
     let o = next_fixed a.rest (lexeme Equal (61 ∷ 61 ∷ [])) (text_tokens c.right ls) tt a.left in
     let b = placed c.right o.rest ls o.left in
     record {
-      tree = record { left = a.phrase; right = b.phrase };
+      tree = record { left = a.tree; right = b.tree };
       rest = b.rest;
-      split = a.split ∙ ap (λ (w : List Word). spelled a.phrase ++ w) (o.split ∙ ap (λ (w : List Word). equal ∷ w) b.split) ∙ sym (append_assoc (spelled a.phrase) (equal ∷ spelled b.phrase) b.rest);
+      split = a.split ∙ ap (λ (w : List Word). spelled a.tree ++ w) (o.split ∙ ap (λ (w : List Word). equal ∷ w) b.split) ∙ sym (append_assoc (spelled a.tree) (equal ∷ spelled b.tree) b.rest);
       left = b.left;
       alike = (a.alike, b.alike);
     }
 
-record PlacedOthers (cs : List ConditionTree) (ws : List Word) (ls : List Lexeme) : Type 0 where
-  trees : List ConditionTree
-  rest : List Word
-  split : ws ≡ spelled_others trees ++ rest
-  left : Have rest ls
-  alike : ConditionsAlike cs trees
-
-placed_others : (cs : List ConditionTree) (ws : List Word) (ls : List Lexeme) → Have ws (others_tokens cs ls) → PlacedOthers cs ws ls
-placed_others [] ws ls e = record { trees = []; rest = ws; split = refl; left = e; alike = tt }
+placed_others : (cs : List ConditionTree) (ws : List Word) (ls : List Lexeme) → Have ws (others_tokens cs ls) → Placed (List ConditionTree) spelled_others (ConditionsAlike cs) ws ls
+placed_others [] ws ls e = record { tree = []; rest = ws; split = refl; left = e; alike = tt }
 placed_others (c ∷ cs) ws ls e =
     let o = next_fixed ws (lexeme Comma (44 ∷ [])) (condition_tokens c (others_tokens cs ls)) tt e in
     let a = placed_condition c o.rest (others_tokens cs ls) o.left in
     let b = placed_others cs a.rest ls a.left in
     record {
-      trees = a.tree ∷ b.trees;
+      tree = a.tree ∷ b.tree;
       rest = b.rest;
       split = o.split ∙ ap (λ (w : List Word). comma ∷ w) (a.split ∙ ap (λ (w : List Word). spelled_condition a.tree ++ w) b.split
-          ∙ sym (append_assoc (spelled_condition a.tree) (spelled_others b.trees) b.rest));
+          ∙ sym (append_assoc (spelled_condition a.tree) (spelled_others b.tree) b.rest));
       left = b.left;
       alike = (a.alike.0, a.alike.1, b.alike);
     }
 
-record PlacedGuard (g : Option Guard) (ws : List Word) (ls : List Lexeme) : Type 0 where
-  guard : Option Guard
-  rest : List Word
-  split : ws ≡ spelled_guard guard ++ rest
-  left : Have rest ls
-  alike : GuardsAlike g guard
-
-placed_guard : (g : Option Guard) (ws : List Word) (ls : List Lexeme) → Have ws (guarded_tokens g ls) → PlacedGuard g ws ls
-placed_guard None ws ls e = record { guard = None; rest = ws; split = refl; left = e; alike = tt }
+placed_guard : (g : Option Guard) (ws : List Word) (ls : List Lexeme) → Have ws (guarded_tokens g ls) → Placed (Option Guard) spelled_guard (GuardsAlike g) ws ls
+placed_guard None ws ls e = record { tree = None; rest = ws; split = refl; left = e; alike = tt }
 placed_guard (Some g) ws ls e =
     let o = next_bar ws (condition_tokens g.first (others_tokens g.others ls)) e in
     let a = placed_condition g.first o.rest (others_tokens g.others ls) o.left in
     let b = placed_others g.others a.rest ls a.left in
     record {
-      guard = Some record { at = o.at; first = a.tree; others = b.trees };
+      tree = Some record { at = o.at; first = a.tree; others = b.tree };
       rest = b.rest;
       split = o.split ∙ ap (λ (w : List Word). bar o.at ∷ w) (a.split ∙ ap (λ (w : List Word). spelled_condition a.tree ++ w) b.split
-          ∙ sym (append_assoc (spelled_condition a.tree) (spelled_others b.trees) b.rest));
+          ∙ sym (append_assoc (spelled_condition a.tree) (spelled_others b.tree) b.rest));
       left = b.left;
       alike = (a.alike.0, a.alike.1, b.alike);
     }
 
-pub record PlacedRules (rs : List RuleTree) (ws : List Word) (ls : List Lexeme) : Type 0 where
-  pub trees : List RuleTree
-  pub rest : List Word
-  pub split : ws ≡ spelled_rules trees ++ rest
-  pub left : Have rest ls
-  pub alike : RulesAlike rs trees
-
-pub placed_rules : (rs : List RuleTree) (ws : List Word) (ls : List Lexeme) → Have ws (rules_tokens rs ls) → PlacedRules rs ws ls
-placed_rules [] ws ls e = record { trees = []; rest = ws; split = refl; left = e; alike = tt }
+pub placed_rules : (rs : List RuleTree) (ws : List Word) (ls : List Lexeme) → Have ws (rules_tokens rs ls) → Placed (List RuleTree) spelled_rules (RulesAlike rs) ws ls
+placed_rules [] ws ls e = record { tree = []; rest = ws; split = refl; left = e; alike = tt }
 placed_rules (r ∷ rs) ws ls e =
     let later = rules_tokens rs ls in
     let a = placed r.left ws (lexeme Arrow (45 ∷ 62 ∷ []) ∷ text_tokens r.right (guarded_tokens r.guard later)) e in
     let o = next_fixed a.rest (lexeme Arrow (45 ∷ 62 ∷ [])) (text_tokens r.right (guarded_tokens r.guard later)) tt a.left in
     let b = placed r.right o.rest (guarded_tokens r.guard later) o.left in
     let g = placed_guard r.guard b.rest later b.left in
-    let t : RuleTree = record { left = a.phrase; right = b.phrase; guard = g.guard } in
+    let t : RuleTree = record { left = a.tree; right = b.tree; guard = g.tree } in
     let c = placed_rules rs g.rest ls g.left in
     record {
-      trees = t ∷ c.trees;
+      tree = t ∷ c.tree;
       rest = c.rest;
       split = a.split
-          ∙ ap (λ (w : List Word). spelled a.phrase ++ w)
-          (o.split ∙ ap (λ (w : List Word). arrow ∷ w) (b.split ∙ ap (λ (w : List Word). spelled b.phrase ++ w) g.split
-          ∙ sym (append_assoc (spelled b.phrase) (spelled_guard g.guard) g.rest)))
-          ∙ sym (append_assoc (spelled a.phrase) (arrow ∷ (spelled b.phrase ++ spelled_guard g.guard)) g.rest)
+          ∙ ap (λ (w : List Word). spelled a.tree ++ w)
+          (o.split ∙ ap (λ (w : List Word). arrow ∷ w) (b.split ∙ ap (λ (w : List Word). spelled b.tree ++ w) g.split
+          ∙ sym (append_assoc (spelled b.tree) (spelled_guard g.tree) g.rest)))
+          ∙ sym (append_assoc (spelled a.tree) (arrow ∷ (spelled b.tree ++ spelled_guard g.tree)) g.rest)
           ∙ ap (λ (w : List Word). spelled_rule t ++ w) c.split
-          ∙ sym (append_assoc (spelled_rule t) (spelled_rules c.trees) c.rest);
+          ∙ sym (append_assoc (spelled_rule t) (spelled_rules c.tree) c.rest);
       left = c.left;
       alike = (a.alike, b.alike, g.alike, c.alike);
     }
