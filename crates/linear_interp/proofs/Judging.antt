@@ -92,12 +92,8 @@ decided es r number left right result ready pl pr d = by_result result d
         (h.0, (bounded, omega (arith, a, b, c), λ y less. kept_at y (h.1.2 y less) (omega (arith, less, lt))))
     by_result (Err (Reason (reason.Constant m))) h =
         (h.0, (bounded, kept h.1, (let a = pl.parts 0 (omega arith) in let b = pr.parts 0 (omega arith) in let c = h.2 in omega (arith, a, b, c))))
-    by_result (Err (Reason (reason.Overflow m))) h = absurd h
-    by_result (Err (Reason (reason.Shape m))) h = absurd h
-    by_result (Err (Reason (reason.Coefficient m))) h = absurd h
-    by_result (Err (Reason (reason.Order m))) h = absurd h
-    by_result (Err (Unraveling m)) h = absurd h
     by_result (Err NoMemory) h = tt
+    by_result _ h = absurd h
 
 -- a rule of ready ones
 pub ready_rule : (es : Interpretation) (rs : List Rule) (i : ℕ) (r : Rule) → AreRulesReady es rs → i < length rs → r ≡ get_or rs i r → IsRuleReady es r

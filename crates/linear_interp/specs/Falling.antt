@@ -20,12 +20,7 @@ abbrev pub SumsDecide : List ℕ → List ℕ → ℕ → Result (Unit {0}) Meas
 SumsDecide left right rule (Ok _) = SmallerAnswers left right None × (slice_index right 0 < slice_index left 0)
 SumsDecide left right rule (Err (Reason (reason.Variable n x))) = (n ≡ rule) × SmallerAnswers left right (Some x)
 SumsDecide left right rule (Err (Reason (reason.Constant n))) = (n ≡ rule) × SmallerAnswers left right None × (slice_index left 0 ≤ slice_index right 0)
-SumsDecide left right rule (Err (Reason (reason.Overflow n))) = ⊥
-SumsDecide left right rule (Err (Reason (reason.Shape n))) = ⊥
-SumsDecide left right rule (Err (Reason (reason.Coefficient n))) = ⊥
-SumsDecide left right rule (Err (Reason (reason.Order n))) = ⊥
-SumsDecide left right rule (Err (Unraveling n)) = ⊥
-SumsDecide left right rule (Err NoMemory) = ⊥
+SumsDecide left right rule _ = ⊥
 
 -- a side whose symbols have their numbers, whose variables are below a number, and that shows a large part at its root
 pub record IsSideReady (es : Interpretation) (variables : ℕ) (t : Term) : Type 0 where
