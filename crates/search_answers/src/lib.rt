@@ -3,6 +3,7 @@
 
 ghost use Rattle.std.specs.Prelude.{IfOk, map};
 ghost use Rattle.cert_model.specs.CertificateView.{certificate_view};
+ghost use Rattle.critical_pairs.specs.Answers.{OverlapsAnswers};
 ghost use Rattle.critical_pairs.specs.Kept.{AreKnown};
 ghost use Rattle.critical_pairs.specs.View.{overlap_view};
 ghost use Rattle.search_answers.specs.Given.{HasOverlaps};
@@ -17,6 +18,22 @@ use std::alloc::Global;
 use term_core::{NoMemory, System};
 use validity::Search;
 
+// The list of overlaps, or none where it is refused. The system is named for the contract alone.
+fn listed_or_none(
+    sys: &PreparedSystem<'_>,
+    found: Result<Vec<Overlap>, OverlapError>,
+) -> Result<Option<Vec<Overlap>>, NoMemory>
+    requires { OverlapsAnswers sys.now found }
+    ensures { IfOk result (HasOverlaps sys.now) }
+{
+    match found {
+        Ok(found) => Ok(Some(found)),
+        Err(OverlapError::PairTooLarge { .. }) => Ok(None),
+        Err(OverlapError::TooManyPairs) => Ok(None),
+        Err(OverlapError::NoMemory) => Err(NoMemory),
+    }
+}
+
 /// The overlaps of a system, or none where they are refused.
 pub fn overlaps_or_none(
     alloc: Global,
@@ -24,12 +41,7 @@ pub fn overlaps_or_none(
 ) -> Result<Option<Vec<Overlap>>, NoMemory>
     ensures { IfOk result (HasOverlaps sys.now) }
 {
-    match overlaps_in(alloc, sys) {
-        Ok(found) => Ok(Some(found)),
-        Err(OverlapError::PairTooLarge { .. }) => Ok(None),
-        Err(OverlapError::TooManyPairs) => Ok(None),
-        Err(OverlapError::NoMemory) => Err(NoMemory),
-    }
+    listed_or_none(sys, overlaps_in(alloc, sys))
 }
 
 /// The same of a system that has rules of an earlier one, whose overlaps are known.
@@ -43,12 +55,7 @@ pub fn overlaps_or_none_with(
     requires { AreKnown earlier.now sys.now origins.now (map overlap_view known.items) }
     ensures { IfOk result (HasOverlaps sys.now) }
 {
-    match overlaps_with(alloc, sys, earlier, origins, known) {
-        Ok(found) => Ok(Some(found)),
-        Err(OverlapError::PairTooLarge { .. }) => Ok(None),
-        Err(OverlapError::TooManyPairs) => Ok(None),
-        Err(OverlapError::NoMemory) => Err(NoMemory),
-    }
+    listed_or_none(sys, overlaps_with(alloc, sys, earlier, origins, known))
 }
 
 /// A certificate is found where it has a text with the names; else it counts as nothing.
