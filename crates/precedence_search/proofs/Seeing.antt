@@ -1,5 +1,5 @@
 -- What a visit sees, and where the moves lead.
-use Rattle.std.proofs.Common.{ℕ, zero, suc, ◌≡◌, ◌+◌, ◌-◌, map, ◌<◌, ◌≤◌, inl, inr, List, [], ◌∷◌, ◌++◌, Bool, true, false, MatchBool, Vec, Global, get_or, length, slice_get, Some}
+use Rattle.std.proofs.Common.{ℕ, zero, suc, ◌≡◌, ◌+◌, ◌-◌, map, ◌<◌, ◌≤◌, List, [], ◌∷◌, ◌++◌, Bool, true, false, MatchBool, Vec, Global, get_or, length, slice_get, Some}
 use Rattle.std.proofs.Common.{None, refl, sym, ap, ◌∙◌, subst, arith}
 use Rattle.std.proofs.lemmas.List.{length-append, map-append}
 use Rattle.std.proofs.lemmas.Option.{slice_get_within}
@@ -7,7 +7,6 @@ use Rattle.rewriting.specs.Rules as math
 use Rattle.rewriting.specs.Prelude.{IsSystem, Head, heads, unraveled}
 use Rattle.term_core.specs.HeadView.{head_view}
 use Rattle.term_core.specs.declared.systems.Head as code
-use Rattle.cc_count.specs.Counts.{Counts}
 use Rattle.path_orders.specs.Precedences.{Precedence, IsGood}
 use Rattle.path_orders.specs.Dead.{IsDead}
 use Rattle.lpo.specs.Answers.{IsOf}
@@ -16,24 +15,10 @@ use Rattle.lpo.specs.Listed.{AreListed, ListedAnswers, listed}
 use Rattle.lpo.specs.Rules.{DeadAnswers}
 use Rattle.lpo.proofs.Placing.{within_heads}
 use Rattle.lpo.proofs.Judging.{dead_there, dead_answers, whole}
-use Rattle.precedence_search.specs.Walks.{FreeAnswers, HasComeTo, HasDoneWith, HasItsPlaces, HasHeads, GoesDown, GoesOn, IsAliveBefore, IsLonger, PaidAnswers, VisitAnswers}
-use Rattle.precedence_search.specs.declared.walk.Seen.{Seen}
-use Rattle.precedence_search.specs.declared.walk.Seen.TheVariants.{Barren, Good}
+use Rattle.precedence_search.specs.Walks.{FreeAnswers, HasComeTo, HasDoneWith, HasItsPlaces, HasHeads, GoesDown, GoesOn, IsAliveBefore, IsLonger}
 use Rattle.precedence_search.proofs.Completing.{none_completed, alive_ordered}
 use Rattle.precedence_search.proofs.Turning.{full_placed, last_known, none_free}
 use Rattle.precedence_search.proofs.Walking as walking
-
-module _ (sys : math.System) (order : Precedence) (before after : Counts) (result : Seen) where
-  abbrev Answers : Seen → Type 0
-  Answers = VisitAnswers sys order before after
-
-  pub barren_paid : IsDead sys order → PaidAnswers before Barren after result → Answers result
-  barren_paid dead (inl (e, s)) = subst Answers (sym e) (dead, s)
-  barren_paid dead (inr (e, none, same)) = subst Answers (sym e) (inl dead, none, same)
-
-  pub good_paid : length order ≡ length (heads sys) → IsGood sys order → PaidAnswers before Good after result → Answers result
-  good_paid all good (inl (e, s)) = subst Answers (sym e) (all, good, s)
-  good_paid all good (inr (e, none, same)) = subst Answers (sym e) (inr all, none, same)
 
 module _ (sys : math.System) (hs : List Head) (rs : List math.Rule) (of : IsOf sys hs rs) (order : Precedence) (ps : List ℕ) (a : HasItsPlaces hs order ps) where
   places_of : ArePlaces (heads sys) order (length order) ps

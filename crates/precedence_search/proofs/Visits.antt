@@ -26,8 +26,8 @@ sound_of sys system hs rs same is_heads is_rules sound =
     record { of = record { heads_are = is_heads; rules_are = is_rules ∙ ap (λ (z : System). z.rules) same }; sound = subst IsSystem same sound }
 
 -- each visit goes down or takes a unit
-pub fewer_left : (a b k x y : ℕ) → a ≡ b → x < y → a * k + x < b * k + y
-fewer_left a b k x y e lt = subst (λ z. a * k + x < z * k + y) e (omega (arith, lt))
+pub fewer_left : (a k x y : ℕ) → x < y → a * k + x < a * k + y
+fewer_left a k x y lt = omega (arith, lt)
 
 pub smaller : (a b k x y : ℕ) → suc a ≡ b → x < k → a * k + x < b * k + y
 smaller a b k x y e lt = subst (λ z. a * k + x < z * k + y) e (omega (arith, lt))

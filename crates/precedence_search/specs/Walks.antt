@@ -1,10 +1,9 @@
 -- Where a walk through the pruned list of precedences stands.
-use Rattle.std.specs.Prelude.{ℕ, suc, ◌≡◌, ◌+◌, ◌<◌, ◌≤◌, ◌⊎◌, List, [], ◌∷◌, ◌++◌, map, length, slice_get, Option, None, Some, Bool, true, false}
+use Rattle.std.specs.Prelude.{ℕ, suc, ◌≡◌, ◌+◌, ◌<◌, ◌≤◌, List, [], ◌∷◌, ◌++◌, map, length, slice_get, Option, None, Some, Bool, true, false}
 use Rattle.rewriting.specs.Prelude.{Rule, System, IsSystem, Head, heads, unraveled}
 use Rattle.first_found.specs.Trees.{IsBarrenBelow}
 use Rattle.first_found.specs.Paths.{HasWalked}
 use Rattle.term_core.specs.HeadView.{head_view}
-use Rattle.cc_count.specs.Counts.{Counts, Spends}
 use Rattle.path_orders.specs.Precedences.{Precedence, IsGood}
 use Rattle.path_orders.specs.Dead.{IsDead}
 use Rattle.precedence_walks.specs.Pruned.{extensions, IsDeadPrefix, PrefixGives, start, IsPrunedBarren}
@@ -12,7 +11,7 @@ use Rattle.lpo.specs.Answers.{IsOf}
 use Rattle.lpo.specs.Places.{place_in, ArePlaces}
 use Rattle.precedence_search.specs.declared.walk.Walk.{Walk}
 use Rattle.precedence_search.specs.declared.walk.Seen.{Seen}
-use Rattle.precedence_search.specs.declared.walk.Seen.TheVariants.{Alive, Barren, Good, Unpaid}
+use Rattle.precedence_search.specs.declared.walk.Seen.TheVariants.{Alive, Barren, Good}
 
 -- the first symbol from a number on that has no place, or that there is none
 abbrev pub FreeAnswers : List ℕ → ℕ → Option ℕ → Type 0
@@ -54,16 +53,11 @@ pub record IsSoundOf (sys : System) (hs : List Head) (rs : List Rule) : Type 0 w
   pub of : IsOf sys hs rs
   pub sound : IsSystem (unraveled sys)
 
--- a unit is paid for what is seen, or none is left
-abbrev pub PaidAnswers : Counts → Seen → Counts → Seen → Type 0
-PaidAnswers before seen after result = ((result ≡ seen) × Spends before 1 after) ⊎ ((result ≡ Unpaid) × (before.left ≡ 0) × (after ≡ before))
-
--- a unit is paid for what is dead or a good precedence
-abbrev pub VisitAnswers : System → Precedence → Counts → Counts → Seen → Type 0
-VisitAnswers sys order before after Alive = (IsDead sys order → ⊥) × (length order < length (heads sys)) × (after ≡ before)
-VisitAnswers sys order before after Barren = IsDead sys order × Spends before 1 after
-VisitAnswers sys order before after Good = (length order ≡ length (heads sys)) × IsGood sys order × Spends before 1 after
-VisitAnswers sys order before after Unpaid = (IsDead sys order ⊎ (length order ≡ length (heads sys))) × (before.left ≡ 0) × (after ≡ before)
+-- dead symbols, a good precedence, or symbols that are neither
+abbrev pub VisitAnswers : System → Precedence → Seen → Type 0
+VisitAnswers sys order Alive = (IsDead sys order → ⊥) × (length order < length (heads sys))
+VisitAnswers sys order Barren = IsDead sys order
+VisitAnswers sys order Good = (length order ≡ length (heads sys)) × IsGood sys order
 
 -- the symbols that a walk holds have their places
 abbrev pub IsInPlace : List Head → Walk → Type 0

@@ -11,7 +11,7 @@ ghost use Rattle.lpo.specs.Places.{place_in};
 ghost use Rattle.lpo.specs.Symbols.{IsHeadBefore};
 ghost use Rattle.path_orders.specs.Dead.{IsDead};
 ghost use Rattle.precedence_search.specs.Answers.{SearchAnswers};
-ghost use Rattle.precedence_search.specs.Walks.{FreeAnswers, GoesDown, GoesOn, HasDoneWith, HasHeads, IsAliveBefore, IsInPlace, IsLonger, IsSoundOf, PaidAnswers, TakeAnswers, VisitAnswers};
+ghost use Rattle.precedence_search.specs.Walks.{FreeAnswers, GoesDown, GoesOn, HasDoneWith, HasHeads, IsAliveBefore, IsInPlace, IsLonger, IsSoundOf, TakeAnswers, VisitAnswers};
 
 use cc_count::{Budget, Sought};
 use lpo::{is_listed_dead, is_one_dead, no_places, rules_by_symbol, symbol_of};
@@ -31,19 +31,10 @@ pub struct Walk {
 enum Seen {
     /// Good precedences may begin with them.
     Alive,
-    /// None does; a unit was paid.
+    /// None does.
     Barren,
-    /// They are a good precedence; a unit was paid.
+    /// They are a good precedence.
     Good,
-    /// There is a unit to pay, and none is left.
-    Unpaid,
-}
-
-// Takes a unit for what is seen.
-fn paid(budget: &mut Budget, seen: Seen) -> Seen
-    ensures { PaidAnswers budget.old seen budget.new result }
-{
-    if budget.take() { seen } else { Seen::Unpaid }
 }
 
 // The first symbol from a number on that has no place.
@@ -106,24 +97,18 @@ fn are_dead(heads: &[Head], rules: &[Rule], listed: &[Vec<u32>], walk: &Walk) ->
 }
 
 // Looks at the symbols to which the walk has come.
-fn visit(
-    heads: &[Head],
-    rules: &[Rule],
-    listed: &[Vec<u32>],
-    walk: &Walk,
-    budget: &mut Budget,
-) -> Seen
+fn visit(heads: &[Head], rules: &[Rule], listed: &[Vec<u32>], walk: &Walk) -> Seen
     requires sorted { IsSorted IsHeadBefore (map head_view heads.now) }
     requires few { length heads.now < 2 ^ 31 }
     requires in_place { IsInPlace (map head_view heads.now) walk.now }
     requires listed { AreListed (map rule_view rules.now) (length rules.now) listed.now }
     requires count { length listed.now ≡ length heads.now }
-    ensures { (sys : math.System) → IsSoundOf sys (map head_view heads.now) (map rule_view rules.now) → IsAliveBefore sys (map head_view walk.now.prefix.items) → VisitAnswers sys (map head_view walk.now.prefix.items) budget.old budget.new result }
+    ensures { (sys : math.System) → IsSoundOf sys (map head_view heads.now) (map rule_view rules.now) → IsAliveBefore sys (map head_view walk.now.prefix.items) → VisitAnswers sys (map head_view walk.now.prefix.items) result }
 {
     if are_dead(heads, rules, listed, walk) {
-        paid(budget, Seen::Barren)
+        Seen::Barren
     } else if walk.prefix.len() == heads.len() {
-        paid(budget, Seen::Good)
+        Seen::Good
     } else {
         Seen::Alive
     }
@@ -182,15 +167,22 @@ pub(crate) fn walk_precedences(
     };
     // Each visit goes down by a symbol or takes a unit.
     'visits: loop {
-        match visit(heads, rules, &listed, &walk, budget) {
+        match visit(heads, rules, &listed, &walk) {
             Seen::Alive => go_down(heads, &mut walk)?,
             Seen::Barren => {
+                if !budget.take() {
+                    return Ok(Sought::Spent);
+                }
                 if !go_on(heads, &mut walk)? {
                     return Ok(Sought::Nothing);
                 }
             }
-            Seen::Good => return Ok(Sought::Found(walk.prefix)),
-            Seen::Unpaid => return Ok(Sought::Spent),
+            Seen::Good => {
+                if !budget.take() {
+                    return Ok(Sought::Spent);
+                }
+                return Ok(Sought::Found(walk.prefix));
+            }
         }
     }
 }

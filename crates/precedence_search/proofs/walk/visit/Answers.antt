@@ -1,13 +1,8 @@
-use Rattle.std.proofs.Common.{◌≡◌, refl, map, length, arith}
+use Rattle.std.proofs.Common.{◌≡◌, map, length, arith}
 use Rattle.std.proofs.lemmas.List.{length-map}
 use Rattle.term_core.specs.Prelude.{head_view, rule_view}
-use Rattle.precedence_search.proofs.Seeing.{barren_paid, good_paid, fewer, is_whole, sees_good}
+use Rattle.precedence_search.proofs.Seeing.{fewer, is_whole, sees_good}
 use Rattle.precedence_search.proofs.walk.visit.Goals as goal
-
-pub returns-then-are_dead : goal.returns-then-are_dead
-returns-then-are_dead c =
-    λ sys is alive.
-    barren_paid sys (map head_view c.args.walk.now.prefix.items) c.args.budget.now c.paid.new.budget c.paid.result (c.if-are_dead.ensures sys is.of alive) c.paid.ensures
 
 pub returns-then-len-heads : goal.returns-then-len-heads
 returns-then-len-heads c =
@@ -22,8 +17,7 @@ returns-then-len-heads c =
     let held = c.len.ensures in
     let ok = c.args.walk.now.prefix.ok.0 in
     let same = c.if-len-heads.true in omega (arith, one, two, held, ok, same)) in
-    good_paid sys order c.args.budget.now c.paid-then-len-heads.new.budget c.paid-then-len-heads.result (is_whole sys hs rs is.of order ps c.requires.in_place e)
-    (sees_good sys hs rs is.of order ps c.requires.in_place is.sound e (c.if-are_dead.ensures sys is.of alive)) c.paid-then-len-heads.ensures
+    (is_whole sys hs rs is.of order ps c.requires.in_place e, sees_good sys hs rs is.of order ps c.requires.in_place is.sound e (c.if-are_dead.ensures sys is.of alive))
 
 pub returns-else-len-heads : goal.returns-else-len-heads
 returns-else-len-heads c =
@@ -39,5 +33,4 @@ returns-else-len-heads c =
           let two = length-map c.args.heads.now head_view in
           let held = c.len.ensures in
           let ok = c.args.walk.now.prefix.ok.0 in omega (arith, one, two, held, ok, e))),
-      refl,
     )

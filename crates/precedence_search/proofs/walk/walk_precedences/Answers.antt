@@ -1,11 +1,11 @@
-use Rattle.std.proofs.Common.{◌≡◌, ◌+◌, ◌-◌, inl, List, [], true, false, map, length, ap, ◌∙◌, sym, subst, arith}
+use Rattle.std.proofs.Common.{◌≡◌, ◌+◌, ◌-◌, inl, inr, List, [], true, false, refl, map, length, ap, ◌∙◌, sym, subst, arith}
 use Rattle.std.proofs.lemmas.List.{length-map}
 use Rattle.interpretations.proofs.Bound.{few_heads}
 use Rattle.rewriting.specs.Unraveling.{Head}
 use Rattle.term_core.specs.Prelude.{head_view, rule_view}
-use Rattle.cc_count.specs.Counts.{Counts}
 use Rattle.lpo.specs.Places.{ArePlaces}
 use Rattle.lpo.proofs.HeadOrder.{sorted_heads}
+use Rattle.cc_count.proofs.Spending.{none_left}
 use Rattle.cc_count.proofs.Paid.{at_start, goes_free, unspent, stops, goes_on, spent_one, ends}
 use Rattle.precedence_search.proofs.Visits.{alive_before, fewer_left, goes, smaller, sound_of}
 use Rattle.precedence_search.proofs.Walking.{begin, found_there, stops_there}
@@ -43,7 +43,7 @@ visits-preserved-in_ok-go_down-in-Alive c =
     record {
       in_place = c.in_ok-go_down-in-Alive.ensures.in_place;
       paid =
-          goes_free c.visits.invariant.paid seen.2
+          goes_free c.visits.invariant.paid refl
           (λ n here. (c.in_ok-go_down-in-Alive.ensures.down c.args.sys.now c.visits.invariant.sound.of.heads_are).1 n here seen.0);
       sorted = c.visits.invariant.sorted;
       few = c.visits.invariant.few;
@@ -60,12 +60,11 @@ visits-smaller-in_ok-go_down-in-Alive c =
     let many = length-map c.deref-heads.result.now head_view in
     let before = length-map c.visits.walk.prefix.items head_view in
     let behind = length-map c.go_down.new.walk.prefix.items head_view in
-    fewer_left c.visit.new.budget.left c.visits.budget.left (all + 1) (all - length c.go_down.new.walk.prefix.items) (all - length c.visits.walk.prefix.items) (ap (λ (b : Counts). b.left) seen.2)
+    fewer_left c.visits.budget.left (all + 1) (all - length c.go_down.new.walk.prefix.items) (all - length c.visits.walk.prefix.items)
     (omega (arith, down, less, same, many, before, behind))
 
 pub returns-in_err-go_down-in-Alive-clause-kept : goal.returns-in_err-go_down-in-Alive-clause-kept
-returns-in_err-go_down-in-Alive-clause-kept c =
-    let seen = c.in-Alive.ensures c.args.sys.now c.visits.invariant.sound (alive_before c.visits.invariant.paid) in unspent c.visits.invariant.paid seen.2
+returns-in_err-go_down-in-Alive-clause-kept c = unspent c.visits.invariant.paid refl
 
 -- behind one that is dead
 pub visits-preserved : goal.visits-preserved
@@ -74,9 +73,9 @@ visits-preserved c =
     record {
       in_place = c.in_ok-go_on-in-Barren.ensures.in_place;
       paid =
-          goes_on c.visits.invariant.paid seen.1
+          goes_on c.visits.invariant.paid (c.if-not-take.ensures.taken refl)
           (goes c.args.sys.now (map head_view c.visits.walk.prefix.items) (map head_view c.go_on.new.walk.prefix.items) c.in_ok-go_on-in-Barren.field-0 true c.if-not-branch.false
-          (λ n done. c.in_ok-go_on-in-Barren.ensures.goes c.args.sys.now n c.visits.invariant.sound.of.heads_are done) seen.0);
+          (λ n done. c.in_ok-go_on-in-Barren.ensures.goes c.args.sys.now n c.visits.invariant.sound.of.heads_are done) seen);
       sorted = c.visits.invariant.sorted;
       few = c.visits.invariant.few;
       sound = c.visits.invariant.sound;
@@ -84,41 +83,47 @@ visits-preserved c =
 
 pub visits-smaller : goal.visits-smaller
 visits-smaller c =
-    let seen = c.in-Barren.ensures c.args.sys.now c.visits.invariant.sound (alive_before c.visits.invariant.paid) in
     let all = length c.deref-heads.result.now in
-    let unit = seen.1.left in
-    smaller c.visit.new.budget.left c.visits.budget.left (all + 1) (all - length c.go_on.new.walk.prefix.items) (all - length c.visits.walk.prefix.items) (omega (arith, unit)) (omega arith)
+    let unit = (c.if-not-take.ensures.taken refl).left in
+    smaller c.take.new.self.left c.visits.budget.left (all + 1) (all - length c.go_on.new.walk.prefix.items) (all - length c.visits.walk.prefix.items) (omega (arith, unit)) (omega arith)
 
 pub returns-then-not-branch-clause-answer : goal.returns-then-not-branch-clause-answer
 returns-then-not-branch-clause-answer c =
     let seen = c.in-Barren.ensures c.args.sys.now c.visits.invariant.sound (alive_before c.visits.invariant.paid) in
-    ends c.visits.invariant.paid seen.1
+    ends c.visits.invariant.paid (c.if-not-take.ensures.taken refl)
     (λ n here. inl (goes c.args.sys.now (map head_view c.visits.walk.prefix.items) (map head_view c.go_on.new.walk.prefix.items) c.in_ok-go_on-in-Barren.field-0 false c.if-not-branch.true
-    (λ n done. c.in_ok-go_on-in-Barren.ensures.goes c.args.sys.now n c.visits.invariant.sound.of.heads_are done) seen.0 n here))
+    (λ n done. c.in_ok-go_on-in-Barren.ensures.goes c.args.sys.now n c.visits.invariant.sound.of.heads_are done) seen n here))
 
 pub returns-then-not-branch-clause-kept : goal.returns-then-not-branch-clause-kept
-returns-then-not-branch-clause-kept c =
-    let seen = c.in-Barren.ensures c.args.sys.now c.visits.invariant.sound (alive_before c.visits.invariant.paid) in spent_one c.visits.invariant.paid seen.1
+returns-then-not-branch-clause-kept c = spent_one c.visits.invariant.paid (c.if-not-take.ensures.taken refl)
 
 pub returns-in_err-go_on-in-Barren-clause-kept : goal.returns-in_err-go_on-in-Barren-clause-kept
-returns-in_err-go_on-in-Barren-clause-kept c =
-    let seen = c.in-Barren.ensures c.args.sys.now c.visits.invariant.sound (alive_before c.visits.invariant.paid) in spent_one c.visits.invariant.paid seen.1
+returns-in_err-go_on-in-Barren-clause-kept c = spent_one c.visits.invariant.paid (c.if-not-take.ensures.taken refl)
 
 -- at a good one, and where no unit is left
 pub returns-in-Good-clause-answer : goal.returns-in-Good-clause-answer
 returns-in-Good-clause-answer c =
     let seen = c.in-Good.ensures c.args.sys.now c.visits.invariant.sound (alive_before c.visits.invariant.paid) in
-    ends c.visits.invariant.paid seen.2 (λ n here. found_there c.args.sys.now (map head_view c.visits.walk.prefix.items) n here seen.0 (c.requires.fits, seen.1))
+    ends c.visits.invariant.paid (c.if-not-take-2.ensures.taken refl)
+    (λ n here. found_there c.args.sys.now (map head_view c.visits.walk.prefix.items) n here seen.0 (c.requires.fits, seen.1))
 
 pub returns-in-Good-clause-kept : goal.returns-in-Good-clause-kept
-returns-in-Good-clause-kept c =
-    let seen = c.in-Good.ensures c.args.sys.now c.visits.invariant.sound (alive_before c.visits.invariant.paid) in spent_one c.visits.invariant.paid seen.2
+returns-in-Good-clause-kept c = spent_one c.visits.invariant.paid (c.if-not-take-2.ensures.taken refl)
 
-pub returns-in-Unpaid-clause-answer : goal.returns-in-Unpaid-clause-answer
-returns-in-Unpaid-clause-answer c =
-    let seen = c.in-Unpaid.ensures c.args.sys.now c.visits.invariant.sound (alive_before c.visits.invariant.paid) in
-    stops c.visits.invariant.paid seen.2 seen.1 (λ n here. stops_there c.args.sys.now (map head_view c.visits.walk.prefix.items) n here seen.0)
+pub returns-then-not-take-clause-answer : goal.returns-then-not-take-clause-answer
+returns-then-not-take-clause-answer c =
+    let seen = c.in-Barren.ensures c.args.sys.now c.visits.invariant.sound (alive_before c.visits.invariant.paid) in
+    stops c.visits.invariant.paid (c.if-not-take.ensures.none refl) (none_left c.visits.budget c.if-not-take.ensures.some.1)
+    (λ n here. stops_there c.args.sys.now (map head_view c.visits.walk.prefix.items) n here (inl seen))
 
-pub returns-in-Unpaid-clause-kept : goal.returns-in-Unpaid-clause-kept
-returns-in-Unpaid-clause-kept c =
-    let seen = c.in-Unpaid.ensures c.args.sys.now c.visits.invariant.sound (alive_before c.visits.invariant.paid) in unspent c.visits.invariant.paid seen.2
+pub returns-then-not-take-clause-kept : goal.returns-then-not-take-clause-kept
+returns-then-not-take-clause-kept c = unspent c.visits.invariant.paid (c.if-not-take.ensures.none refl)
+
+pub returns-then-not-take-2-clause-answer : goal.returns-then-not-take-2-clause-answer
+returns-then-not-take-2-clause-answer c =
+    let seen = c.in-Good.ensures c.args.sys.now c.visits.invariant.sound (alive_before c.visits.invariant.paid) in
+    stops c.visits.invariant.paid (c.if-not-take-2.ensures.none refl) (none_left c.visits.budget c.if-not-take-2.ensures.some.1)
+    (λ n here. stops_there c.args.sys.now (map head_view c.visits.walk.prefix.items) n here (inr seen.0))
+
+pub returns-then-not-take-2-clause-kept : goal.returns-then-not-take-2-clause-kept
+returns-then-not-take-2-clause-kept c = unspent c.visits.invariant.paid (c.if-not-take-2.ensures.none refl)
