@@ -34,6 +34,13 @@ pub enum Opened<'a> {
     Simplified(Vec<Simp>, Box<Opened<'a>>),
 }
 
+// What stands before the body: shared automata, which the first version has not, and steps, where there are any.
+#[derive(Drop)]
+struct Ahead {
+    automata: Option<Vec<Automaton>>,
+    steps: Option<Vec<Simp>>,
+}
+
 /// Reads a text up to its entries, a peak to its end; else its refusal.
 pub fn open_cert<'a>(
     alloc: Global,
@@ -59,7 +66,11 @@ pub fn open_cert<'a>(
         return open_second(alloc, names, bytes, automata, at, given);
     }
     let kind = kind_word(end, &mut at, given);
-    open_body(alloc, names, bytes, None, None, at, kind)
+    let ahead = Ahead {
+        automata: None,
+        steps: None,
+    };
+    open_body(alloc, names, bytes, ahead, at, kind)
 }
 
 // The rest of a text of the second version, behind its shared automata.
@@ -77,13 +88,21 @@ fn open_second<'a>(
     let end = bytes.len();
     let mut at = at;
     if let Some(kind) = simplified_word(end, &mut at, given) {
-        return open_body(alloc, names, bytes, Some(automata), None, at, kind);
+        let ahead = Ahead {
+            automata: Some(automata),
+            steps: None,
+        };
+        return open_body(alloc, names, bytes, ahead, at, kind);
     }
     let count = counted_steps(end, &mut at);
     text(end, &mut at, b"\n");
     let steps = all_simplifications(alloc, names, &automata, end, &mut at, count);
     let kind = kind_word(end, &mut at, given);
-    open_body(alloc, names, bytes, Some(automata), Some(steps), at, kind)
+    let ahead = Ahead {
+        automata: Some(automata),
+        steps: Some(steps),
+    };
+    open_body(alloc, names, bytes, ahead, at, kind)
 }
 
 // The rest of a text behind the word of its kind.
@@ -91,12 +110,11 @@ fn open_body<'a>(
     alloc: Global,
     names: &'a Names,
     bytes: &'a [u8],
-    automata: Option<Vec<Automaton>>,
-    steps: Option<Vec<Simp>>,
+    ahead: Ahead,
     at: Reading<'a>,
     kind: Kind,
 ) -> Result<Opened<'a>, CertError>
-    requires { BeginsBody names.now bytes.now (version_with automata) (shared_in automata) (steps_view steps) kind at }
+    requires { BeginsBody names.now bytes.now (version_with ahead.automata) (shared_in ahead.automata) (steps_view ahead.steps) kind at }
     ensures { IsAnswer names.now bytes.now result }
 {
     let end = bytes.len();
@@ -105,14 +123,14 @@ fn open_body<'a>(
     match kind {
         Kind::Ortho => {
             entries_begin(end, &mut at);
-            entries(alloc, names, bytes, automata, steps, at, None)
+            entries(alloc, names, bytes, ahead, at, None)
         }
         Kind::Quasi => {
-            let measure = measure(alloc, names, uses_of(&automata), end, &mut at);
-            entries(alloc, names, bytes, automata, steps, at, Some(measure))
+            let measure = measure(alloc, names, uses_of(&ahead.automata), end, &mut at);
+            entries(alloc, names, bytes, ahead, at, Some(measure))
         }
         Kind::Peak => {
-            let peak = peak(alloc, names, uses_of(&automata), end, &mut at);
+            let peak = peak(alloc, names, uses_of(&ahead.automata), end, &mut at);
             if let Some(refused) = at.refused {
                 return Err(refused);
             }
@@ -121,7 +139,7 @@ fn open_body<'a>(
                     at: end.saturating_sub(at.left.len()),
                 });
             }
-            behind_steps(alloc, steps, Opened::Peak(peak))
+            behind_steps(alloc, ahead.steps, Opened::Peak(peak))
         }
     }
 }
@@ -131,21 +149,20 @@ fn entries<'a>(
     alloc: Global,
     names: &'a Names,
     bytes: &'a [u8],
-    automata: Option<Vec<Automaton>>,
-    steps: Option<Vec<Simp>>,
+    ahead: Ahead,
     at: Reading<'a>,
     measure: Option<MeasureCert>,
 ) -> Result<Opened<'a>, CertError>
-    requires { ReadsOpening names.now bytes.now (version_with automata) (shared_in automata) (opening_behind (steps_view steps) (opening_view measure)) at }
+    requires { ReadsOpening names.now bytes.now (version_with ahead.automata) (shared_in ahead.automata) (opening_behind (steps_view ahead.steps) (opening_view measure)) at }
     ensures { IsAnswer names.now bytes.now result }
 {
     if let Some(refused) = at.refused {
         return Err(refused);
     }
-    let pairs = Pairs::behind(names, bytes, automata, at);
+    let pairs = Pairs::behind(names, bytes, ahead.automata, at);
     match measure {
-        None => behind_steps(alloc, steps, Opened::Ortho(pairs)),
-        Some(measure) => behind_steps(alloc, steps, Opened::Quasi(measure, pairs)),
+        None => behind_steps(alloc, ahead.steps, Opened::Ortho(pairs)),
+        Some(measure) => behind_steps(alloc, ahead.steps, Opened::Quasi(measure, pairs)),
     }
 }
 
