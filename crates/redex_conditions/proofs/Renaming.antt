@@ -7,10 +7,7 @@ use Rattle.unifier_run.proofs.Woven.{woven, all_woven_evens, all_woven_odds, wov
 use Rattle.caps.specs.Caps.{Cap, Caps, any, all_filled, IsCapOf, AreCapsOf, IsCapLarge, AreCapsLarge}
 use Rattle.caps.specs.Evidence.{IsCapOutcome, JudgedByCaps}
 use Rattle.automata.proofs.Renamed.{by_automaton_to}
-use Rattle.certificates.specs.Prelude.{InfeasibilityEvidence, by_caps, by_automaton, EvidenceReason, tcap_unifies, tcap_large, not_allowed, not_root, sides_differ, conflict_number}
-use Rattle.certificates.specs.Prelude.{conflict_left, conflict_unifies, conflict_large, auto_number, auto_any, auto_misses, auto_wide, auto_not_closed, auto_wide_right, auto_reaches}
-use Rattle.certificates.specs.Prelude.{join_left, join_right, join_differs, unfeasible_number, unfeasible_first, unfeasible_second, first_reducible, second_reducible, unfeasible_unifies}
-use Rattle.certificates.specs.Prelude.{unfeasible_large, DoConditionsFit}
+use Rattle.certificates.specs.Prelude.{InfeasibilityEvidence, by_caps, by_automaton, EvidenceReason, tcap_unifies, tcap_large, DoConditionsFit}
 use Rattle.judged_evidence.specs.Evidence.{IsInfeasibilityJudged}
 use Rattle.judged_evidence.proofs.Judged.{infeasibility_total, evidence_once}
 use Rattle.redex_conditions.specs.Judged.{AreJudged}
@@ -80,30 +77,7 @@ module _ (rho : ℕ → ℕ) where
     by_caps_to sys cs (Some tcap_unifies) (b, h) = (_, outcome_to sys cs (unifier b) h)
     by_caps_to sys cs (Some tcap_large) (inl h) = inl (subst (AreCapsLarge sys any) (sym (lefts-renamed cs)) (all_large_kept sys (left_sides cs) h))
     by_caps_to sys cs (Some tcap_large) (inr h) = inr (outcome_to sys cs too_large h)
-    by_caps_to sys cs (Some not_allowed) h = absurd h
-    by_caps_to sys cs (Some not_root) h = absurd h
-    by_caps_to sys cs (Some sides_differ) h = absurd h
-    by_caps_to sys cs (Some conflict_number) h = absurd h
-    by_caps_to sys cs (Some conflict_left) h = absurd h
-    by_caps_to sys cs (Some conflict_unifies) h = absurd h
-    by_caps_to sys cs (Some conflict_large) h = absurd h
-    by_caps_to sys cs (Some auto_number) h = absurd h
-    by_caps_to sys cs (Some auto_any) h = absurd h
-    by_caps_to sys cs (Some auto_misses) h = absurd h
-    by_caps_to sys cs (Some (auto_wide _)) h = absurd h
-    by_caps_to sys cs (Some (auto_not_closed _ _ _)) h = absurd h
-    by_caps_to sys cs (Some auto_wide_right) h = absurd h
-    by_caps_to sys cs (Some auto_reaches) h = absurd h
-    by_caps_to sys cs (Some (join_left _)) h = absurd h
-    by_caps_to sys cs (Some (join_right _)) h = absurd h
-    by_caps_to sys cs (Some join_differs) h = absurd h
-    by_caps_to sys cs (Some unfeasible_number) h = absurd h
-    by_caps_to sys cs (Some (unfeasible_first _)) h = absurd h
-    by_caps_to sys cs (Some (unfeasible_second _)) h = absurd h
-    by_caps_to sys cs (Some first_reducible) h = absurd h
-    by_caps_to sys cs (Some second_reducible) h = absurd h
-    by_caps_to sys cs (Some unfeasible_unifies) h = absurd h
-    by_caps_to sys cs (Some unfeasible_large) h = absurd h
+    by_caps_to sys cs _ h = absurd h
 
     -- evidence for conditions is the same for renamed ones
     pub judged_to : (sys : System) (cs : List Condition) (e : InfeasibilityEvidence) (o : Option EvidenceReason) → IsInfeasibilityJudged sys cs e o
