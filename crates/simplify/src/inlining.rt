@@ -41,13 +41,8 @@ pub fn inline(alloc: Global, rule: &Rule, place: usize, x: u32) -> Result<Rule, 
     let cond = &rule.conds[place];
     let mut values = Subst::new(alloc);
     values.bind(x, try_clone(alloc, &cond.left)?)?;
-    let right = match values.apply(alloc, &rule.right) {
-        Ok(right) => right,
-        Err(error) => return Err(error),
-    };
+    let right = values.apply(alloc, &rule.right)?;
     let mut behind = Vec::with_capacity(alloc, rule.conds.len())?;
-    if let Err(error) = push_instances(alloc, &values, &rule.conds[place + 1..], &mut behind) {
-        return Err(error);
-    }
+    push_instances(alloc, &values, &rule.conds[place + 1..], &mut behind)?;
     Ok(numbered(alloc, &rule.left, &right, &rule.conds[..place], &behind)?)
 }
