@@ -111,9 +111,7 @@ impl<'a> OrthoRun<'a> {
             judge: _judge,
         } = self;
         let _rules = sys.rules();
-        match pairs {
-            Ok(pairs) => pairs.finish(),
-            Err(reason) => Err(reason),
-        }
+        let pairs = pairs?;
+        pairs.finish()
     }
 }

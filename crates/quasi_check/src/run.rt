@@ -126,9 +126,7 @@ impl<'a, M: Measure> QuasiRun<'a, M> {
             judge: _judge,
         } = self;
         let _rules = sys.rules();
-        match pairs {
-            Ok(pairs) => pairs.finish(),
-            Err(reason) => Err(reason),
-        }
+        let pairs = pairs?;
+        pairs.finish()
     }
 }

@@ -2,7 +2,7 @@ use Rattle.std.proofs.Common.{◌≡◌, ◌-◌, List, map, length, ap, ◌∙�
 use Rattle.std.proofs.lemmas.List.{length-map}
 use Rattle.term_core.specs.RuleView.{condition_view}
 use Rattle.critical_pairs.specs.View.{overlap_view}
-use Rattle.pair_check.proofs.Ready.{ready}
+use Rattle.pair_check.proofs.Ready.{ready, few_conditions}
 use Rattle.valid_certificates.specs.Kinds.{ortho}
 use Rattle.first_found.specs.Items.{one}
 use Rattle.search_spaces.specs.PairItems.{PairItem, GivesEvidence, ortho_items, ortho_items_of}
@@ -13,10 +13,8 @@ use Rattle.ortho_search.proofs.trying.try_overlap.Goals as goal
 
 pub overflow_cast-outer_count : goal.overflow_cast-outer_count
 overflow_cast-outer_count c =
-    let small = ready c.args.sys.now (overlap_view c.args.overlap.now) c.rules-rules.ensures.sound c.requires.overlap in
-    let few = small.few in
-    let long = length-map c.args.overlap.now.conds.items condition_view in
-    omega (arith, few, long, c.len.ensures, c.args.overlap.now.conds.ok.0)
+    let few = few_conditions c.args.sys.now c.args.overlap.now c.rules-rules.ensures.sound c.requires.overlap in
+    omega (arith, few, c.len.ensures, c.args.overlap.now.conds.ok.0)
 
 pub overflow_sub-outer_count : goal.overflow_sub-outer_count
 overflow_sub-outer_count c =

@@ -1,20 +1,18 @@
 use Rattle.std.proofs.Common.{length, map, option_map, Ok, sym, ap, subst, arith}
-use Rattle.std.proofs.lemmas.List.{length-map}
 use Rattle.certificates.specs.Sizes.{DoConditionsFit}
 use Rattle.term_core.specs.RuleView.{condition_view}
 use Rattle.cert_model.specs.EvidenceView.{automaton_view}
 use Rattle.critical_pairs.specs.View.{overlap_view}
 use Rattle.evidence_offers.specs.Growth.{GrowthGives}
-use Rattle.pair_check.proofs.Ready.{ready}
+use Rattle.pair_check.proofs.Ready.{ready, few_conditions}
 use Rattle.pair_search.proofs.Growing.{gives_there, item_answers}
 use Rattle.pair_search.proofs.grown.Grown.grow_anew.Goals as goal
 
 pub valid_growth-requires-clause-few : goal.valid_growth-requires-clause-few
 valid_growth-requires-clause-few c =
-    let few = (ready c.args.sys.now (overlap_view c.args.overlap.now) c.rules-rules.ensures.sound c.requires.overlap).few in
-    let long = length-map c.args.overlap.now.conds.items condition_view in
+    let few = few_conditions c.args.sys.now c.args.overlap.now c.rules-rules.ensures.sound c.requires.overlap in
     let same = ap length c.deref.ensures.value in
-    omega (arith, few, long, same)
+    omega (arith, few, same)
 
 pub valid_growth-requires-clause-fit : goal.valid_growth-requires-clause-fit
 valid_growth-requires-clause-fit c =
