@@ -111,7 +111,9 @@ impl<'a> OrthoRun<'a> {
             judge: _judge,
         } = self;
         let _rules = sys.rules();
-        let pairs = pairs?;
-        pairs.finish()
+        match pairs {
+            Ok(pairs) => pairs.finish(),
+            Err(reason) => Err(reason),
+        }
     }
 }

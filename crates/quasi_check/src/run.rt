@@ -126,7 +126,9 @@ impl<'a, M: Measure> QuasiRun<'a, M> {
             judge: _judge,
         } = self;
         let _rules = sys.rules();
-        let pairs = pairs?;
-        pairs.finish()
+        match pairs {
+            Ok(pairs) => pairs.finish(),
+            Err(reason) => Err(reason),
+        }
     }
 }
