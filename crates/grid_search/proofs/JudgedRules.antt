@@ -1,8 +1,8 @@
 -- The rules that a judge of prefixes walks through.
 use Rattle.std.proofs.Common.{◌≡◌, ℕ, zero, suc, ◌+◌, ◌-◌, ◌<◌, ◌≤◌, ◌⊎◌, inl, inr, refl, sym, ap, ◌∙◌, subst, subst₂}
-use Rattle.std.proofs.Common.{List, [], map, length, get_or, slice_get, Some, Vec, Global, arith, nat_eq, eqb-true}
+use Rattle.std.proofs.Common.{List, map, length, get_or, slice_get, Some, Vec, Global, arith, nat_eq, eqb-true}
 use Rattle.std.proofs.lemmas.Bool.{cases_lt}
-use Rattle.std.proofs.lemmas.List.{length-map, get_or-map}
+use Rattle.std.proofs.lemmas.List.{length-map}
 use Rattle.std.proofs.lemmas.Option.{slice_get_within}
 use Rattle.general_lemmas.proofs.Places.{slice_get-map_read}
 use Rattle.rewriting.specs.Rules as math
@@ -15,9 +15,10 @@ use Rattle.term_core.specs.RuleView.{rule_view, AreCounted}
 use Rattle.term_core.specs.declared.systems.Rule.{Rule}
 use Rattle.cert_model.specs.CertificateView.{linear_entry_view}
 use Rattle.cert_model.specs.declared.model.LinearEntry.{LinearEntry}
+use Rattle.unravel.proofs.NumberLists.{listed_at}
 use Rattle.linear_interp.specs.Falling.{IsRuleReady}
 use Rattle.grid_search.specs.Prefix.{IsPrefix, IsAliveBefore}
-use Rattle.grid_search.specs.Needed.{needed_at, numbers_needing, listed}
+use Rattle.grid_search.specs.Needed.{needed_at, numbers_needing}
 use Rattle.grid_search.specs.JudgeView.{IsHeld}
 use Rattle.grid_search.specs.declared.prefix.PrefixJudge.TheInside.{Inside}
 use Rattle.grid_search.proofs.Needed.{HoldsOfAll, of_rules}
@@ -31,9 +32,6 @@ pub record AreWalked (sys : System) (n : ℕ) (rs : List Rule) (ns : List ℕ) :
   pub rules_are : map rule_view rs ≡ (unraveled sys).rules
   pub counted : AreCounted rs
   pub numbers : ns ≡ numbers_needing n 1 (unraveled sys).rules
-
-listed_at : (lists : List (Vec ℕ Global)) (n : ℕ) (v : Vec ℕ Global) → n < length lists → v ≡ get_or lists n v → listed lists n ≡ v.items
-listed_at lists n v lt is = get_or-map (λ (x : Vec ℕ Global). x.items) lists n v [] lt ∙ ap (λ (x : Vec ℕ Global). x.items) (sym is)
 
 pub walked : (i : Inside) (sys : System) (prefix : List LinearEntry) (rs : List Rule) (v : Vec ℕ Global) (ns : List ℕ) → IsHeld i → i.own.now ≡ sys
     → IsPrefix sys (map linear_entry_view prefix) → map rule_view rs ≡ i.unraveled.system.rules → AreCounted rs

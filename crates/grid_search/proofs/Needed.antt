@@ -1,5 +1,5 @@
 -- The first entries that terms and rules need, and the lists of rules by how many they need.
-use Rattle.std.proofs.Common.{◌≡◌, ◌≢◌, ℕ, zero, suc, ◌+◌, ◌<◌, ◌≤◌, Bool, true, false, nat_eq, if◌then◌else◌, eqb-true, eq-eqb, refl, sym, ap, subst, List, [], ◌∷◌, ◌++◌}
+use Rattle.std.proofs.Common.{◌≡◌, ℕ, ◌+◌, ◌<◌, ◌≤◌, Bool, true, false, nat_eq, if◌then◌else◌, eqb-true, eq-eqb, refl, sym, ap, subst, List, [], ◌∷◌, ◌++◌}
 use Rattle.std.proofs.Common.{length, set, get_or, slice_get, Some, Vec, Global, arith}
 use Rattle.std.proofs.lemmas.Bool.{eqb-false}
 use Rattle.std.proofs.lemmas.Option.{slice_get_within}
@@ -8,29 +8,19 @@ use Rattle.rewriting.proofs.NumbersWhere as numbers
 use Rattle.rewriting.specs.Unraveling as unraveling
 use Rattle.interpretations.specs.Linear.{Interpretation}
 use Rattle.interpretations.proofs.Bound.{length-heads}
+use Rattle.unravel.specs.Listed.{listed}
+use Rattle.unravel.proofs.NumberLists.{there, elsewhere}
 use Rattle.measure_grid.specs.Dead.{HasEntries, HaveEntries}
-use Rattle.grid_search.specs.Needed.{needed, needed_by, needed_at, DoNeedBelow, numbers_needing, listed}
+use Rattle.grid_search.specs.Needed.{needed, needed_by, needed_at, DoNeedBelow, numbers_needing}
 
 -- the number of a rule is put last in one list
-put_here : (lists : List (Vec ℕ Global)) (g n : ℕ) (b v : Vec ℕ Global) → g < length lists → v.items ≡ (get_or lists g b).items ++ n ∷ [] → listed (set lists g v) g ≡ listed lists g ++ n ∷ []
-put_here [] g n b v lt e = absurd (omega (arith, lt))
-put_here (x ∷ lists) zero n b v lt e = e
-put_here (x ∷ lists) (suc g) n b v lt e = put_here lists g n b v (omega (arith, lt)) e
-
-not_there : (lists : List (Vec ℕ Global)) (g k : ℕ) (v : Vec ℕ Global) → k ≢ g → listed (set lists g v) k ≡ listed lists k
-not_there [] g k v d = refl
-not_there (x ∷ lists) zero zero v d = absurd (d refl)
-not_there (x ∷ lists) zero (suc k) v d = refl
-not_there (x ∷ lists) (suc g) zero v d = refl
-not_there (x ∷ lists) (suc g) (suc k) v d = not_there lists g k v (λ e. d (ap suc e))
-
 pub number_put : (lists : List (Vec ℕ Global)) (g k n : ℕ) (b v : Vec ℕ Global) → g < length lists → v.items ≡ (get_or lists g b).items ++ n ∷ []
     → listed (set lists g v) k ≡ (if nat_eq k g then (listed lists k ++ n ∷ []) else listed lists k)
 number_put lists g k n b v lt e = go (nat_eq k g) refl
   where
     go : (here : Bool) → nat_eq k g ≡ here → listed (set lists g v) k ≡ (if here then (listed lists k ++ n ∷ []) else listed lists k)
-    go true is = subst (λ i. listed (set lists g v) i ≡ listed lists i ++ n ∷ []) (sym (eqb-true k g is)) (put_here lists g n b v lt e)
-    go false is = not_there lists g k v (eqb-false k g is)
+    go true is = subst (λ i. listed (set lists g v) i ≡ listed lists i ++ n ∷ []) (sym (eqb-true k g is)) (there lists g b v (n ∷ []) lt e)
+    go false is = elsewhere lists g k v (eqb-false k g is)
 
 module _ (es : Interpretation) where
   mutual

@@ -2,7 +2,8 @@
 use Rattle.std.specs.Prelude.{ℕ, suc, ◌≡◌, length}
 use Rattle.rewriting.specs.Prelude.{System, IsSystem, unraveled, heads}
 use Rattle.unravel.specs.Answers.{IsUnraveled}
-use Rattle.grid_search.specs.Needed.{numbers_needing, listed}
+use Rattle.grid_search.specs.Needed.{numbers_needing}
+use Rattle.unravel.specs.Listed.{listed}
 use Rattle.grid_search.specs.declared.prefix.PrefixJudge.TheInside.{Inside}
 
 abbrev pub judge_view : Inside → System

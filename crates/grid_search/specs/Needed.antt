@@ -1,6 +1,5 @@
 -- The first entries that a rule needs.
-use Rattle.std.specs.Prelude.{ℕ, suc, ◌<◌, max, nat_eq, List, [], ◌∷◌, map, get_or, Vec}
-use Rattle.std.specs.Global.{Global}
+use Rattle.std.specs.Prelude.{ℕ, suc, ◌<◌, max, nat_eq, List, [], ◌∷◌}
 use Rattle.rewriting.specs.Prelude.{Term, var, app, Terms, nil, cons, Rule, numbers_where}
 
 -- the least number of first entries among which each symbol of the term has one: one more than the greatest symbol
@@ -25,7 +24,3 @@ DoNeedBelow n (r ∷ rs) = (needed_at r < n) × DoNeedBelow n rs
 -- the numbers of the rules, counted from n, that need the first k entries and no more
 abbrev pub numbers_needing : ℕ → ℕ → List Rule → List ℕ
 numbers_needing k = numbers_where (λ r. nat_eq k (needed_at r))
-
--- the numbers in the list at a place; past the last list there are none
-abbrev pub listed : List (Vec ℕ Global) → ℕ → List ℕ
-listed lists k = get_or (map (λ v. v.items) lists) k []

@@ -1,10 +1,12 @@
 //! How many of the first entries a rule needs for its symbols, and the rules by that number.
 ghost use Rattle.std.specs.Prelude.{◌≡◌, ◌<◌, ◌+◌, ◌++◌, ◌∷◌, ◌^◌, ℕ, [], IfOk, OnOk, if◌then◌else◌, nat_eq, map, length};
 ghost use Rattle.term_core.specs.Prelude.{view, rule_view};
-ghost use Rattle.grid_search.specs.Needed.{needed, needed_at, DoNeedBelow, numbers_needing, listed};
+ghost use Rattle.grid_search.specs.Needed.{needed, needed_at, DoNeedBelow, numbers_needing};
+ghost use Rattle.unravel.specs.Listed.{listed};
 
 use std::alloc::Global;
 use term_core::{NoMemory, Rule, Term};
+use unravel::empty_lists;
 
 // How many of the first entries a term needs.
 fn term_needs(t: &Term) -> usize
@@ -27,18 +29,6 @@ pub fn rule_needs(rule: &Rule) -> usize
     ensures { result ≡ needed_at (rule_view rule.now) }
 {
     term_needs(&rule.left).max(term_needs(&rule.right))
-}
-
-// So many lists without a number.
-fn empty_lists(alloc: Global, count: usize) -> Result<Vec<Vec<u32>>, NoMemory>
-    ensures empty { IfOk result (λ lists. (k : ℕ) → listed lists.items k ≡ []) }
-    ensures count { IfOk result (λ lists. length lists.items ≡ count) }
-{
-    let mut lists = Vec::with_capacity(alloc, count)?;
-    'lists: for _ in 0..count {
-        lists.push(Vec::new(alloc))?;
-    }
-    Ok(lists)
 }
 
 // Puts the number of a rule last in the list for as many entries as it needs.

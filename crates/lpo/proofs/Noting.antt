@@ -1,5 +1,5 @@
 -- The lists of rules by symbol, number by number.
-use Rattle.std.proofs.Common.{◌≡◌, ◌+◌, ◌<◌, ◌≤◌, ◌⊎◌, inl, inr, false, ℕ, zero, suc, List, [], ◌∷◌, ◌++◌, length, set, get_or, slice_get, Some, Vec, Global, refl, sym, ap, ◌∙◌, subst, arith}
+use Rattle.std.proofs.Common.{◌≡◌, ◌+◌, ◌<◌, ◌≤◌, ◌⊎◌, inl, inr, false, ℕ, List, [], ◌∷◌, ◌++◌, length, set, get_or, slice_get, Some, Vec, Global, sym, ap, ◌∙◌, subst, arith}
 use Rattle.std.proofs.lemmas.Bool.{cases_lt, cases_eq}
 use Rattle.std.proofs.lemmas.List.{length-set}
 use Rattle.std.proofs.lemmas.Option.{slice_get_within}
@@ -7,31 +7,15 @@ use Rattle.rewriting.specs.Prelude.{IsAmong, app}
 use Rattle.rewriting.specs.Rules as math
 use Rattle.rewriting.proofs.Lists.{among_left, among_either, among_middle}
 use Rattle.rewriting.proofs.Members.{among_place}
+use Rattle.unravel.specs.Listed.{listed}
+use Rattle.unravel.proofs.NumberLists.{there, elsewhere}
 use Rattle.lpo.specs.Rules.{is_dead_at}
 use Rattle.term_core.specs.View.{view, views}
 use Rattle.term_core.proofs.Views.{view-Fun}
 use Rattle.term_core.specs.declared.terms.Term as code
 use Rattle.term_core.specs.declared.terms.Term.TheVariants.{Fun}
 use Rattle.lpo.proofs.Steps.{behind_first, views_split}
-use Rattle.lpo.specs.Listed.{HasSymbol, HaveSymbol, OccursAt, listed, IsNoted, AreListed, ListedAnswers}
-
-pub listed_at : (lists : List (Vec ℕ Global)) (f : ℕ) (v : Vec ℕ Global) → f < length lists → v ≡ get_or lists f v → listed lists f ≡ v.items
-listed_at [] f v lt is = absurd (omega (arith, lt))
-listed_at (x ∷ lists) zero v lt is = ap (λ (z : Vec ℕ Global). z.items) (sym is)
-listed_at (x ∷ lists) (suc f) v lt is = listed_at lists f v (omega (arith, lt)) is
-
--- one list is replaced
-there : (lists : List (Vec ℕ Global)) (g : ℕ) (b v : Vec ℕ Global) (xs : List ℕ) → g < length lists → v.items ≡ (get_or lists g b).items ++ xs → listed (set lists g v) g ≡ listed lists g ++ xs
-there [] g b v xs lt e = absurd (omega (arith, lt))
-there (x ∷ lists) zero b v xs lt e = e
-there (x ∷ lists) (suc g) b v xs lt e = there lists g b v xs (omega (arith, lt)) e
-
-elsewhere : (lists : List (Vec ℕ Global)) (g f : ℕ) (v : Vec ℕ Global) → (f ≡ g → ⊥) → listed (set lists g v) f ≡ listed lists f
-elsewhere [] g f v d = refl
-elsewhere (x ∷ lists) zero zero v d = absurd (d refl)
-elsewhere (x ∷ lists) zero (suc f) v d = refl
-elsewhere (x ∷ lists) (suc g) zero v d = refl
-elsewhere (x ∷ lists) (suc g) (suc f) v d = elsewhere lists g f v (λ e. d (ap suc e))
+use Rattle.lpo.specs.Listed.{HasSymbol, HaveSymbol, OccursAt, IsNoted, AreListed, ListedAnswers}
 
 module _ (number : ℕ) where
   pub noted_last : (lists : List (Vec ℕ Global)) (s : ℕ) (b v : Vec ℕ Global) → s < length lists → v.items ≡ (get_or lists s b).items ++ number ∷ [] → IsNoted number (λ f. f ≡ s) lists (set lists s v)

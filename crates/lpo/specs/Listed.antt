@@ -1,8 +1,9 @@
 -- The rules in which symbols occur, as lists of their numbers.
-use Rattle.std.specs.Prelude.{ℕ, ◌≡◌, ◌<◌, ◌⊎◌, Bool, true, false, List, [], map, get_or, slice_get, length, Some, Vec}
+use Rattle.std.specs.Prelude.{ℕ, ◌≡◌, ◌<◌, ◌⊎◌, Bool, true, false, List, slice_get, length, Some, Vec}
 use Rattle.std.specs.Global.{Global}
 use Rattle.rewriting.specs.Prelude.{IsAmong, Term, var, app, Terms, nil, cons}
 use Rattle.rewriting.specs.Rules as math
+use Rattle.unravel.specs.Listed.{listed}
 use Rattle.lpo.specs.Rules.{is_dead_at}
 
 -- symbol f occurs in the term
@@ -18,10 +19,6 @@ abbrev mutual
 -- symbol f occurs in a side of the rule
 abbrev pub OccursAt : ℕ → math.Rule → Type 0
 OccursAt f r = HasSymbol f r.left ⊎ HasSymbol f r.right
-
--- the numbers in the list of a symbol
-abbrev pub listed : List (Vec ℕ Global) → ℕ → List ℕ
-listed lists f = get_or (map (λ v. v.items) lists) f []
 
 -- the number is put on the list of each symbol that has the property, and nothing else is changed
 pub record IsNoted (number : ℕ) (Has : ℕ → Type 0) (before after : List (Vec ℕ Global)) : Type 0 where

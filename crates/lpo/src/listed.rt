@@ -2,11 +2,13 @@
 ghost use Rattle.std.specs.Prelude.{◌≡◌, ◌<◌, ◌^◌, ℕ, [], OnOk, IfOk, IsTrue, map, length};
 ghost use Rattle.rewriting.specs.Lists.{IsAmong};
 ghost use Rattle.term_core.specs.Prelude.{view, views, rule_view};
-ghost use Rattle.lpo.specs.Listed.{AreListed, HasSymbol, HaveSymbol, IsNoted, ListedAnswers, OccursAt, listed};
+ghost use Rattle.lpo.specs.Listed.{AreListed, HasSymbol, HaveSymbol, IsNoted, ListedAnswers, OccursAt};
+ghost use Rattle.unravel.specs.Listed.{listed};
 
 use crate::rules::is_dead;
 use std::alloc::Global;
 use term_core::{NoMemory, Rule, Term};
+use unravel::empty_lists;
 
 fn is_last(list: &[u32], number: u32) -> bool
     ensures { IsTrue result → IsAmong number list.now }
@@ -64,18 +66,6 @@ fn note_rule(number: u32, rule: &Rule, lists: &mut [Vec<u32>]) -> Result<(), NoM
 {
     note_term(number, &rule.left, lists)?;
     note_term(number, &rule.right, lists)
-}
-
-// So many lists without a number.
-fn empty_lists(alloc: Global, count: usize) -> Result<Vec<Vec<u32>>, NoMemory>
-    ensures empty { IfOk result (λ lists. (f : ℕ) → listed lists.items f ≡ []) }
-    ensures count { IfOk result (λ lists. length lists.items ≡ count) }
-{
-    let mut lists = Vec::with_capacity(alloc, count)?;
-    'lists: for _ in 0..count {
-        lists.push(Vec::new(alloc))?;
-    }
-    Ok(lists)
 }
 
 // Puts the numbers of the rules, from 0, on empty lists.

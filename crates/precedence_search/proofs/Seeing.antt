@@ -11,7 +11,8 @@ use Rattle.path_orders.specs.Precedences.{Precedence, IsGood}
 use Rattle.path_orders.specs.Dead.{IsDead}
 use Rattle.lpo.specs.Answers.{IsOf}
 use Rattle.lpo.specs.Places.{ArePlaces}
-use Rattle.lpo.specs.Listed.{AreListed, ListedAnswers, listed}
+use Rattle.lpo.specs.Listed.{AreListed, ListedAnswers}
+use Rattle.unravel.specs.Listed.{listed}
 use Rattle.lpo.specs.Rules.{DeadAnswers}
 use Rattle.lpo.proofs.Placing.{within_heads}
 use Rattle.lpo.proofs.Judging.{dead_there, dead_answers, whole}

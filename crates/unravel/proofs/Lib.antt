@@ -1,4 +1,5 @@
 pub mod Kept
+pub mod NumberLists
 pub mod Appended
 pub mod Progress
 pub mod SymbolLists

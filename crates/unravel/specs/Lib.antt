@@ -1,3 +1,4 @@
 pub mod Answers
+pub mod Listed
 pub mod SideView
 pub mod RuleAnswers

@@ -1,6 +1,7 @@
 //! The unraveling of a conditional system: a system without conditions, whose auxiliary symbols keep the conditions.
 #![tactic(auto)]
 
+mod listed;
 mod rules;
 mod sides;
 mod symbols;
@@ -8,6 +9,7 @@ mod symbols;
 ghost use Rattle.std.specs.Prelude.{◌≡◌};
 ghost use Rattle.unravel.specs.Answers.{UnravelAnswers};
 
+pub use crate::listed::empty_lists;
 use crate::rules::unraveled_rules;
 pub use crate::rules::{RuleError, rules_of_one};
 use crate::symbols::unraveled_arities;

@@ -1,5 +1,5 @@
 use Rattle.std.proofs.Common.{◌≡◌, ◌++◌, ◌∷◌, [], if◌then◌else◌, nat_eq, set, arith, subst}
-use Rattle.grid_search.specs.Needed.{listed}
+use Rattle.unravel.specs.Listed.{listed}
 use Rattle.grid_search.proofs.Needed.{number_put}
 use Rattle.grid_search.proofs.needs.add_number.Goals as goal
 

@@ -1,6 +1,7 @@
 use Rattle.std.proofs.Common.{◌≡◌, ℕ, ◌+◌, ◌++◌, length, map, drop}
 use Rattle.term_core.specs.RuleView.{rule_view}
-use Rattle.grid_search.specs.Needed.{DoNeedBelow, numbers_needing, listed}
+use Rattle.grid_search.specs.Needed.{DoNeedBelow, numbers_needing}
+use Rattle.unravel.specs.Listed.{listed}
 use Rattle.grid_search.proofs.needs.add_rules.Given as goal
 
 abbrev pub invariant-rules : goal.invariant-rules

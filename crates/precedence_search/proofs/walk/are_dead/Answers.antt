@@ -5,7 +5,7 @@ use Rattle.rewriting.specs.Lists.{IsAmong}
 use Rattle.term_core.specs.Prelude.{head_view, rule_view}
 use Rattle.lpo.specs.Listed.{ListedAnswers}
 use Rattle.lpo.specs.Rules.{DeadAnswers}
-use Rattle.lpo.proofs.Noting.{listed_at}
+use Rattle.unravel.proofs.NumberLists.{listed_at}
 use Rattle.precedence_search.proofs.Seeing.{last_shown, sees_one, sees_order, last_has_symbol}
 use Rattle.precedence_search.proofs.walk.are_dead.Goals as goal
 

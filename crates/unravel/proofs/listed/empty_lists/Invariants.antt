@@ -1,9 +1,9 @@
 use Rattle.std.proofs.Common.{◌≡◌, ℕ, [], length}
-use Rattle.lpo.specs.Listed.{listed}
-use Rattle.lpo.proofs.listed.empty_lists.Given as goal
+use Rattle.unravel.specs.Listed.{listed}
+use Rattle.unravel.proofs.listed.empty_lists.Given as goal
 
 abbrev pub invariant-lists : goal.invariant-lists
 invariant-lists l = record {
-  empty : (f : ℕ) → listed l.lists.items f ≡ [];
+  empty : (k : ℕ) → listed l.lists.items k ≡ [];
   count : length l.lists.items ≡ l.counter;
 }
