@@ -3,10 +3,7 @@ ghost use Rattle.std.specs.Prelude.{◌≡◌, [], IfOk, map, length};
 ghost use Rattle.rewriting.specs.Systems.{condition_count};
 ghost use Rattle.term_core.specs.RuleView.{rule_view};
 
-use cert_check::check_bytes;
-use cops_read::{one_reading, read_system};
 use std::alloc::Global;
-use std::io;
 use term_core::{JoinError, NoMemory, Rule, System, Term};
 
 fn constant(alloc: Global, symbol: u32) -> Term {
@@ -36,8 +33,8 @@ fn two_steps(alloc: Global, other: u32) -> Result<Vec<Rule>, NoMemory>
     Ok(rules)
 }
 
-// The symbols of the system, with rules by which its first symbol leads to its second and to its last.
-fn with_foreign_rules(alloc: Global, sys: &System) -> Result<System, JoinError>
+/// The symbols of the system, with rules by which its first symbol leads to its second and to its last.
+pub fn with_foreign_rules(alloc: Global, sys: &System) -> Result<System, JoinError>
     ensures { IfOk result (λ s. s.arities ≡ sys.now.arities) }
 {
     // How many symbols a system may have is known of its rules.
@@ -45,19 +42,4 @@ fn with_foreign_rules(alloc: Global, sys: &System) -> Result<System, JoinError>
     let last = sys.arities().len().saturating_sub(1) as u32;
     let rules = two_steps(alloc, last)?;
     sys.with_rules(alloc, rules)
-}
-
-/// What is answered to a certificate, `FILE & CERTIFICATE` with a slash at each line's end, of the file's symbols with such rules.
-pub fn print_foreign(rt: &HostRuntime, text: &str) -> io::Result<()> {
-    one_reading();
-    let alloc = rt.alloc();
-    let (file, short) = text.split_once(" & ").unwrap_or((text, ""));
-    let cert = short.replace(alloc, "/", "\n")?;
-    let Ok((sys, names)) = read_system(alloc, file.as_bytes()) else {
-        return println!(rt; "no system");
-    };
-    let Ok(other) = with_foreign_rules(alloc, &sys) else {
-        return println!(rt; "no other system");
-    };
-    println!(rt; "{:?}", check_bytes(alloc, &other, &names, cert.as_bytes()))
 }

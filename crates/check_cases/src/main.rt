@@ -16,7 +16,6 @@ use behind::print_behind;
 use cert_model::PairEvidence;
 use cops_read::read_system;
 use critical_pairs::overlaps_in;
-use foreign::print_foreign;
 use infeasible::JudgeByKind;
 use measures::{NoRules, print_linear};
 use pair_check::{CertKind, judge_evidence};
@@ -64,11 +63,8 @@ fn print_case(rt: &HostRuntime, line: &str) -> io::Result<()> {
     if call == "behind" {
         return print_behind(rt, text);
     }
-    if call == "foreign" {
-        return print_foreign(rt, text);
-    }
-    if call == "text" {
-        return print_text(rt, text);
+    if call == "foreign" || call == "text" {
+        return print_text(rt, text, call == "foreign");
     }
     let Ok((sys, _)) = read_system(rt.alloc(), text.as_bytes()) else {
         return println!(rt; "no system");
