@@ -6,10 +6,9 @@ use Rattle.std.proofs.lemmas.List.{drop_more, drop_all}
 use Rattle.rewriting.specs.Prelude.{IsOver, IsSystem, IsWellFormed, IsAmong, AreDistinct}
 use Rattle.rewriting.proofs.Common.{Term, System, apply}
 use Rattle.rewriting.proofs.Laws.{well_formed}
-use Rattle.certificates.specs.Prelude.{Apartness, Redex, Peak, by_normal_forms, InfeasibilityEvidence, Derives, EvidenceReason, Rejection, redex_extra}
+use Rattle.certificates.specs.Prelude.{Apartness, Redex, Peak, by_normal_forms, InfeasibilityEvidence, Derives, EvidenceReason, Rejection, first_bad, second_bad, redex_extra}
 use Rattle.cert_model.specs.ReasonView.{rejected_view}
 use Rattle.renumbering.specs.Rows.{naming}
-use Rattle.term_core.specs.declared.systems.Rule as program
 use Rattle.validity.specs.declared.CheckError.{CheckError}
 use Rattle.validity.specs.declared.CheckError.TheVariants.{Rejected, NoMemory}
 use Rattle.valid_certificates.specs.Peaks.{RedexPlace, chosen, IsRedexJudged, AreRefuted, AreNotRefuted, IsMissed, AreNotShownApart, LeadsTo, HasFileSymbols, IsPeakRejected}
@@ -19,7 +18,7 @@ use Rattle.validity.specs.Answers.{PeakAnswers}
 use Rattle.redex_conditions.specs.Judged.{IsJudgedAt}
 use Rattle.redex_conditions.specs.Redexes.{redexes, AreRedexesOf}
 use Rattle.noncon_check.specs.Walks.{Judgement, IsEntry, IsAbsent, Pass, Fail, PlacesAnswer}
-use Rattle.noncon_check.specs.Ends.{FirstAnswers, SecondAnswers, SymbolAnswers, EndsAnswers, ApartAnswers, AreJudgedFrom, EndAnswers}
+use Rattle.noncon_check.specs.Ends.{DerivesAnswers, SymbolAnswers, EndsAnswers, ApartAnswers, AreJudgedFrom, EndAnswers}
 use Rattle.redex_conditions.proofs.Numbers.{AreBelow, redex_judged, same_redexes}
 use Rattle.redex_conditions.proofs.Places.{redexes_are}
 use Rattle.noncon_check.proofs.Walks.{pass_append, pass_fail, fail_append, pass_to, fail_to, answers_to}
@@ -159,12 +158,12 @@ apart_judged sys u v a (Ok _) own own' h = record { first = own; second = own'; 
 apart_judged sys u v a (Err (Rejected reason)) own own' h = inr (inr (own, own', h))
 apart_judged sys u v a (Err NoMemory) own own' h = tt
 
-pub first_rejected : (sys : System) (peak : Peak) (e : CheckError) → HasFileSymbols sys peak.start → FirstAnswers sys peak (Err e) → PeakAnswers sys peak (Err e)
+pub first_rejected : (sys : System) (peak : Peak) (e : CheckError) → HasFileSymbols sys peak.start → DerivesAnswers first_bad sys peak.start peak.first (Err e) → PeakAnswers sys peak (Err e)
 first_rejected sys peak (Rejected reason) own (bad, is, h) = subst (IsPeakRejected sys peak) (sym is) (first_fails own bad h)
 first_rejected sys peak NoMemory own h = tt
 
-pub second_rejected : (sys : System) (peak : Peak) (u : Term) (e : CheckError) → HasFileSymbols sys peak.start → Derives sys [] peak.start peak.first u → SecondAnswers sys peak (Err e)
-    → PeakAnswers sys peak (Err e)
+pub second_rejected : (sys : System) (peak : Peak) (u : Term) (e : CheckError) → HasFileSymbols sys peak.start → Derives sys [] peak.start peak.first u
+    → DerivesAnswers second_bad sys peak.start peak.second (Err e) → PeakAnswers sys peak (Err e)
 second_rejected sys peak u (Rejected reason) own first (bad, is, h) = subst (IsPeakRejected sys peak) (sym is) (second_fails own u bad first h)
 second_rejected sys peak u NoMemory own first h = tt
 

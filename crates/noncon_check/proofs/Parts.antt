@@ -5,7 +5,6 @@ use Rattle.rewriting.specs.Terms as math
 use Rattle.rewriting.specs.Prelude.{IsAmong, System}
 use Rattle.rule_index.specs.Parts.{Part, parts}
 use Rattle.certificates.specs.Prelude.{Redex, InfeasibilityEvidence, EvidenceReason}
-use Rattle.term_core.specs.declared.terms.Term.{Term}
 use Rattle.validity.specs.declared.CheckError.{CheckError}
 use Rattle.valid_certificates.specs.Peaks.{RedexPlace}
 use Rattle.redex_conditions.specs.Judged.{IsJudgedOn, IsJudgedAt}

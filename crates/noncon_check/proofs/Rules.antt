@@ -6,7 +6,6 @@ use Rattle.std.specs.FinMap.{empty}
 use Rattle.rewriting.specs.Prelude.{IsAmong, IsLeastMatch, HasNoMatch, Position, conditions_under}
 use Rattle.rewriting.proofs.Common.{Term, Bindings, Rule, System, rule_at}
 use Rattle.certificates.specs.Certificates as math
-use Rattle.term_core.specs.declared.systems.Rule as program
 use Rattle.cert_model.specs.CertificateView.{redex_view}
 use Rattle.cert_model.specs.declared.model.Redex as program_redex
 use Rattle.rule_index.specs.Parts.{part}

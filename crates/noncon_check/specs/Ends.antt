@@ -1,8 +1,8 @@
 -- What the steps of the check of a peak answer.
-use Rattle.std.specs.Prelude.{◌≡◌, ℕ, [], List, Result, Ok, Err}
+use Rattle.std.specs.Prelude.{◌≡◌, ℕ, Bool, true, false, [], List, Result, Ok, Err}
 use Rattle.rewriting.specs.Terms as math
 use Rattle.rewriting.specs.Rules.{System}
-use Rattle.certificates.specs.Prelude.{Peak, Apartness, Redex, Derives, IsFirstBad, foreign, first_bad, second_bad, BadStep}
+use Rattle.certificates.specs.Prelude.{Apartness, Redex, Derivation, Derives, IsFirstBad, Rejection, foreign, first_bad, second_bad, BadStep}
 use Rattle.term_core.specs.View.{view}
 use Rattle.term_core.specs.declared.terms.Term.{Term}
 use Rattle.cert_model.specs.ReasonView.{rejected_view}
@@ -17,15 +17,15 @@ pub record IsEnd (derives : math.Term → Type 0) (end : math.Term) : Type 0 whe
   pub derived : derives end
   pub fits : math.Fits end
 
-abbrev pub FirstAnswers : System → Peak → Result Term CheckError → Type 0
-FirstAnswers sys peak (Ok end) = IsEnd (λ t. Derives sys [] peak.start peak.first t) (view end)
-FirstAnswers sys peak (Err (Rejected reason)) = (bad : BadStep) × (rejected_view reason ≡ first_bad bad) × IsFirstBad sys [] peak.start peak.first bad
-FirstAnswers sys peak (Err NoMemory) = Unit {0}
+-- how a bad step of the first, or of the second, derivation is told
+abbrev pub bad_of : Bool → BadStep → Rejection
+bad_of false bad = first_bad bad
+bad_of true bad = second_bad bad
 
-abbrev pub SecondAnswers : System → Peak → Result Term CheckError → Type 0
-SecondAnswers sys peak (Ok end) = IsEnd (λ t. Derives sys [] peak.start peak.second t) (view end)
-SecondAnswers sys peak (Err (Rejected reason)) = (bad : BadStep) × (rejected_view reason ≡ second_bad bad) × IsFirstBad sys [] peak.start peak.second bad
-SecondAnswers sys peak (Err NoMemory) = Unit {0}
+abbrev pub DerivesAnswers : (BadStep → Rejection) → System → math.Term → Derivation → Result Term CheckError → Type 0
+DerivesAnswers told sys start d (Ok end) = IsEnd (λ t. Derives sys [] start d t) (view end)
+DerivesAnswers told sys start d (Err (Rejected reason)) = (bad : BadStep) × (rejected_view reason ≡ told bad) × IsFirstBad sys [] start d bad
+DerivesAnswers told sys start d (Err NoMemory) = Unit {0}
 
 -- two ends are shown to be apart, or the first reason why not
 abbrev pub ApartAnswers : System → math.Term → math.Term → Apartness → Result (Unit {0}) CheckError → Type 0

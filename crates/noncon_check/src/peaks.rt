@@ -8,39 +8,33 @@ ghost use Rattle.cert_model.specs.DerivationView.{derivation_view};
 ghost use Rattle.cert_model.specs.CertificateView.{apart_view, peak_view};
 ghost use Rattle.valid_certificates.specs.Laws.{ReachesApart};
 ghost use Rattle.validity.specs.Answers.{PeakAnswers};
-ghost use Rattle.noncon_check.specs.Ends.{FirstAnswers, SecondAnswers, SymbolAnswers, EndsAnswers};
+ghost use Rattle.noncon_check.specs.Ends.{bad_of, DerivesAnswers, SymbolAnswers, EndsAnswers};
 ghost use Rattle.noncon_check.specs.Judges.{AreFew};
 
 use crate::ends::check_apart;
-use cert_model::{NonJoin, Peak, Rejected};
+use cert_model::{Derivation, NonJoin, Peak, Rejected};
 use derivation::{ReplayError, replay};
 use std::alloc::Global;
 use term_core::{System, Term, has_symbols_below};
 use valid_certificates::valid_peaks_reach_apart;
 use validity::CheckError;
 
-// The end of the first derivation.
-fn first_end(alloc: Global, sys: &System, peak: &Peak) -> Result<Term, CheckError>
-    requires start { math.Fits (view peak.now.start) }
-    requires short { IsShort (derivation_view peak.now.first) }
-    ensures { FirstAnswers sys.now (peak_view peak.now) result }
+// Where a derivation leads to, or its first bad step, told as one of the first or of the second derivation.
+fn end_of(
+    alloc: Global,
+    sys: &System,
+    start: &Term,
+    d: &Derivation,
+    second: bool,
+) -> Result<Term, CheckError>
+    requires start { math.Fits (view start.now) }
+    requires short { IsShort (derivation_view d.now) }
+    ensures { DerivesAnswers (bad_of second) sys.now (view start.now) (derivation_view d.now) result }
 {
-    match replay(alloc, sys, &[], &peak.start, &peak.first) {
+    match replay(alloc, sys, &[], start, d) {
         Ok(end) => Ok(end),
+        Err(ReplayError::Bad(bad)) if second => Err(CheckError::Rejected(Rejected::SecondBad(bad))),
         Err(ReplayError::Bad(bad)) => Err(CheckError::Rejected(Rejected::FirstBad(bad))),
-        Err(ReplayError::NoMemory) => Err(CheckError::NoMemory),
-    }
-}
-
-// The end of the second one.
-fn second_end(alloc: Global, sys: &System, peak: &Peak) -> Result<Term, CheckError>
-    requires start { math.Fits (view peak.now.start) }
-    requires short { IsShort (derivation_view peak.now.second) }
-    ensures { SecondAnswers sys.now (peak_view peak.now) result }
-{
-    match replay(alloc, sys, &[], &peak.start, &peak.second) {
-        Ok(end) => Ok(end),
-        Err(ReplayError::Bad(bad)) => Err(CheckError::Rejected(Rejected::SecondBad(bad))),
         Err(ReplayError::NoMemory) => Err(CheckError::NoMemory),
     }
 }
@@ -83,8 +77,8 @@ fn judge_peak(alloc: Global, sys: &System, peak: &Peak) -> Result<(), CheckError
     ensures { PeakAnswers sys.now (peak_view peak.now) result }
 {
     check_symbols(sys, &peak.start, 0)?;
-    let first = first_end(alloc, sys, peak)?;
-    let second = second_end(alloc, sys, peak)?;
+    let first = end_of(alloc, sys, &peak.start, &peak.first, false)?;
+    let second = end_of(alloc, sys, &peak.start, &peak.second, true)?;
     check_ends(alloc, sys, &first, &second, &peak.apart)
 }
 
