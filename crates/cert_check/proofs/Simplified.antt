@@ -47,14 +47,8 @@ never_simplified steps t u e h = nothing_bare steps u (subst IsBare e h)
 
 -- a refusal is told as it is, and want of memory as such
 pub told : (sys : System) (names : NameTable) (bytes : List ℕ) (e : CertError) → IsRefusedAs names bytes e → BytesAnswers sys names bytes (Err (error_of_text e))
-told sys names bytes (refused.CertSyntax at) h = (λ k. cc, h)
-told sys names bytes (refused.UnknownName at) h = (λ k. cc, h)
-told sys names bytes (refused.WrongArity at) h = (λ k. cc, h)
-told sys names bytes (refused.BadNumber at) h = (λ k. cc, h)
-told sys names bytes (refused.BadShare at) h = (λ k. cc, h)
-told sys names bytes (refused.CertTooDeep at) h = (λ k. cc, h)
-told sys names bytes (refused.TooMany what at) h = (λ k. cc, h)
 told sys names bytes refused.NoMemory h = tt
+told sys names bytes _ h = (λ k. cc, h)
 
 -- ---- without steps
 
@@ -69,8 +63,8 @@ unsimplified_answered sys names bytes (Err NoMemory) h = tt
 
 module _ (sys last : System) (steps : List Simplification) (good : IsSystem sys) (all : AllSimplify sys steps last) where
   -- the text is one for the system that they leave
-  pub opened_behind : (names : NameTable) (bytes : List ℕ) (t : OpenedText) → IsOpenedFor sys names bytes (Some steps) t → IsOpenedFor last names bytes (Some steps) t
-  opened_behind names bytes t h = record { named = same_symbols sys last steps good all ∙ h.named; opened = h.opened }
+  pub opened_for_last : (names : NameTable) (bytes : List ℕ) (t : OpenedText) → IsOpenedFor sys names bytes (Some steps) t → IsOpenedFor last names bytes (Some steps) t
+  opened_for_last names bytes t h = record { named = same_symbols sys last steps good all ∙ h.named; opened = h.opened }
 
   pub simplified_answered : (names : NameTable) (bytes : List ℕ) (r : Result Verdict BytesError) → BodyAnswers last names bytes (Some steps) r → BytesAnswers sys names bytes (of_body r)
   simplified_answered names bytes (Ok v) h = (simplified_certificate steps h.0, h.1, (last, all, h.2), h.3)
@@ -97,7 +91,7 @@ module _ (sys last : System) (steps : List Simplification) (good : IsSystem sys)
 
     apart_so : ApartBehind → ApartBefore
     apart_so h names bytes o =
-        let found = h names bytes (Some steps) (opened_behind names bytes t o) in
+        let found = h names bytes (Some steps) (opened_for_last names bytes t o) in
         (simplified_certificate steps found.0, found.1, apart_before sys last steps found.0 good all found.2)
 
     pub simplified_no : (r : Result Verdict BytesError) → OnNo r ApartBehind → OnNo (of_body r) ApartBefore

@@ -8,19 +8,19 @@ use Rattle.tallies.specs.Tally.{Tally, IsQuasiTally}
 use Rattle.cops_names.specs.NameTable.{NameTable}
 use Rattle.cert_model.specs.ReasonView.{rejected_view}
 use Rattle.cert_model.specs.declared.reasons.Rejected as reasons
-use Rattle.cert_grammar.specs.Prelude.{IsUnsimplified, IsCertificateText, syntax, unknown_name, wrong_arity, bad_number, bad_share, too_many, too_deep}
+use Rattle.cert_grammar.specs.Prelude.{IsUnsimplified, IsCertificateText}
 use Rattle.cert_sharing.specs.SharedLaws.{NeverBoth}
 use Rattle.cert_words.specs.CertRefusals.{IsRefusedAs}
-use Rattle.cert_words.specs.Words.{counted_view}
 use Rattle.cert_words.specs.declared.error.CertError.{CertError}
 use Rattle.cert_words.specs.declared.error.CertError.TheVariants as refused
-use Rattle.cert_openings.specs.Openings.{Opening, simplified_opening, certificate_for}
+use Rattle.cert_openings.specs.Openings.{Opening, certificate_for}
 use Rattle.cert_text.specs.Reading.{Reading, HasRead}
+use Rattle.cert_text.specs.Front.{opening_behind, opened_behind}
 use Rattle.cert_text.specs.OpenedText.{OpenedText, at_entries, whole, IsOpenedAs}
 use Rattle.cert_check.specs.Kinds.{CanPeakBeJudged}
 use Rattle.cert_check.specs.Answers.{OnYes, OnNo}
 use Rattle.cert_check.specs.BytesErrors.{error_of_text}
-use Rattle.cert_check.specs.Bytes.{IsTold, BytesAnswers, behind, text_behind, IsOpenedFor, BodyAnswers, EntriesAnswer, PeakAnswers, RestAnswers, WholeAnswers, IsNoRefusal}
+use Rattle.cert_check.specs.Bytes.{IsTold, BytesAnswers, behind, IsOpenedFor, BodyAnswers, EntriesAnswer, PeakAnswers, RestAnswers, WholeAnswers, IsNoRefusal}
 use Rattle.cert_check.specs.declared.Verdict.{Verdict}
 use Rattle.cert_check.specs.declared.Verdict.TheVariants.{Yes, No}
 use Rattle.cert_check.specs.declared.bytes.BytesError.{BytesError}
@@ -48,14 +48,8 @@ rejected_answer sys names bytes o own es reason r is text rejected = subst (Entr
 
 -- so is the refusal of the text
 refused_so : (sys : System) (names : NameTable) (bytes : List ℕ) (o own : Opening) (e : CertError) → IsRefusedAs names bytes e → EntriesAnswer sys names bytes o own (Err (error_of_text e))
-refused_so sys names bytes o own (refused.CertSyntax at) h = (λ k. cc, h)
-refused_so sys names bytes o own (refused.UnknownName at) h = (λ k. cc, h)
-refused_so sys names bytes o own (refused.WrongArity at) h = (λ k. cc, h)
-refused_so sys names bytes o own (refused.BadNumber at) h = (λ k. cc, h)
-refused_so sys names bytes o own (refused.BadShare at) h = (λ k. cc, h)
-refused_so sys names bytes o own (refused.CertTooDeep at) h = (λ k. cc, h)
-refused_so sys names bytes o own (refused.TooMany what at) h = (λ k. cc, h)
 refused_so sys names bytes o own refused.NoMemory h = tt
+refused_so sys names bytes o own _ h = (λ k. cc, h)
 
 pub refused_there : (names : NameTable) (bytes : List ℕ) (r : Reading) → r.names ≡ names → r.bytes ≡ bytes → (e : CertError) → IsRefusedAs r.names r.bytes e → IsRefusedAs names bytes e
 refused_there names bytes r n b e h = subst (λ x. IsRefusedAs x bytes e) n (subst (λ x. IsRefusedAs r.names x e) b h)
@@ -67,41 +61,28 @@ refused_answer sys names bytes o own r n b e h answer is = subst (EntriesAnswer 
 -- ---- no text is refused that has a certificate
 
 told_never : NeverBoth → (names : NameTable) (bytes : List ℕ) (c : Certificate) → IsCertificateText names bytes c → (e : CertError) → IsTold names bytes e → ⊥
-told_never never names bytes c text (refused.CertSyntax at) h = never names bytes c syntax at text h.1
-told_never never names bytes c text (refused.UnknownName at) h = never names bytes c unknown_name at text h.1
-told_never never names bytes c text (refused.WrongArity at) h = never names bytes c wrong_arity at text h.1
-told_never never names bytes c text (refused.BadNumber at) h = never names bytes c bad_number at text h.1
-told_never never names bytes c text (refused.BadShare at) h = never names bytes c bad_share at text h.1
-told_never never names bytes c text (refused.CertTooDeep at) h = never names bytes c too_deep at text h.1
-told_never never names bytes c text (refused.TooMany what at) h = never names bytes c (too_many (counted_view what)) at text h.1
 told_never never names bytes c text refused.NoMemory h = h.0 refl
+told_never never names bytes c text _ h = never names bytes c _ _ text h.1
 
 pub exact_refusal : NeverBoth → (sys : System) (names : NameTable) (bytes : List ℕ) (r : Result Verdict BytesError) → BytesAnswers sys names bytes r
     → (c : Certificate) → IsCertificateText names bytes c → IsNoRefusal r
-exact_refusal never sys names bytes (Ok v) h c text = tt
 exact_refusal never sys names bytes (Err (Cert e)) h c text = told_never never names bytes c text e h
-exact_refusal never sys names bytes (Err (Rejected reason)) h c text = tt
-exact_refusal never sys names bytes (Err (RejectedBehindSteps reason)) h c text = tt
-exact_refusal never sys names bytes (Err NoMemory) h c text = tt
+exact_refusal never sys names bytes _ h c text = tt
 
 -- ---- a body at its entries
-
-abbrev opening_behind : Option (List Simplification) → Opening → Opening
-opening_behind None own = own
-opening_behind (Some steps) own = simplified_opening steps own
 
 certificate_behind : (before : Option (List Simplification)) (own : Opening) (es : List PairEntry) → certificate_for (opening_behind before own) es ≡ behind before (certificate_for own es)
 certificate_behind None own es = refl
 certificate_behind (Some steps) own es = refl
 
 module _ (names : NameTable) (bytes : List ℕ) (before : Option (List Simplification)) (own : Opening) (r : Reading) (t : OpenedText) (shown : t ≡ at_entries own r)
-    (opened : IsOpenedAs names bytes (text_behind before t)) where
-  stands : (b : Option (List Simplification)) → IsOpenedAs names bytes (text_behind b (at_entries own r)) → IsOpenedAs names bytes (at_entries (opening_behind b own) r)
+    (opened : IsOpenedAs names bytes (opened_behind before t)) where
+  stands : (b : Option (List Simplification)) → IsOpenedAs names bytes (opened_behind b (at_entries own r)) → IsOpenedAs names bytes (at_entries (opening_behind b own) r)
   stands None h = h
   stands (Some steps) h = h
 
   here : IsOpenedAs names bytes (at_entries (opening_behind before own) r)
-  here = stands before (subst (λ x. IsOpenedAs names bytes (text_behind before x)) shown opened)
+  here = stands before (subst (λ x. IsOpenedAs names bytes (opened_behind before x)) shown opened)
 
   -- its opening is read
   pub read_so : (o : Opening) × HasRead r o []
@@ -161,13 +142,13 @@ so_no A B (Err e) f h = tt
 -- ---- a whole peak
 
 module _ (names : NameTable) (bytes : List ℕ) (before : Option (List Simplification)) (peak : Peak) (t : OpenedText) (shown : t ≡ whole (peak_certificate peak))
-    (opened : IsOpenedAs names bytes (text_behind before t)) where
-  whole_text : (b : Option (List Simplification)) → IsOpenedAs names bytes (text_behind b (whole (peak_certificate peak))) → IsCertificateText names bytes (behind b (peak_certificate peak))
+    (opened : IsOpenedAs names bytes (opened_behind before t)) where
+  whole_text : (b : Option (List Simplification)) → IsOpenedAs names bytes (opened_behind b (whole (peak_certificate peak))) → IsCertificateText names bytes (behind b (peak_certificate peak))
   whole_text None h = h
   whole_text (Some steps) h = h
 
   pub peak_text : IsCertificateText names bytes (behind before (peak_certificate peak))
-  peak_text = whole_text before (subst (λ x. IsOpenedAs names bytes (text_behind before x)) shown opened)
+  peak_text = whole_text before (subst (λ x. IsOpenedAs names bytes (opened_behind before x)) shown opened)
 
   -- it may be judged
   pub peak_judged : (sys : System) → sys.arities ≡ map (λ s. s.1) names.symbols → CanPeakBeJudged sys peak

@@ -12,7 +12,8 @@ use Rattle.cert_openings.specs.Openings.{Opening, certificate_for}
 use Rattle.cert_words.specs.CertRefusals.{IsRefusedAs}
 use Rattle.cert_words.specs.declared.error.CertError.{CertError}
 use Rattle.cert_words.specs.declared.error.CertError.TheVariants as refused
-use Rattle.cert_text.specs.OpenedText.{OpenedText, at_entries, whole, behind_steps, IsOpenedAs}
+use Rattle.cert_text.specs.Front.{opened_behind}
+use Rattle.cert_text.specs.OpenedText.{OpenedText, at_entries, whole, IsOpenedAs}
 use Rattle.cert_check.specs.Kinds.{verdict_of, IsOfStep}
 use Rattle.cert_check.specs.declared.Verdict.{Verdict}
 use Rattle.cert_check.specs.declared.Verdict.TheVariants.{No}
@@ -44,11 +45,6 @@ abbrev pub behind : Option (List Simplification) → Certificate → Certificate
 behind None c = c
 behind (Some steps) c = simplified_certificate steps c
 
--- an opened text so
-abbrev pub text_behind : Option (List Simplification) → OpenedText → OpenedText
-text_behind None t = t
-text_behind (Some steps) t = behind_steps steps t
-
 -- no steps stand before it
 abbrev pub IsBare : OpenedText → Type 0
 IsBare (at_entries o r) = (es : List PairEntry) → IsUnsimplified (certificate_for o es)
@@ -57,7 +53,7 @@ IsBare (whole c) = IsUnsimplified c
 -- the bytes are opened as this text behind steps or none, and the symbols of the system are those of the names
 pub record IsOpenedFor (sys : System) (names : NameTable) (bytes : List ℕ) (before : Option (List Simplification)) (t : OpenedText) : Type 0 where
   pub named : sys.arities ≡ map (λ s. s.1) names.symbols
-  pub opened : IsOpenedAs names bytes (text_behind before t)
+  pub opened : IsOpenedAs names bytes (opened_behind before t)
 
 -- what is judged of the body of a certificate of which they are the text
 abbrev pub BodyAnswers : System → NameTable → List ℕ → Option (List Simplification) → Result Verdict BytesError → Type 0

@@ -12,7 +12,7 @@ ghost use Rattle.cert_text.specs.OpenedText.{opened_view, IsOpenedAs};
 ghost use Rattle.cert_check.specs.Kinds.{CanPeakBeJudged};
 ghost use Rattle.cert_check.specs.Answers.{OnYes, OnNo};
 ghost use Rattle.cert_check.specs.Bytes as answers;
-ghost use Rattle.cert_check.specs.Bytes.{BytesAnswers, behind, text_behind, IsBare, IsOpenedFor, BodyAnswers, PeakAnswers, WholeAnswers, IsNoRefusal};
+ghost use Rattle.cert_check.specs.Bytes.{BytesAnswers, behind, IsBare, IsOpenedFor, BodyAnswers, PeakAnswers, WholeAnswers, IsNoRefusal};
 
 use crate::behind::system_behind;
 use crate::entries::{judge_ortho, judge_quasi, pass_entries};
@@ -121,8 +121,8 @@ fn judge_opened(alloc: Global, sys: &System, opened: Opened<'_>) -> Result<Verdi
 #[tactic(auto, using(cert_text::proofs::OpenedViews::ortho_opened, cert_text::proofs::OpenedViews::quasi_opened, cert_text::proofs::OpenedViews::peak_opened, cert_text::proofs::OpenedViews::simplified_opened))]
 fn read_on(alloc: Global, opened: Opened<'_>) -> Result<(), CertError>
     requires bare { IsBare (opened_view opened) }
-    requires opened { (names : NameTable) × (bytes : List ℕ) × (before : Option (List Simplification)) × IsOpenedAs names bytes (text_behind before (opened_view opened)) }
-    ensures { (names : NameTable) (bytes : List ℕ) (before : Option (List Simplification)) → IsOpenedAs names bytes (text_behind before (opened_view opened.entry)) → WholeAnswers names bytes before result }
+    requires opened { (names : NameTable) × (bytes : List ℕ) × (before : Option (List Simplification)) × IsOpenedAs names bytes (opened_behind before (opened_view opened)) }
+    ensures { (names : NameTable) (bytes : List ℕ) (before : Option (List Simplification)) → IsOpenedAs names bytes (opened_behind before (opened_view opened.entry)) → WholeAnswers names bytes before result }
 {
     match opened {
         Opened::Ortho(mut pairs) => pass_entries(alloc, &mut pairs),

@@ -90,24 +90,14 @@ bytes_replied law sys names bytes units before after same (Err e) h = h
 module _ (query : Bytes) (failed : Type 0) (sys : System) (names : NameTable) (budget : ℕ) (bytes : List ℕ) (f : query bytes) (short : length bytes ≤ most_query_bytes) where
   too_many : (what : Count) (limit at : ℕ) → HasTooMany sys names.symbols bytes what at → IfSome (query_refusal_of (error.TooMany what limit at)) (IsRefusedQuery query sys names)
   too_many count.Rules limit at h = absurd h
-  too_many count.Conditions limit at h = (bytes, f, (short, h))
   too_many count.Arity limit at h = absurd h
-  too_many count.Nodes limit at h = (bytes, f, (short, h))
-  too_many count.Variables limit at h = (bytes, f, (short, h))
   too_many count.Symbols limit at h = absurd h
+  too_many _ limit at h = (bytes, f, (short, h))
 
   pub query_refused : (e : QueryError) → BytesReply sys names bytes budget (Err e) → QueryReplies query failed sys names budget (Err (no_reply.QueryRefused e))
-  query_refused (error.JoinSystem at) h = (bytes, f, (short, h))
-  query_refused (error.BadByte at) h = (bytes, f, (short, h))
-  query_refused (error.IdTooLong at) h = (bytes, f, (short, h))
-  query_refused (error.CommentNotClosed at) h = (bytes, f, (short, h))
-  query_refused (error.Syntax at) h = (bytes, f, (short, h))
-  query_refused (error.TooMany what limit at) h = too_many what limit at h.0
-  query_refused (error.TooDeep at) h = (bytes, f, (short, h))
-  query_refused (error.VariableWithArguments at) h = (bytes, f, (short, h))
-  query_refused (error.UnknownName at) h = (bytes, f, (short, h))
-  query_refused (error.ArityDiffers at) h = (bytes, f, (short, h))
   query_refused error.NoMemory h = tt
+  query_refused (error.TooMany what limit at) h = too_many what limit at h.0
+  query_refused _ h = (bytes, f, (short, h))
 
 module _ (shelf : ShelfRun) (file query : List ℕ) (budget : ℕ) where
   -- the file gives no system

@@ -1,6 +1,7 @@
 -- A test: its words; nothing but memory can stand in its way, and it counts what it has to.
 use Rattle.std.proofs.Common.{◌≡◌, ◌⊎◌, ◌+◌, ◌*◌, ◌<◌, ◌≤◌, ◌++◌, ℕ, zero, suc, List, [], map, length, Ok, refl, sym, ap, ap₂, ◌∙◌, subst, inl, inr, decimal, arith}
 use Rattle.std.specs.List.{range_with_len}
+use Rattle.std.specs.Prelude.{unwrap_or}
 use Rattle.std.proofs.lemmas.List.{length-map}
 use Rattle.std.proofs.lemmas.List.FromFn.{length-map-range_with_len}
 use Rattle.rewriting.specs.Rules.{System}
@@ -9,14 +10,13 @@ use Rattle.valid_certificates.specs.Entries.{ArePairsShort}
 use Rattle.term_core.specs.RuleView.{rule_view}
 use Rattle.term_core.specs.declared.systems.Rule.{Rule}
 use Rattle.cops_names.specs.NameTable.{NameTable}
-use Rattle.file_text.specs.Tokens.{bad_byte, long_id, open_comment}
-use Rattle.file_text.specs.Refusals.{unknown_block, repeated_block, other_condition_type, wrong_syntax, missing_rules}
+use Rattle.file_text.specs.Tokens.{bad_byte}
 use Rattle.cops_read.specs.Answers.{NeverSystemAndRefusal, IsRefusedFor, cause_of_count}
-use Rattle.cops_read.specs.Refusals.{conditions_without_type, too_deep, variable_with_arguments, left_variable, arity_differs}
-use Rattle.cops_read.specs.File.{IsFile, no_tokens, no_tree, no_meaning}
+use Rattle.cops_read.specs.File.{IsFile, no_tokens, no_meaning}
 use Rattle.cops_read.specs.declared.errors.ReadError.{ReadError}
 use Rattle.cops_read.specs.declared.errors.ReadError.TheVariants as unread
 use Rattle.cops_write.specs.Text.{system_text}
+use Rattle.refusal_texts.specs.Files.{file_error_cause}
 use Rattle.cert_grammar.specs.Prelude.{second_version, certificate_text, CanBeSpelt, IsCertificateText}
 use Rattle.cert_sharing.specs.SharedLaws.{NeverBoth}
 use Rattle.cert_model.specs.CertificateView.{certificate_view}
@@ -59,32 +59,14 @@ written_cert names c start bytes none text spelt =
 
 -- a text that spells a system is not refused, and nor is that of a certificate
 pub never_refused : NeverSystemAndRefusal → (bytes : List ℕ) (sys : System) (names : NameTable) → IsFile bytes sys names → (e : ReadError) → (e ≡ unread.NoMemory → ⊥) → IsRefusedFor bytes e → ⊥
-never_refused never bytes sys names file (unread.BadByte at) other h = never bytes sys names (no_tokens bad_byte) at file h
-never_refused never bytes sys names file (unread.IdTooLong at) other h = never bytes sys names (no_tokens long_id) at file h
-never_refused never bytes sys names file (unread.CommentNotClosed at) other h = never bytes sys names (no_tokens open_comment) at file h
-never_refused never bytes sys names file (unread.Syntax at) other h = never bytes sys names (no_tree wrong_syntax) at file h
-never_refused never bytes sys names file (unread.UnknownBlock at) other h = never bytes sys names (no_tree unknown_block) at file h
-never_refused never bytes sys names file (unread.RepeatedBlock at) other h = never bytes sys names (no_tree repeated_block) at file h
-never_refused never bytes sys names file (unread.ConditionTypeOther at) other h = never bytes sys names (no_tree other_condition_type) at file h
-never_refused never bytes sys names file (unread.MissingRules at) other h = never bytes sys names (no_tree missing_rules) at file h
-never_refused never bytes sys names file (unread.ConditionsWithoutType at) other h = never bytes sys names (no_meaning conditions_without_type) at file h
-never_refused never bytes sys names file (unread.VariableWithArguments at) other h = never bytes sys names (no_meaning variable_with_arguments) at file h
-never_refused never bytes sys names file (unread.ArityDiffers at) other h = never bytes sys names (no_meaning arity_differs) at file h
-never_refused never bytes sys names file (unread.LeftVariable at) other h = never bytes sys names (no_meaning left_variable) at file h
-never_refused never bytes sys names file (unread.TooDeep at) other h = never bytes sys names (no_meaning too_deep) at file h
-never_refused never bytes sys names file (unread.TooMany what limit at) other h = never bytes sys names (no_meaning (cause_of_count what)) at file h.0
 never_refused never bytes sys names file unread.NoMemory other h = other refl
+never_refused never bytes sys names file (unread.TooMany what limit at) other h = never bytes sys names (no_meaning (cause_of_count what)) at file h.0
+never_refused never bytes sys names file e other h = let r = unwrap_or (file_error_cause e) (no_tokens bad_byte, 0) in never bytes sys names r.0 r.1 file h
 
 pub never_refused_cert : NeverBoth → (names : NameTable) (bytes : List ℕ) (c : math.Certificate) → IsCertificateText names bytes c → (e : CertError) → (e ≡ bad.NoMemory → ⊥)
     → IsRefusedAs names bytes e → ⊥
-never_refused_cert never names bytes c text (bad.CertSyntax at) other h = never names bytes c _ at text h
-never_refused_cert never names bytes c text (bad.UnknownName at) other h = never names bytes c _ at text h
-never_refused_cert never names bytes c text (bad.WrongArity at) other h = never names bytes c _ at text h
-never_refused_cert never names bytes c text (bad.BadNumber at) other h = never names bytes c _ at text h
-never_refused_cert never names bytes c text (bad.BadShare at) other h = never names bytes c _ at text h
-never_refused_cert never names bytes c text (bad.CertTooDeep at) other h = never names bytes c _ at text h
-never_refused_cert never names bytes c text (bad.TooMany what at) other h = never names bytes c _ at text h
 never_refused_cert never names bytes c text bad.NoMemory other h = other refl
+never_refused_cert never names bytes c text _ other h = never names bytes c _ _ text h
 
 -- a search that the first space has a certificate for, at a price within the budget
 module _ (names : NameTable) (sys : System) (before after : Counts) (o : Outcome) where

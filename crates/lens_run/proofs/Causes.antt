@@ -19,31 +19,12 @@ use Rattle.lens_run.specs.declared.status.Status.TheVariants as status
 use Rattle.lens_run.proofs.Unread.{refused}
 
 file_cause : (bytes : List ℕ) (e : ReadError) → IsRefusedFor bytes e → IfSome (file_error_cause e) (λ r. IsNoFile bytes r.0 r.1)
-file_cause bytes (reading.BadByte at) h = h
-file_cause bytes (reading.IdTooLong at) h = h
-file_cause bytes (reading.CommentNotClosed at) h = h
-file_cause bytes (reading.Syntax at) h = h
-file_cause bytes (reading.UnknownBlock at) h = h
-file_cause bytes (reading.RepeatedBlock at) h = h
-file_cause bytes (reading.ConditionTypeOther at) h = h
-file_cause bytes (reading.MissingRules at) h = h
-file_cause bytes (reading.ConditionsWithoutType at) h = h
-file_cause bytes (reading.VariableWithArguments at) h = h
-file_cause bytes (reading.ArityDiffers at) h = h
-file_cause bytes (reading.LeftVariable at) h = h
-file_cause bytes (reading.TooDeep at) h = h
 file_cause bytes (reading.TooMany what limit at) h = h.0
-file_cause bytes reading.NoMemory h = tt
+file_cause bytes _ h = h
 
 cert_cause : (names : NameTable) (bytes : List ℕ) (e : CertError) → IsRefusedAs names bytes e → IfSome (cert_error_cause e) (λ r. IsCertificateRefused names bytes r.0 r.1)
-cert_cause names bytes (certs.CertSyntax at) h = h
-cert_cause names bytes (certs.UnknownName at) h = h
-cert_cause names bytes (certs.WrongArity at) h = h
-cert_cause names bytes (certs.BadNumber at) h = h
-cert_cause names bytes (certs.BadShare at) h = h
-cert_cause names bytes (certs.CertTooDeep at) h = h
-cert_cause names bytes (certs.TooMany what at) h = h
 cert_cause names bytes certs.NoMemory h = tt
+cert_cause names bytes _ h = h
 
 module _ (told : Option (List ℕ)) (failed : Type 0) (name bytes : List ℕ) (is : told_or_any told bytes) (said : Said) where
   pub file_refused : (e : ReadError) → IsRefusedFor bytes e → IsSaidRefused status.FileRefused name bytes (file_refusal_text e) said → NoSystemSaid (told_or_any told) failed name said

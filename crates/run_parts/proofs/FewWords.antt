@@ -27,46 +27,28 @@ other_word ws d i known all lt h at e =
 
 pub two_words : (ws : List (Bor (List ℕ))) (d : Bor (List ℕ)) (command : List ℕ) → 2 ≤ length ws → length ws < 3 → false ≡ not (bytes_eq (get_or ws 0 d).now command)
     → texts ws ≡ command ∷ (get_or ws 1 d).now ∷ []
-two_words [] d command le lt h = absurd (omega arith)
-two_words (a ∷ []) d command le lt h = absurd (omega arith)
 two_words (a ∷ b ∷ []) d command le lt h = ap (λ (w : List ℕ). w ∷ b.now ∷ []) (same_word a.now command h)
-two_words (a ∷ b ∷ c ∷ ws) d command le lt h = absurd (omega arith)
+two_words _ d command le lt h = absurd (omega arith)
 
 pub three_words : (ws : List (Bor (List ℕ))) (d : Bor (List ℕ)) (command : List ℕ) → 3 ≤ length ws → length ws < 4 → false ≡ not (bytes_eq (get_or ws 0 d).now command)
     → texts ws ≡ command ∷ (get_or ws 1 d).now ∷ (get_or ws 2 d).now ∷ []
-three_words [] d command le lt h = absurd (omega arith)
-three_words (a ∷ []) d command le lt h = absurd (omega arith)
-three_words (a ∷ b ∷ []) d command le lt h = absurd (omega arith)
 three_words (a ∷ b ∷ c ∷ []) d command le lt h = ap (λ (w : List ℕ). w ∷ b.now ∷ c.now ∷ []) (same_word a.now command h)
-three_words (a ∷ b ∷ c ∷ e ∷ ws) d command le lt h = absurd (omega arith)
+three_words _ d command le lt h = absurd (omega arith)
 
 -- of four words the third, or the last, is known too
 module _ (d : Bor (List ℕ)) (command option : List ℕ) where
   pub four_words : (ws : List (Bor (List ℕ))) → 4 ≤ length ws → length ws < 5 → false ≡ not (bytes_eq (get_or ws 0 d).now command)
       → false ≡ not (bytes_eq (get_or ws 2 d).now option) → texts ws ≡ command ∷ (get_or ws 1 d).now ∷ option ∷ (get_or ws 3 d).now ∷ []
-  four_words [] le lt h k = absurd (omega arith)
-  four_words (a ∷ []) le lt h k = absurd (omega arith)
-  four_words (a ∷ b ∷ []) le lt h k = absurd (omega arith)
-  four_words (a ∷ b ∷ c ∷ []) le lt h k = absurd (omega arith)
   four_words (a ∷ b ∷ c ∷ e ∷ []) le lt h k = ap₂ (λ (w v : List ℕ). w ∷ b.now ∷ v ∷ e.now ∷ []) (same_word a.now command h) (same_word c.now option k)
-  four_words (a ∷ b ∷ c ∷ e ∷ f ∷ ws) le lt h k = absurd (omega arith)
+  four_words _ le lt h k = absurd (omega arith)
 
   pub four_words_last : (ws : List (Bor (List ℕ))) → 4 ≤ length ws → length ws < 5 → false ≡ not (bytes_eq (get_or ws 0 d).now command)
       → false ≡ not (bytes_eq (get_or ws 3 d).now option) → texts ws ≡ command ∷ (get_or ws 1 d).now ∷ (get_or ws 2 d).now ∷ option ∷ []
-  four_words_last [] le lt h k = absurd (omega arith)
-  four_words_last (a ∷ []) le lt h k = absurd (omega arith)
-  four_words_last (a ∷ b ∷ []) le lt h k = absurd (omega arith)
-  four_words_last (a ∷ b ∷ c ∷ []) le lt h k = absurd (omega arith)
   four_words_last (a ∷ b ∷ c ∷ e ∷ []) le lt h k = ap₂ (λ (w v : List ℕ). w ∷ b.now ∷ c.now ∷ v ∷ []) (same_word a.now command h) (same_word e.now option k)
-  four_words_last (a ∷ b ∷ c ∷ e ∷ f ∷ ws) le lt h k = absurd (omega arith)
+  four_words_last _ le lt h k = absurd (omega arith)
 
   -- of five words the fourth is known too
   pub five_words : (ws : List (Bor (List ℕ))) → 5 ≤ length ws → length ws < 6 → false ≡ not (bytes_eq (get_or ws 0 d).now command)
       → false ≡ not (bytes_eq (get_or ws 3 d).now option) → texts ws ≡ command ∷ (get_or ws 1 d).now ∷ (get_or ws 2 d).now ∷ option ∷ (get_or ws 4 d).now ∷ []
-  five_words [] le lt h k = absurd (omega arith)
-  five_words (a ∷ []) le lt h k = absurd (omega arith)
-  five_words (a ∷ b ∷ []) le lt h k = absurd (omega arith)
-  five_words (a ∷ b ∷ c ∷ []) le lt h k = absurd (omega arith)
-  five_words (a ∷ b ∷ c ∷ e ∷ []) le lt h k = absurd (omega arith)
   five_words (a ∷ b ∷ c ∷ e ∷ f ∷ []) le lt h k = ap₂ (λ (w v : List ℕ). w ∷ b.now ∷ c.now ∷ v ∷ f.now ∷ []) (same_word a.now command h) (same_word e.now option k)
-  five_words (a ∷ b ∷ c ∷ e ∷ f ∷ g ∷ ws) le lt h k = absurd (omega arith)
+  five_words _ le lt h k = absurd (omega arith)

@@ -138,9 +138,10 @@ fn put_list(
     start: &Term,
     budget: &mut Budget,
 )
-    requires fit { DoConditionsFit (map condition_view overlap.now.conds.items) }
-    requires few { length overlap.now.conds.items ≤ 200 }
+    requires overlap { IsOverlapOf subject.now.prepared.now (overlap_view overlap.now) }
 {
+    // That conditions are few and fit is known of the rules of a system.
+    let _rules = subject.prepared.rules();
     match listed(
         page,
         subject.prepared.indexed(),
@@ -157,8 +158,6 @@ fn put_list(
 fn put_join(page: &mut Page<'_>, subject: &Subject<'_>, overlap: &Overlap, budget: &mut Budget)
     requires overlap { IsOverlapOf subject.now.prepared.now (overlap_view overlap.now) }
 {
-    // That conditions are few and fit is known of the rules of a system.
-    let _rules = subject.prepared.rules();
     page.words(
         "      join: no term is reached from both, under the conditions and in five steps\n        left:  ",
     );
@@ -171,8 +170,6 @@ fn put_join(page: &mut Page<'_>, subject: &Subject<'_>, overlap: &Overlap, budge
 fn put_reducts(page: &mut Page<'_>, subject: &Subject<'_>, overlap: &Overlap, budget: &mut Budget)
     requires overlap { IsOverlapOf subject.now.prepared.now (overlap_view overlap.now) }
 {
-    // That conditions are few and fit is known of the rules of a system.
-    let _rules = subject.prepared.rules();
     'conds: for (i, cond) in overlap.conds.iter().enumerate() {
         page.put(
             "      unfeasible #: of the terms that its left side reaches no two are irreducible and do not unify\n        ",

@@ -5,7 +5,7 @@ use Rattle.cert_model.specs.CertificateView.{simp_view}
 use Rattle.cert_text.specs.OpenedText.{opened_view}
 use Rattle.cert_check.specs.Answers.{StepsAnswer, OnYes, OnNo}
 use Rattle.cert_check.specs.Bytes.{BytesAnswers}
-use Rattle.cert_check.proofs.Simplified.{bare_behind, opened_behind, simplified_answered, simplified_yes, simplified_no, ApartBefore, told, step_answered}
+use Rattle.cert_check.proofs.Simplified.{bare_behind, opened_for_last, simplified_answered, simplified_yes, simplified_no, ApartBefore, told, step_answered}
 use Rattle.cert_check.proofs.bytes.judge_simplified.Goals as goal
 
 pub judge_opened-requires-clause-bare : goal.judge_opened-requires-clause-bare
@@ -17,7 +17,7 @@ judge_opened-requires-clause-opened c =
       c.requires.0,
       c.requires.1,
       Some steps,
-      opened_behind c.args.sys.now c.in-Ok.last steps c.rules-rules.ensures.sound c.in-Ok.ensures c.requires.0 c.requires.1 (opened_view c.args.body) c.requires.2,
+      opened_for_last c.args.sys.now c.in-Ok.last steps c.rules-rules.ensures.sound c.in-Ok.ensures c.requires.0 c.requires.1 (opened_view c.args.body) c.requires.2,
     )
 
 pub returns-in-Ok-clause-answers : goal.returns-in-Ok-clause-answers
@@ -26,7 +26,7 @@ returns-in-Ok-clause-answers c = λ names bytes o.
     let good = c.rules-rules.ensures.sound in
     subst (BytesAnswers c.args.sys.now names bytes) (sym c.of_body.ensures)
     (simplified_answered c.args.sys.now c.in-Ok.last steps good c.in-Ok.ensures names bytes c.judge_opened.result
-    (c.judge_opened.ensures.answers names bytes (Some steps) (opened_behind c.args.sys.now c.in-Ok.last steps good c.in-Ok.ensures names bytes (opened_view c.args.body) o)))
+    (c.judge_opened.ensures.answers names bytes (Some steps) (opened_for_last c.args.sys.now c.in-Ok.last steps good c.in-Ok.ensures names bytes (opened_view c.args.body) o)))
 
 pub returns-in-Ok-clause-yes : goal.returns-in-Ok-clause-yes
 returns-in-Ok-clause-yes c =
