@@ -22,7 +22,7 @@ mod refuting;
 mod trying;
 
 pub use crate::joins::try_shared;
-pub use crate::listed::listed_within;
+pub use crate::listed::{Extent, listed_within};
 use crate::measures::search_measures;
 use crate::trying::QuasiTrial;
 pub use crate::trying::try_overlap;

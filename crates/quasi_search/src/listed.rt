@@ -19,20 +19,26 @@ use search_spaces::{COND_DEPTH, STEPS};
 use std::alloc::Global;
 use term_core::{NoMemory, Term};
 
-/// The terms that a term reaches in so many steps with the conditions of an overlap as hypotheses; none where the budget is spent
+/// How far lists of reached terms go: how many steps, and how deep lists for conditions are nested.
+#[derive(Clone, Copy)]
+pub struct Extent {
+    pub steps: u32,
+    pub cond_depth: u32,
+}
+
+/// The terms that a term reaches so far with the conditions of an overlap as hypotheses; none where the budget is spent
 /// before.
 pub fn listed_within(
     alloc: Global,
     sys: &PreparedSystem<'_>,
     overlap: &Overlap,
     start: &Term,
-    steps: u32,
-    cond_depth: u32,
+    extent: Extent,
     budget: &mut Budget,
 ) -> Result<Option<Vec<Entry>>, NoMemory>
     requires overlap { IsOverlapOf sys.now (overlap_view overlap.now) }
     requires start { math.Fits (view start.now) }
-    ensures answer { ReachedAnswers sys.now (overlap_view overlap.now) steps cond_depth (view start.now) budget.old budget.new result }
+    ensures answer { ReachedAnswers sys.now (overlap_view overlap.now) extent.steps extent.cond_depth (view start.now) budget.old budget.new result }
     ensures fit { IfOk result (λ o. IfSome o (λ list. DoAllFit (table_view list.items))) }
     ensures once { IfOk result (λ o. IfSome o (λ list. IsWithoutRepetition (table_view list.items))) }
     ensures kept { (n : ℕ) × Spends budget.old n budget.new }
@@ -45,8 +51,8 @@ pub fn listed_within(
         sys.indexed(),
         &overlap.conds,
         start,
-        steps,
-        cond_depth,
+        extent.steps,
+        extent.cond_depth,
         budget,
         &mut work,
     ) {
@@ -71,5 +77,9 @@ pub(crate) fn listed_under(
     ensures once { IfOk result (λ o. IfSome o (λ list. IsWithoutRepetition (table_view list.items))) }
     ensures kept { (n : ℕ) × Spends budget.old n budget.new }
 {
-    listed_within(alloc, sys, overlap, start, STEPS, COND_DEPTH, budget)
+    let extent = Extent {
+        steps: STEPS,
+        cond_depth: COND_DEPTH,
+    };
+    listed_within(alloc, sys, overlap, start, extent, budget)
 }

@@ -1,9 +1,8 @@
 //! That the conditions of an overlap are never met, tried in order: by caps, then by the automata that grow from conditions.
-ghost use Rattle.std.specs.Prelude.{ℕ, ◌∷◌, [], length, map};
+ghost use Rattle.std.specs.Prelude.{ℕ, ◌∷◌, [], length};
 ghost use Rattle.unifier_run.specs.Overlaps.{IsOverlapOf};
 ghost use Rattle.critical_pairs.specs.View.{overlap_view};
 ghost use Rattle.cc_count.specs.Counts.{Spends};
-ghost use Rattle.search_spaces.specs.Refuting.{growths};
 ghost use Rattle.evidence_offers.specs.RefutingView.{refuting_view};
 ghost use Rattle.pair_search.specs.Answers.{WalkAnswers};
 ghost use Rattle.pair_search.specs.Grown.{IsGrown};
@@ -43,33 +42,6 @@ fn try_way(
     }
 }
 
-// Tries the automata that grow from conditions.
-fn try_growths(
-    alloc: Global,
-    sys: &PreparedSystem<'_>,
-    overlap: &Overlap,
-    budget: &mut Budget,
-    grown: &mut Grown,
-) -> Result<Sought<PairEvidence>, NoMemory>
-    requires overlap { IsOverlapOf sys.now (overlap_view overlap.now) }
-    requires knows { IsGrown grown.old sys.now }
-    ensures answer { WalkAnswers quasi_item_cost (GivesQuasi sys.now (overlap_view overlap.now)) (map refuting_item (growths (length (overlap_view overlap.now).pair.conditions))) budget.old budget.new result }
-    ensures kept { (n : ℕ) × Spends budget.old n budget.new }
-    ensures knows { IsGrown grown.new sys.now }
-{
-    // That conditions are few is known of the rules of a system.
-    let _rules = sys.rules();
-    let count = overlap.conds.len() as u32;
-    'growths: for before in 0..count {
-        let growth = Refuting::Growth { cond: before + 1 };
-        match try_way(alloc, sys, overlap, growth, budget, grown)? {
-            Sought::Nothing => {}
-            end => return Ok(end),
-        }
-    }
-    Ok(Sought::Nothing)
-}
-
 /// Tries caps, then the automata that grow from conditions.
 pub fn try_refutings(
     alloc: Global,
@@ -84,8 +56,19 @@ pub fn try_refutings(
     ensures kept { (n : ℕ) × Spends budget.old n budget.new }
     ensures knows { IsGrown grown.new sys.now }
 {
+    // That conditions are few is known of the rules of a system.
+    let _rules = sys.rules();
     match try_way(alloc, sys, overlap, Refuting::Caps, budget, grown)? {
-        Sought::Nothing => try_growths(alloc, sys, overlap, budget, grown),
-        end => Ok(end),
+        Sought::Nothing => {}
+        end => return Ok(end),
     }
+    let count = overlap.conds.len() as u32;
+    'growths: for before in 0..count {
+        let growth = Refuting::Growth { cond: before + 1 };
+        match try_way(alloc, sys, overlap, growth, budget, grown)? {
+            Sought::Nothing => {}
+            end => return Ok(end),
+        }
+    }
+    Ok(Sought::Nothing)
 }

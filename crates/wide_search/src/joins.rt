@@ -13,7 +13,7 @@ use cc_count::{Budget, Sought};
 use cert_model::PairEvidence;
 use critical_pairs::Overlap;
 use prepared_system::PreparedSystem;
-use quasi_search::{listed_within, try_shared};
+use quasi_search::{Extent, listed_within, try_shared};
 use reach::Entry;
 use std::alloc::Global;
 use term_core::{NoMemory, Term};
@@ -31,7 +31,11 @@ fn listed_under(
     ensures fit { IfOk result (λ o. IfSome o (λ list. DoAllFit (table_view list.items))) }
     ensures once { IfOk result (λ o. IfSome o (λ list. IsWithoutRepetition (table_view list.items))) }
 {
-    listed_within(alloc, sys, overlap, start, STEPS, COND_DEPTH, budget)
+    let extent = Extent {
+        steps: STEPS,
+        cond_depth: COND_DEPTH,
+    };
+    listed_within(alloc, sys, overlap, start, extent, budget)
 }
 
 /// Lists the terms that either side leads to, and takes the first shared one.

@@ -8,7 +8,7 @@ returns-in-Nothing-clause-answer c =
     behind c.args.sys.now told.0 told.2 c.args.budget.now c.search_grid.new.budget c.search_orders.new.budget told.1 c.search_orders.result c.search_orders.ensures.answer
 
 pub returns-in-Nothing-clause-kept : goal.returns-in-Nothing-clause-kept
-returns-in-Nothing-clause-kept c = kept_on c.args.budget.now c.search_grid.new.budget c.search_orders.new.budget c.in_ok-linear.ensures.kept c.search_orders.ensures.kept
+returns-in-Nothing-clause-kept c = kept_on _ _ _ c.in_ok-linear.ensures.kept c.search_orders.ensures.kept
 
 pub returns-in-Spent-clause-answer : goal.returns-in-Spent-clause-answer
 returns-in-Spent-clause-answer c =

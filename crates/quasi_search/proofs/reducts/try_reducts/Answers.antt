@@ -3,11 +3,13 @@ use Rattle.std.proofs.Common.{◌+◌, ◌<◌, ◌≡◌, get_or, length, ap, a
 use Rattle.term_core.specs.Prelude.{view, condition_view}
 use Rattle.critical_pairs.specs.View.{overlap_view}
 use Rattle.search_answers.proofs.Walking.{begins, finishes}
-use Rattle.pair_search.proofs.Composed.{goes_on, ends}
+use Rattle.quasi_space.specs.QuasiItems.{quasi_item_cost, GivesQuasi}
 use Rattle.quasi_search.specs.Reducts.{condition_items}
 use Rattle.quasi_search.proofs.Conditions.{few_conditions}
 use Rattle.quasi_search.proofs.Pairs.{numbered, items_behind, none_behind, next_condition}
+use Rattle.quasi_search.proofs.Steps.{Tried, tried}
 use Rattle.quasi_search.proofs.reducts.try_reducts.Goals as goal
+use Rattle.quasi_search.proofs.reducts.try_reducts.Goals.{In_ok-end}
 
 pub conds-init : goal.conds-init
 conds-init c = record {
@@ -16,14 +18,10 @@ conds-init c = record {
 }
 
 pub overflow_cast-number : goal.overflow_cast-number
-overflow_cast-number c =
-    let few = few_conditions c.args.sys.now c.args.overlap.now c.rules-rules.ensures.sound c.requires.overlap in
-    let below = c.conds-test.true in omega (arith, few, below)
+overflow_cast-number c = omega (arith, few_conditions c.args.sys.now c.args.overlap.now c.rules-rules.ensures.sound c.requires.overlap, c.conds-test.true)
 
 pub overflow_add-number : goal.overflow_add-number
-overflow_add-number c =
-    let few = few_conditions c.args.sys.now c.args.overlap.now c.rules-rules.ensures.sound c.requires.overlap in
-    let below = c.conds-test.true in omega (arith, few, below)
+overflow_add-number c = omega (arith, few_conditions c.args.sys.now c.args.overlap.now c.rules-rules.ensures.sound c.requires.overlap, c.conds-test.true)
 
 pub try_condition-requires-clause-cond : goal.try_condition-requires-clause-cond
 try_condition-requires-clause-cond c =
@@ -31,33 +29,30 @@ try_condition-requires-clause-cond c =
     (subst (λ z. c.cond-item.result ≡ get_or z c.conds.i c.cond-item.result) c.deref-cond-items.ensures.value c.cond-item.is)
 
 pub returns-in_err-end-clause-kept : goal.returns-in_err-end-clause-kept
-returns-in_err-end-clause-kept c = kept_on c.args.budget.now c.conds.budget c.try_condition.new.budget c.conds.invariant.kept c.in_err-end.ensures.kept
+returns-in_err-end-clause-kept c = kept_on _ _ _ c.conds.invariant.kept c.in_err-end.ensures.kept
+
+step : (c : In_ok-end) → Tried quasi_item_cost (GivesQuasi c.args.sys.now (overlap_view c.args.overlap.now)) (items_behind c.args.sys.now c.args.overlap.now 0) c.args.budget.now
+    c.try_condition.new.budget (items_behind c.args.sys.now c.args.overlap.now (c.conds.i + 1)) c.in_ok-end.end
+step c =
+    let sys = c.args.sys.now in
+    let v = c.args.overlap.now in
+    let i = c.conds.i in
+    let x = c.cond-item.result in
+    tried c.conds.invariant.walking c.try_condition.new.budget (condition_items sys (overlap_view v) (i + 1) (view x.left)) (items_behind sys v (i + 1))
+    (next_condition sys v i x (subst (λ z. i < length z) c.deref-cond-items.ensures.value c.conds-test.true) (subst (λ z. x ≡ get_or z i x) c.deref-cond-items.ensures.value c.cond-item.is))
+    c.in_ok-end.end c.in_ok-end.ensures.answer
 
 pub returns-in_default : goal.returns-in_default
-returns-in_default c =
-    let sys = c.args.sys.now in
-    let v = c.args.overlap.now in
-    let i = c.conds.i in
-    let x = c.cond-item.result in
-    record {
-      answer = ends c.conds.invariant.walking c.try_condition.new.budget (condition_items sys (overlap_view v) (i + 1) (view x.left)) (items_behind sys v (i + 1))
-          (next_condition sys v i x (subst (λ z. i < length z) c.deref-cond-items.ensures.value c.conds-test.true) (subst (λ z. x ≡ get_or z i x) c.deref-cond-items.ensures.value c.cond-item.is))
-          c.in_ok-end.end c.in_default.not-Nothing c.in_ok-end.ensures.answer;
-      kept = kept_on c.args.budget.now c.conds.budget c.try_condition.new.budget c.conds.invariant.kept c.in_ok-end.ensures.kept;
-    }
+returns-in_default c = record {
+  answer = (step (goal.at.returns-in_default c).In_ok-end).ends c.in_default.not-Nothing;
+  kept = kept_on _ _ _ c.conds.invariant.kept c.in_ok-end.ensures.kept;
+}
 
 pub conds-preserved : goal.conds-preserved
-conds-preserved c =
-    let sys = c.args.sys.now in
-    let v = c.args.overlap.now in
-    let i = c.conds.i in
-    let x = c.cond-item.result in
-    record {
-      walking = goes_on c.conds.invariant.walking c.try_condition.new.budget (condition_items sys (overlap_view v) (i + 1) (view x.left)) (items_behind sys v (i + 1))
-          (next_condition sys v i x (subst (λ z. i < length z) c.deref-cond-items.ensures.value c.conds-test.true) (subst (λ z. x ≡ get_or z i x) c.deref-cond-items.ensures.value c.cond-item.is))
-          c.in_ok-end.end c.in-Nothing.is c.in_ok-end.ensures.answer;
-      kept = kept_on c.args.budget.now c.conds.budget c.try_condition.new.budget c.conds.invariant.kept c.in_ok-end.ensures.kept;
-    }
+conds-preserved c = record {
+  walking = (step (goal.at.conds-preserved c).In_ok-end).goes_on c.in-Nothing.is;
+  kept = kept_on _ _ _ c.conds.invariant.kept c.in_ok-end.ensures.kept;
+}
 
 pub returns-clause-answer : goal.returns-clause-answer
 returns-clause-answer c =
