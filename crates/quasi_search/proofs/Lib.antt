@@ -1,4 +1,3 @@
-pub mod Conditions
 pub mod Ending
 pub mod Index
 pub mod Listings

@@ -5,7 +5,7 @@ use Rattle.critical_pairs.specs.View.{overlap_view}
 use Rattle.search_answers.proofs.Walking.{begins, finishes}
 use Rattle.quasi_space.specs.QuasiItems.{quasi_item_cost, GivesQuasi}
 use Rattle.quasi_search.specs.Reducts.{condition_items}
-use Rattle.quasi_search.proofs.Conditions.{few_conditions}
+use Rattle.pair_check.proofs.Ready.{few_conditions}
 use Rattle.quasi_search.proofs.Pairs.{numbered, items_behind, none_behind, next_condition}
 use Rattle.quasi_search.proofs.Steps.{Tried, tried}
 use Rattle.quasi_search.proofs.reducts.try_reducts.Goals as goal

@@ -8,7 +8,7 @@ use Rattle.search_answers.proofs.Walking.{begins, finishes}
 use Rattle.pair_search.specs.Answers.{WalkAnswers}
 use Rattle.pair_search.proofs.Composed.{goes_on, ends_early}
 use Rattle.quasi_space.specs.QuasiItems.{try_refuting, quasi_item_cost, GivesQuasi, refuting_items}
-use Rattle.quasi_search.proofs.Conditions.{few_conditions, counted}
+use Rattle.pair_check.proofs.Ready.{few_conditions, counted}
 use Rattle.quasi_search.proofs.Steps.{Tried, tried}
 use Rattle.quasi_search.proofs.refuting.try_refutings.Goals as goal
 use Rattle.quasi_search.proofs.refuting.try_refutings.Goals.{In_ok-end-2}
