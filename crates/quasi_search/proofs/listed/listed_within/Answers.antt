@@ -1,10 +1,9 @@
 use Rattle.std.proofs.Common.{◌<◌, ◌^◌, length, map, sym, subst, arith}
-use Rattle.std.proofs.lemmas.List.{length-map}
 use Rattle.certificates.specs.Sizes.{DoConditionsFit}
 use Rattle.term_core.specs.Prelude.{view, condition_view}
 use Rattle.critical_pairs.specs.View.{overlap_view}
 use Rattle.reach.proofs.Fitting.{list_fits, list_once}
-use Rattle.pair_check.proofs.Ready.{ready}
+use Rattle.pair_check.proofs.Ready.{ready, few_conditions}
 use Rattle.quasi_search.proofs.listed.listed_within.Goals as goal
 
 pub reach_in-requires-clause-hypotheses : goal.reach_in-requires-clause-hypotheses
@@ -14,10 +13,8 @@ reach_in-requires-clause-hypotheses c =
 
 pub reach_in-requires-clause-few : goal.reach_in-requires-clause-few
 reach_in-requires-clause-few c =
-    let small = ready c.args.sys.now (overlap_view c.args.overlap.now) c.rules-rules.ensures.sound c.requires.overlap in
-    let few = small.few in
-    let long = length-map c.args.overlap.now.conds.items condition_view in
-    subst (λ cs. length cs < 2 ^ 32) (sym c.deref.ensures.value) (omega (arith, few, long))
+    let few = few_conditions c.args.sys.now c.args.overlap.now c.rules-rules.ensures.sound c.requires.overlap in
+    subst (λ cs. length cs < 2 ^ 32) (sym c.deref.ensures.value) (omega (arith, few))
 
 pub returns-in-Ok-clause-fit : goal.returns-in-Ok-clause-fit
 returns-in-Ok-clause-fit c = list_fits _ _ _ _ (view c.args.start.now) _ c.in-Ok.ensures.listed.0 c.requires.start
