@@ -8,6 +8,7 @@ ghost use Rattle.cops_names.specs.NameTable.{NameTable};
 ghost use Rattle.cert_model.specs.CertificateView.{peak_view, simp_view};
 ghost use Rattle.valid_certificates.specs.CarriedBack.{IsPeakApart};
 ghost use Rattle.cert_grammar.specs.CertificateText.{IsCertificateText};
+ghost use Rattle.cert_text.specs.Front.{opened_behind};
 ghost use Rattle.cert_text.specs.OpenedText.{opened_view, IsOpenedAs};
 ghost use Rattle.cert_check.specs.Kinds.{CanPeakBeJudged};
 ghost use Rattle.cert_check.specs.Answers.{OnYes, OnNo};
