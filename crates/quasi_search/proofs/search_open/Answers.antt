@@ -22,7 +22,8 @@ pub returns-in-Found-2-clause-pruned : goal.returns-in-Found-2-clause-pruned
 returns-in-Found-2-clause-pruned c =
     let m = rw c.system.ensures at (rw c.in-Found-2.is at c.in_ok-measure.ensures.answer) in
     written_searched _ _ _ c.requires.rules c.requires.overlaps _ c.entries_for.new.budget _ (map pair_entry_view c.in-Found.pairs.items)
-    (rw c.in-Found.is at c.in_ok-pairs.ensures.answer) (measure_view c.in-Found-2.measure) m.0 m.1 m.2 _ (quasi_shown c.in-Found-2.measure c.in-Found.pairs) c.found_if_written.result c.found_if_written.ensures
+    (rw c.in-Found.is at c.in_ok-pairs.ensures.answer) (measure_view c.in-Found-2.measure) m.0 m.1 m.2 _ (quasi_shown c.in-Found-2.measure c.in-Found.pairs)
+    c.found_if_written.result c.found_if_written.ensures
 
 pub returns-in-Found-2-clause-kept : goal.returns-in-Found-2-clause-kept
 returns-in-Found-2-clause-kept c = kept_on _ _ _ c.in_ok-pairs.ensures.kept c.in_ok-measure.ensures.kept
