@@ -20,7 +20,7 @@ pub use Rattle.cert_words.specs.Choices.{Choice, lead_of, bare_of, Chosen, Misse
 pub use Rattle.cert_words.specs.declared.choices.Found.{Found}
 pub use Rattle.cert_words.specs.Walks.{left_at, Walks, tagged, AreFound, Keeps, Run, RefusesAt, IsStuckAt, IsStopped, Reads, IsFront, BeginsAnew, IsStuckBehind, StepsOver, GoesOn}
 pub use Rattle.cert_words.specs.Walks.{IsWithin, Place, Above, Anywhere, IsStoppedWhere, ReadsWhere}
-pub use Rattle.cert_words.specs.Words.{IsLeadRead, IsScanned, told, IsTold, counted_view, mode_view, bare}
+pub use Rattle.cert_words.specs.Words.{IsReached, IsLeadRead, IsScanned, told, IsTold, counted_view, mode_view, bare}
 pub use Rattle.cert_words.specs.declared.error.CertError.{CertError}
 pub use Rattle.cert_words.specs.declared.reading.Reading.{Reading}
 pub use Rattle.cops_names.specs.NameTable.{NameTable, number_of, arity_at}

@@ -40,6 +40,12 @@ bare leading.Position = position_lead []
 bare leading.Variable = variable_lead [] []
 bare leading.Name = name_lead [] (λ name. [])
 
+-- the lead is there, and so many bytes are read with it
+pub record IsReached (a : Lead) (bytes : List ℕ) (size : ℕ) : Type 0 where
+  pub there : is_there a bytes ≡ true
+  pub extent : size ≡ taken a bytes
+  pub within : size ≤ length bytes
+
 -- the lead is there, with these bytes and these behind them
 pub record IsLeadRead (a : Lead) (bytes w behind : List ℕ) : Type 0 where
   pub there : is_there a bytes ≡ true

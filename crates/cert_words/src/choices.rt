@@ -10,7 +10,7 @@ ghost use Rattle.cert_words.specs.Walks.{IsStuckAt};
 ghost use Rattle.cert_words.specs.Choices.{Choice, lead_of, bare_of, Chosen, Missed, IsFirst, plain, IsMissed, Finds, IsJudged, IsWhy, WordReads};
 
 use crate::error::CertError;
-use crate::leads::{Lead, front, stuck};
+use crate::leads::{Lead, reach, stuck};
 use crate::reading::Reading;
 
 /// What is found: which of the leads, at which place, its word, and what is behind it.
@@ -27,7 +27,8 @@ fn which<'a>(leads: &[Lead], left: &'a [u8]) -> Option<(usize, &'a [u8], &'a [u8
     ensures { MatchOption result (Missed left.now (length leads.now) (map bare leads.now)) (λ x. IsFirst left.now (map bare leads.now) x.0 x.1.now x.2.now) }
 {
     'leads: for (place, lead) in leads.iter().enumerate() {
-        if let Some((word, rest)) = front(*lead, left) {
+        if let Some(size) = reach(lead, left) {
+            let (word, rest) = left.split_at(size);
             return Some((place, word, rest));
         }
     }

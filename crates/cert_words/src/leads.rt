@@ -3,7 +3,7 @@
 ghost use Rattle.std.specs.Prelude.{◌≡◌, ◌≤◌, ◌+◌, ◌-◌, MatchOption, ℕ, Some, length, map, true, false};
 ghost use Rattle.cert_grammar.specs.Marks.{syntax};
 ghost use Rattle.cert_grammar.specs.FirstRefusal as spec;
-ghost use Rattle.cert_words.specs.Words.{mode_view, bare, told, IsLeadRead, IsScanned};
+ghost use Rattle.cert_words.specs.Words.{mode_view, bare, told, IsReached, IsLeadRead, IsScanned};
 
 use crate::error::CertError;
 use crate::scans::{Mode, is_word, scan};
@@ -49,21 +49,21 @@ fn ends_here(rest: &[u8]) -> bool
     }
 }
 
-/// The bytes that are read with the lead, and what is behind them, where all of the lead is there.
-pub fn front(lead: Lead, left: &[u8]) -> Option<(&[u8], &[u8])>
-    ensures { MatchOption result (spec.is_there (bare lead) left.now ≡ false) (λ x. IsLeadRead (bare lead) left.now x.0.now x.1.now) }
+/// How many bytes are read with the lead, where all of it is there.
+pub(crate) fn reach(lead: &Lead, left: &[u8]) -> Option<usize>
+    ensures { MatchOption result (spec.is_there (bare lead.now) left.now ≡ false) (λ size. IsReached (bare lead.now) left.now size) }
 {
-    match lead {
+    match *lead {
         Lead::Text(word) => match behind(left, word) {
-            Some(rest) => Some((word, rest)),
+            Some(_) => Some(word.len()),
             None => None,
         },
         Lead::Keyword(word) => match behind(left, word) {
-            Some(rest) if ends_here(rest) => Some((word, rest)),
+            Some(rest) if ends_here(rest) => Some(word.len()),
             _ => None,
         },
         Lead::Check(b) => match left {
-            [a, ..] if *a == b => Some((b"", left)),
+            [a, ..] if *a == b => Some(0),
             _ => None,
         },
         Lead::Number | Lead::Position | Lead::Variable | Lead::Name => whole(lead, left),
@@ -71,16 +71,24 @@ pub fn front(lead: Lead, left: &[u8]) -> Option<(&[u8], &[u8])>
 }
 
 // the same of a word that is found byte by byte
-fn whole(lead: Lead, left: &[u8]) -> Option<(&[u8], &[u8])>
-    requires { IsScanned (bare lead) }
-    ensures { MatchOption result (spec.is_there (bare lead) left.now ≡ false) (λ x. IsLeadRead (bare lead) left.now x.0.now x.1.now) }
+fn whole(lead: &Lead, left: &[u8]) -> Option<usize>
+    requires { IsScanned (bare lead.now) }
+    ensures { MatchOption result (spec.is_there (bare lead.now) left.now ≡ false) (λ size. IsReached (bare lead.now) left.now size) }
 {
-    let (size, mode) = scan(mode_of(lead), left);
-    let (word, rest) = left.split_at(size);
+    let (size, mode) = scan(mode_of(*lead), left);
+    let (_, rest) = left.split_at(size);
     if !is_word(mode) || !ends_here(rest) {
         return None;
     }
-    Some((word, rest))
+    Some(size)
+}
+
+/// The bytes that are read with the lead, and what is behind them, where all of the lead is there.
+pub fn front(lead: Lead, left: &[u8]) -> Option<(&[u8], &[u8])>
+    ensures { MatchOption result (spec.is_there (bare lead) left.now ≡ false) (λ x. IsLeadRead (bare lead) left.now x.0.now x.1.now) }
+{
+    let size = reach(&lead, left)?;
+    Some(left.split_at(size))
 }
 
 /// The longest front with which one of the leads can begin.

@@ -1,9 +1,10 @@
 use Rattle.cert_words.proofs.Prelude.{◌≡◌, ◌+◌, ℕ, suc, length, map, subst, arith, bare, Missed}
 use Rattle.cert_words.proofs.Choosing.{is_first, missed_bare}
+use Rattle.cert_words.proofs.Fronts.{lead_read}
 use Rattle.cert_words.proofs.choices.which.Goals as goal
 
 pub returns-in-Some : goal.returns-in-Some
-returns-in-Some c = is_first _ _ _ _ _ _ c.leads-test.true c.leads.invariant c.in-Some.ensures
+returns-in-Some c = is_first _ _ _ _ _ _ c.leads-test.true c.leads.invariant (lead_read c.in-Some.size c.in-Some.ensures c.split_at.ensures.front c.split_at.ensures.back)
 
 pub leads-preserved : goal.leads-preserved
 leads-preserved c =
