@@ -35,7 +35,9 @@ fn which<'a>(leads: &[Lead], left: &'a [u8]) -> Option<(usize, &'a [u8], &'a [u8
     None
 }
 
-// The first of the leads that is there, unless the text is refused; where there is none it is refused.
+// The first of the leads that is there, unless the text is refused; where there is none it is refused. It is called for each
+// word, and what it finds is long to hand over.
+#[inline(always)]
 pub fn first<'a>(end: usize, at: &mut Reading<'a>, leads: &[Lead]) -> Option<Found<'a>>
     ensures { MatchOption result (IsMissed end (λ i. map plain (spec.leads i) ≡ map bare leads.now) at.old at.new) (λ x. Finds end (map bare leads.now) x at.old at.new) }
 {
