@@ -40,7 +40,9 @@ not_ended w bytes rest e f = not_front (keyword w [] []) w bytes refl (λ r g t.
 -- a byte at the front
 pub check_front : (b : ℕ) (bytes : List ℕ) → 1 ≤ length bytes → get_or bytes 0 0 ≡ b → IsReached (check (is_short 0) b []) bytes 0
 check_front b [] l e = absurd (omega (arith, l))
-check_front b (a ∷ rest) l e = record { there = (spelt_front (text (b ∷ []) []) (b ∷ []) (a ∷ rest) rest 1 refl refl refl refl (ap (λ (x : ℕ). x ∷ rest) e)).there; extent = refl; within = omega arith }
+check_front b (a ∷ rest) l e =
+    let there = (spelt_front (text (b ∷ []) []) (b ∷ []) (a ∷ rest) rest 1 refl refl refl refl (ap (λ (x : ℕ). x ∷ rest) e)).there in
+    record { there = there; extent = refl; within = omega arith }
 
 -- so many bytes at the front, and what is behind them
 pub lead_read : {a : Lead} {bytes w behind : List ℕ} (size : ℕ) → IsReached a bytes size → w ≡ take size bytes → behind ≡ drop size bytes → IsLeadRead a bytes w behind

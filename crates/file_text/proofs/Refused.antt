@@ -26,8 +26,10 @@ cause_is c d e = cc
 -- ---- a word that calls for one of the three causes is refused
 
 has_title_one : (text : List ℕ) (b : Block) → bytes_eq text (title b) ≡ true → is_title text ≡ true
-has_title_one text (condition_type p q kind) e = or_left (bytes_eq text (codes "CONDITIONTYPE") || bytes_eq text (codes "VAR")) (bytes_eq text (codes "RULES")) (or_left (bytes_eq text (codes "CONDITIONTYPE")) (bytes_eq text (codes "VAR")) e)
-has_title_one text (variables p names) e = or_left (bytes_eq text (codes "CONDITIONTYPE") || bytes_eq text (codes "VAR")) (bytes_eq text (codes "RULES")) (or_right (bytes_eq text (codes "CONDITIONTYPE")) (bytes_eq text (codes "VAR")) e)
+has_title_one text (condition_type p q kind) e = or_left (bytes_eq text (codes "CONDITIONTYPE") || bytes_eq text (codes "VAR")) (bytes_eq text (codes "RULES"))
+    (or_left (bytes_eq text (codes "CONDITIONTYPE")) (bytes_eq text (codes "VAR")) e)
+has_title_one text (variables p names) e = or_left (bytes_eq text (codes "CONDITIONTYPE") || bytes_eq text (codes "VAR")) (bytes_eq text (codes "RULES"))
+    (or_right (bytes_eq text (codes "CONDITIONTYPE")) (bytes_eq text (codes "VAR")) e)
 has_title_one text (rules p rs) e = or_right (bytes_eq text (codes "CONDITIONTYPE") || bytes_eq text (codes "VAR")) (bytes_eq text (codes "RULES")) e
 
 -- a title of a block is one of the three
