@@ -90,10 +90,8 @@ impl Names {
     pub fn symbol_number(&self, name: &str) -> Option<u32>
         ensures { result ≡ number_of self.now.symbols name.now }
     {
-        match self.symbols.get_index_of(name) {
-            Some(n) => Some(n as u32),
-            None => None,
-        }
+        let n = self.symbols.get_index_of(name)?;
+        Some(n as u32)
     }
 
     /// The arity of a symbol.
