@@ -38,13 +38,11 @@ pub(crate) fn type3_fault(rule: &Rule, sys: &System) -> Option<Fault>
         asked: &rule.conds,
         known: &rule.conds,
     };
-    match first_variable(&rule.right, &everywhere, false) {
-        Some(x) => Some(Fault {
-            cond: 0,
-            variable: Some(x),
-        }),
-        None => None,
-    }
+    let x = first_variable(&rule.right, &everywhere, false)?;
+    Some(Fault {
+        cond: 0,
+        variable: Some(x),
+    })
 }
 
 // How many of the first conditions have left sides whose variables are all known before.

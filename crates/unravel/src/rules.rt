@@ -122,9 +122,7 @@ fn push_from(
                 term: &cond.left,
                 known,
             };
-            if let Err(error) = push(alloc, head, &asked, out) {
-                return Err(error);
-            }
+            push(alloc, head, &asked, out)?;
             let grown = grown(alloc, known, &cond.right)?;
             let head = Side::Kept {
                 symbol,
