@@ -1,27 +1,11 @@
 -- What the functions on entries answer.
-use Rattle.std.specs.Prelude.{ℕ, zero, suc, ◌≡◌, ◌<◌, ◌≤◌, ◌⊎◌, List, length, slice_get, option_map, Option, None, Some, Bool, false, not, ◌&&◌, nat_eq}
-use Rattle.rewriting.specs.Unraveling.{Head, file, auxiliary}
+use Rattle.std.specs.Prelude.{ℕ, zero, suc, ◌≡◌, ◌<◌, ◌≤◌, ◌⊎◌, List, length, slice_get, option_map, Option, None, Some}
+use Rattle.rewriting.specs.Unraveling.{Head}
 use Rattle.certificates.specs.Certificates.{LinearEntry}
 
 -- the entry at a place is that of the symbol there
 abbrev pub IsEntryAt : List Head → List ℕ → List LinearEntry → ℕ → Type 0
 IsEntryAt heads arities es k = (e : LinearEntry) × (slice_get es k ≡ Some e) × (slice_get heads k ≡ Some e.head) × (option_map suc (slice_get arities k) ≡ Some (length e.coefficients))
-
--- as a test
-abbrev pub is_same_head : Head → Head → Bool
-is_same_head (file f) (file g) = nat_eq f g
-is_same_head (file f) (auxiliary i k) = false
-is_same_head (auxiliary i k) (file g) = false
-is_same_head (auxiliary i k) (auxiliary j l) = nat_eq i j && nat_eq k l
-
-abbrev pub is_shaped_as : Option LinearEntry → Option Head → Option ℕ → Bool
-is_shaped_as (Some e) (Some h) (Some n) = is_same_head h e.head && nat_eq (suc n) (length e.coefficients)
-is_shaped_as (Some e) (Some h) None = false
-is_shaped_as (Some e) None n = false
-is_shaped_as None h n = false
-
-abbrev pub is_wrong_at : List Head → List ℕ → List LinearEntry → ℕ → Bool
-is_wrong_at heads arities es k = not (is_shaped_as (slice_get es k) (slice_get heads k) (slice_get arities k))
 
 abbrev pub MisshapenAnswers : List Head → List ℕ → List LinearEntry → Option ℕ → Type 0
 MisshapenAnswers heads arities es (Some k) = ((k < length es) ⊎ (k < length heads)) × ((j : ℕ) → j < k → IsEntryAt heads arities es j) × (IsEntryAt heads arities es k → ⊥)

@@ -91,9 +91,7 @@ pub fn judge_rules(
     ensures { RulesAnswers (map linear_entry_view entries.now) (map rule_view rules.now) result }
 {
     for (i, rule) in rules.iter().enumerate() {
-        if let Err(error) = judge_rule(alloc, entries, rule, i as u32 + 1) {
-            return Err(error);
-        }
+        judge_rule(alloc, entries, rule, i as u32 + 1)?;
     }
     Ok(())
 }

@@ -2,11 +2,10 @@
 ghost use Rattle.std.specs.Prelude.{◌≡◌, ◌<◌, ◌+◌, ◌↔◌, IsTrue, map, length};
 ghost use Rattle.term_core.specs.HeadView.{head_view};
 ghost use Rattle.cert_model.specs.CertificateView.{linear_entry_view};
-ghost use Rattle.linear_interp.specs.Entries.{IsEntryAt, is_wrong_at, MisshapenAnswers, IsNumberGood, AreGoodBelow, BadAnswers};
+ghost use Rattle.linear_interp.specs.Entries.{IsEntryAt, MisshapenAnswers, IsNumberGood, AreGoodBelow, BadAnswers};
 
 use cert_model::LinearEntry;
 use interpretations::MOST_COEFFICIENT;
-use itertools::Itertools;
 use term_core::{Head, is_same_head};
 
 // Whether the entry at a place is that of the symbol there.
@@ -28,22 +27,12 @@ fn is_shaped(entry: &LinearEntry, head: Head, arity: u32) -> bool
     is_same_head(entry.head, head) && entry.coeffs.len() == arity as usize + 1
 }
 
-// Whether the entry at a place is wrong, missing or surplus.
-fn is_wrong(heads: &[Head], arities: &[u32], entries: &[LinearEntry], k: usize) -> bool
-    ensures { result ≡ is_wrong_at (map head_view heads.now) arities.now (map linear_entry_view entries.now) k }
-{
-    !is_entry(heads, arities, entries, k)
-}
-
 /// The first place at which the entry is wrong, missing or surplus.
 pub fn first_misshapen(heads: &[Head], arities: &[u32], entries: &[LinearEntry]) -> Option<usize>
     ensures { MisshapenAnswers (map head_view heads.now) arities.now (map linear_entry_view entries.now) result }
 {
     let mut places = 0..heads.len().max(entries.len());
-    match places.find_position(|k: &usize| is_wrong(heads, arities, entries, *k)) {
-        Some((k, _)) => Some(k),
-        None => None,
-    }
+    places.find(|k: &usize| !is_entry(heads, arities, entries, *k))
 }
 
 // Whether number k of a symbol with some count of numbers is good; the symbols below `symbols` are the conditional

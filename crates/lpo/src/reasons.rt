@@ -59,12 +59,10 @@ fn reason_with(
     if let Some(known) = reason {
         return Some(known);
     }
-    match first_unordered(places, rules) {
-        Some(i) => Some(MeasureReason::Order {
-            rule: before + i as u32 + 1,
-        }),
-        None => None,
-    }
+    let i = first_unordered(places, rules)?;
+    Some(MeasureReason::Order {
+        rule: before + i as u32 + 1,
+    })
 }
 
 // The reason of the shape, or the first unordered rule of those that come from some rules, whose first auxiliary symbol has

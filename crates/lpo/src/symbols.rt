@@ -43,14 +43,10 @@ pub fn symbol_of(heads: &[Head], head: Head) -> Option<usize>
     ensures { SymbolAnswers (map head_view heads.now) (head_view head) result }
 {
     let place = place_of(heads, head);
-    match heads.get(place) {
-        Some(other) => {
-            if is_same_head(*other, head) {
-                Some(place)
-            } else {
-                None
-            }
-        }
-        None => None,
+    let other = heads.get(place)?;
+    if is_same_head(*other, head) {
+        Some(place)
+    } else {
+        None
     }
 }
