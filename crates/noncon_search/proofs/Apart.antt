@@ -52,23 +52,14 @@ module _ (sys : System) (u v : Term) where
     are_all : AreRedexes sys u v all
     are_all = both sys u v (redexes sys 1 u) (redexes sys 2 v) (redexes_are sys 1 u good) (redexes_are sys 2 v good)
 
+    open_at : (k : ℕ) (t : Term) → chosen u v k ≡ t → (o : IsOpen sys t) → IsAmong (place k o.place.position o.place.rule) all → TriesApart sys u v by_rigid_caps
+    open_at k t is o there = (all, are_all, some_none (IsFirstRefuted sys u v) all (place k o.place.position o.place.rule) there (still_none k t is o))
+
     pub open_first : IsOpen sys u → TriesApart sys u v by_rigid_caps
-    open_first o = (
-      all,
-      are_all,
-      some_none (IsFirstRefuted sys u v) all (place 1 o.place.position o.place.rule)
-          (among_left (place 1 o.place.position o.place.rule) (redexes sys 1 u) (redexes sys 2 v) ((redexes_are sys 1 u good).whole o.place.position o.place.rule o.matches))
-          (still_none 1 u refl o),
-    )
+    open_first o = open_at 1 u refl o (among_left _ (redexes sys 1 u) (redexes sys 2 v) ((redexes_are sys 1 u good).whole o.place.position o.place.rule o.matches))
 
     pub open_second : IsOpen sys v → TriesApart sys u v by_rigid_caps
-    open_second o = (
-      all,
-      are_all,
-      some_none (IsFirstRefuted sys u v) all (place 2 o.place.position o.place.rule)
-          (among_right (place 2 o.place.position o.place.rule) (redexes sys 1 u) (redexes sys 2 v) ((redexes_are sys 2 v good).whole o.place.position o.place.rule o.matches))
-          (still_none 2 v refl o),
-    )
+    open_second o = open_at 2 v refl o (among_right _ (redexes sys 1 u) (redexes sys 2 v) ((redexes_are sys 2 v good).whole o.place.position o.place.rule o.matches))
 
   -- entries for both terms
   pub both_refuted : (es fs : List Redex) (a : (rs : List RedexPlace) × AreRedexesOf sys 1 u rs × ((n : ℕ) × AreFirsts (IsFirstRefuted sys u u) rs (map redex_view es) n))

@@ -70,19 +70,16 @@ impl<'a> OrthoRun<'a> {
         ensures system { IfOk result (λ run. run.system ≡ sys.now) }
         ensures tally { IfOk result (λ run. IsOrthoTally sys.now [] run.tally) }
     {
-        match start_pairs(alloc, sys) {
-            Ok(pairs) => Ok(OrthoRun {
-                sys,
-                pairs: Ok(pairs),
-                judge: JudgeByKind::new(),
-            }),
-            Err(CheckError::Rejected(reason)) => Ok(OrthoRun {
-                sys,
-                pairs: Err(reason),
-                judge: JudgeByKind::new(),
-            }),
-            Err(CheckError::NoMemory) => Err(NoMemory),
-        }
+        let pairs = match start_pairs(alloc, sys) {
+            Ok(pairs) => Ok(pairs),
+            Err(CheckError::Rejected(reason)) => Err(reason),
+            Err(CheckError::NoMemory) => return Err(NoMemory),
+        };
+        Ok(OrthoRun {
+            sys,
+            pairs,
+            judge: JudgeByKind::new(),
+        })
     }
 
     /// Judges the next entry. Where memory is refused the run is as before.

@@ -82,21 +82,17 @@ impl<'a, M: Measure> QuasiRun<'a, M> {
         ensures measure { IfOk result (λ run. run.measure ≡ measure.now) }
         ensures tally { IfOk result (λ run. IsQuasiTally (M.judged measure.now sys.now) sys.now [] run.tally) }
     {
-        match start_pairs(alloc, sys, measure) {
-            Ok(pairs) => Ok(QuasiRun {
-                sys,
-                measure,
-                pairs: Ok(pairs),
-                judge: JudgeByKind::new(),
-            }),
-            Err(CheckError::Rejected(reason)) => Ok(QuasiRun {
-                sys,
-                measure,
-                pairs: Err(reason),
-                judge: JudgeByKind::new(),
-            }),
-            Err(CheckError::NoMemory) => Err(NoMemory),
-        }
+        let pairs = match start_pairs(alloc, sys, measure) {
+            Ok(pairs) => Ok(pairs),
+            Err(CheckError::Rejected(reason)) => Err(reason),
+            Err(CheckError::NoMemory) => return Err(NoMemory),
+        };
+        Ok(QuasiRun {
+            sys,
+            measure,
+            pairs,
+            judge: JudgeByKind::new(),
+        })
     }
 
     /// Judges the next entry. Where memory is refused the run is as before.
