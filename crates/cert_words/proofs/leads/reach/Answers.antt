@@ -21,7 +21,7 @@ returns-in_default c = rw c.in-Keyword.is
 pub returns-in_default-2 : goal.returns-in_default-2
 returns-in_default-2 c = rw c.in-Keyword.is
     (not_front (keyword c.in-Keyword.word.now [] []) c.in-Keyword.word.now c.args.left.now refl
-        (λ rest e t. (rw c.in_default.is at c.behind-in-Keyword.ensures) rest e))
+    (λ rest e t. (rw c.in_default.is at c.behind-in-Keyword.ensures) rest e))
 
 pub returns-in-len1-up : goal.returns-in-len1-up
 returns-in-len1-up c = rw c.in-Check.is (check_front c.in-Check.b c.args.left.now c.in-len1-up.len_at_least c.if-a-b.true)

@@ -6,6 +6,6 @@ use Rattle.ortho_check.proofs.run.OrthoRun.start.Goals.{in-Ok, in-Err-Rejected}
 
 pub returns-clause-tally : goal.returns-clause-tally
 returns-clause-tally c = elim c.match-start_pairs.branch [
-      in-Ok w ↦ rw w.pairs-is (started_tally c.args.sys.now w.in-Ok.pairs w.in-Ok.ensures)
-    | in-Err-Rejected w ↦ rw w.pairs-is (whatever_they_are (rejected_view w.in-Err-Rejected.reason) (rw w.in-Err-Rejected.field-0-is at w.in-Err-Rejected.ensures))
-    ]
+  | in-Ok w ↦ rw w.pairs-is (started_tally c.args.sys.now w.in-Ok.pairs w.in-Ok.ensures)
+  | in-Err-Rejected w ↦ rw w.pairs-is (whatever_they_are (rejected_view w.in-Err-Rejected.reason) (rw w.in-Err-Rejected.field-0-is at w.in-Err-Rejected.ensures))
+]
