@@ -43,10 +43,8 @@ fn index_of<'a>(alloc: Global, list: &'a [Entry]) -> Result<IndexMap<Vec<u64>, &
 fn listed_by<'a>(index: &IndexMap<Vec<u64>, &'a Entry>, key: &[u64]) -> Option<&'a Entry>
     ensures { (list : List math.Reached) (t : terms.Term) → IsIndexOf list index.now.entries → terms.Fits t → key.now ≡ cells t → FindAnswers list t result }
 {
-    match index.get(key) {
-        Some(listed) => Some(*listed),
-        None => None,
-    }
+    let listed = index.get(key)?;
+    Some(*listed)
 }
 
 // The first term of the left list that is on the right one, too, as it is listed on both.

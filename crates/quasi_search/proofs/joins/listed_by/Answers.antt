@@ -2,8 +2,8 @@ use Rattle.std.proofs.Common.{None, Some}
 use Rattle.quasi_search.proofs.Index.{found_by}
 use Rattle.quasi_search.proofs.joins.listed_by.Goals as goal
 
-pub returns-in-Some : goal.returns-in-Some
-returns-in-Some c list t index fits is = found_by c.args.index.now c.args.key.now list t index fits.nodes is (Some c.in-Some.listed.now) c.in-Some.ensures.value
+pub returns : goal.returns
+returns c list t index fits is = found_by c.args.index.now c.args.key.now list t index fits.nodes is (Some c.in_ok-listed.listed.now) c.in_ok-listed.ensures.value
 
-pub returns-in-None : goal.returns-in-None
-returns-in-None c list t index fits is = found_by c.args.index.now c.args.key.now list t index fits.nodes is None c.in-None.ensures.value
+pub returns-in_err-listed : goal.returns-in_err-listed
+returns-in_err-listed c list t index fits is = rw c.from_residual.ensures (found_by c.args.index.now c.args.key.now list t index fits.nodes is None c.in_err-listed.ensures.value)
