@@ -177,8 +177,6 @@ fn behind_steps<'a>(
     let Some(steps) = steps else {
         return Ok(body);
     };
-    match Box::new(alloc, body) {
-        Ok(body) => Ok(Opened::Simplified(steps, body)),
-        Err(_) => Err(CertError::NoMemory),
-    }
+    let body = Box::new(alloc, body)?;
+    Ok(Opened::Simplified(steps, body))
 }

@@ -50,10 +50,8 @@ fn read_on(alloc: Global, opened: Opened<'_>) -> Result<Certificate, CertError>
         Opened::Peak(peak) => Ok(Certificate::Peak(peak)),
         Opened::Simplified(steps, body) => {
             let body = read_on(alloc, Box::into_inner(body))?;
-            match Box::new(alloc, body) {
-                Ok(body) => Ok(Certificate::Simplified { steps, body }),
-                Err(_) => Err(CertError::NoMemory),
-            }
+            let body = Box::new(alloc, body)?;
+            Ok(Certificate::Simplified { steps, body })
         }
     }
 }
