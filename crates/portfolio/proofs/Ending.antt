@@ -1,5 +1,5 @@
 -- How the searches of the three spaces of a system end, from the ends of each.
-use Rattle.std.proofs.Common.{ℕ, ◌≡◌, inl, Result, Ok, Err, refl, subst, arith}
+use Rattle.std.proofs.Common.{ℕ, ◌≡◌, Result, Ok, Err, subst, arith}
 use Rattle.rewriting.specs.Rules.{System}
 use Rattle.certificates.specs.Certificates.{Certificate}
 use Rattle.term_core.specs.declared.terms.NoMemory.{NoMemory}
@@ -74,6 +74,3 @@ module _ (names : NameTable) (sys : System) where
       -- the first space has no certificate
       pub ortho_none : Searches ending_of (MayEndExactly Ortho) before here (Ok Nothing) → (r : Result Search NoMemory) → IsOrthoFirst before after r
       ortho_none none r c n f = absurd (none.2.0 c n f)
-
-      pub none_first : Searches ending_of (MayEnd Both) before here (Ok Nothing) → (r : Result Search NoMemory) → IsOrthoFirst before after r
-      none_first none r c n f = absurd (none.2.0 c n (inl f))

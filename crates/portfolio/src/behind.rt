@@ -65,9 +65,7 @@ fn written(
 ) -> Result<Behind, NoMemory>
     ensures { WritesBehind names.now (map simp_view steps.items) (certificate_view body) result }
 {
-    let Ok(body) = Box::new(alloc, body) else {
-        return Err(NoMemory);
-    };
+    let body = Box::new(alloc, body)?;
     let cert = Certificate::Simplified { steps, body };
     if has_text(alloc, names, &cert)? {
         Ok(Behind::Found(cert))

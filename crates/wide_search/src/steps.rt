@@ -43,9 +43,7 @@ pub(crate) fn behind(
     if steps.is_empty() {
         return Ok(body);
     }
-    let Ok(body) = Box::new(alloc, body) else {
-        return Err(NoMemory);
-    };
+    let body = Box::new(alloc, body)?;
     Ok(Certificate::Simplified {
         steps: copied_steps(alloc, steps)?,
         body,
