@@ -142,10 +142,7 @@ fn put_walk(page: &mut Page<'_>, name: &str, walk: Option<&Sought<PairEvidence>>
 }
 
 fn walk_at(walked: &Option<Walked>, place: usize) -> Option<&Sought<PairEvidence>> {
-    match walked {
-        Some(walked) => walked.shown.get(place),
-        None => None,
-    }
+    walked.as_ref()?.shown.get(place)
 }
 
 // An overlap, with what settles it in each kind of certificate.
