@@ -21,7 +21,6 @@ use Rattle.cert_check.specs.declared.Verdict.TheVariants.{Yes, No}
 use Rattle.cert_check.specs.declared.bytes.BytesError.{BytesError}
 use Rattle.cert_check.specs.declared.bytes.BytesError.TheVariants as bytes_error
 use Rattle.cert_words.specs.declared.error.CertError.{CertError}
-use Rattle.cert_words.specs.declared.error.CertError.TheVariants as cert_causes
 use Rattle.run_parts.specs.Bytes.{most_cert_bytes, Bytes, told_or_any, bytes_of, SpellsSystem}
 use Rattle.refusal_texts.specs.Certificates.{cert_cause_words, cert_error_cause, cert_refusal_text}
 use Rattle.run_parts.specs.Devices.{ShelfRun, HasFailed, BeginsAtMost}

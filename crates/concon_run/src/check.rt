@@ -42,10 +42,8 @@ pub fn check_of<'a>(words: &[&'a str]) -> Option<Check<'a>>
     ensures found { IfSome result (λ check. IsCheck (texts words.now) check.file.now check.cert.now) }
     ensures none { IfNone result ((file cert : List ℕ) → IsCheck (texts words.now) file cert → ⊥) }
 {
-    match two_words(words, "check") {
-        Some((file, cert)) => Some(Check { file, cert }),
-        None => None,
-    }
+    let (file, cert) = two_words(words, "check")?;
+    Some(Check { file, cert })
 }
 
 /// Why there is no verdict.

@@ -32,8 +32,6 @@ pub fn asked_of<'a>(words: &[&'a str]) -> Option<Asked<'a>>
     if let Some(n) = selftest_of(words) {
         return Some(Asked::Selftest { n });
     }
-    match question_of(words) {
-        Some(question) => Some(Asked::Query(question)),
-        None => None,
-    }
+    let question = question_of(words)?;
+    Some(Asked::Query(question))
 }

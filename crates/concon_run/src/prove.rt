@@ -49,13 +49,9 @@ pub fn prove_of<'a>(words: &[&'a str]) -> Option<Prove<'a>>
             budget: USUAL_BUDGET,
         });
     }
-    let Some((file, number)) = around_option(words, "prove", "--budget") else {
-        return None;
-    };
-    match budget_of(number) {
-        Some(budget) => Some(Prove { file, budget }),
-        None => None,
-    }
+    let (file, number) = around_option(words, "prove", "--budget")?;
+    let budget = budget_of(number)?;
+    Some(Prove { file, budget })
 }
 
 /// How a search ended, with the names of the file.

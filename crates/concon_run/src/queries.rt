@@ -53,17 +53,13 @@ pub fn question_of<'a>(words: &[&'a str]) -> Option<Question<'a>>
             budget: USUAL_BUDGET,
         });
     }
-    let Some((file, query, number)) = two_around_option(words, "query", "--budget") else {
-        return None;
-    };
-    match budget_of(number) {
-        Some(budget) => Some(Question {
-            file,
-            query,
-            budget,
-        }),
-        None => None,
-    }
+    let (file, query, number) = two_around_option(words, "query", "--budget")?;
+    let budget = budget_of(number)?;
+    Some(Question {
+        file,
+        query,
+        budget,
+    })
 }
 
 /// How the search for an answer ended, with the names of the file.
