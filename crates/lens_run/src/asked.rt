@@ -45,13 +45,9 @@ fn skeleton_of<'a>(words: &[&'a str]) -> Option<Asked<'a>>
     ensures found { IfSome result (λ asked. IsCommand (texts words.now) (command_view asked)) }
     ensures none { IfNone result ((file : List ℕ) (kind : SkeletonKind) → IsCommand (texts words.now) (skeleton file kind) → ⊥) }
 {
-    let Some((file, word)) = around_option(words, "show", "--skeleton") else {
-        return None;
-    };
-    match kind_of(word) {
-        Some(kind) => Some(Asked::Skeleton { file, kind }),
-        None => None,
-    }
+    let (file, word) = around_option(words, "show", "--skeleton")?;
+    let kind = kind_of(word)?;
+    Some(Asked::Skeleton { file, kind })
 }
 
 // The wider search that the words ask for.
@@ -65,13 +61,9 @@ fn seek_of<'a>(words: &[&'a str]) -> Option<Asked<'a>>
             units: USUAL_BUDGET,
         });
     }
-    let Some((file, word)) = around_option(words, "seek", "--budget") else {
-        return None;
-    };
-    match budget_of(word) {
-        Some(units) => Some(Asked::Seek { file, units }),
-        None => None,
-    }
+    let (file, word) = around_option(words, "seek", "--budget")?;
+    let units = budget_of(word)?;
+    Some(Asked::Seek { file, units })
 }
 
 /// The command that the words are.
