@@ -6,7 +6,7 @@ ghost use Rattle.ari_text.specs.Functions.{arity_of, AreUndeclared, AreDeclared}
 
 use crate::errors::AriError;
 use cops_names::Names;
-use cops_read::Count;
+use cops_read::{Count, MOST_SYMBOLS};
 use cops_syntax::Name;
 use itoa::Buffer;
 use std::alloc::Global;
@@ -97,7 +97,7 @@ impl<'a> Scope<'a> {
 
     // Refuses the name of one more function where it is not new, or there are too many.
     pub(crate) fn check_new(&self, name: Name<'a>) -> Result<(), AriError>
-        ensures { OnOk result (length self.now.functions.symbols < 1000) }
+        ensures { OnOk result (length self.now.functions.symbols < MOST_SYMBOLS) }
     {
         let what = Count::Symbols;
         let limit = what.limit();

@@ -35,7 +35,7 @@ fn put_bare<'a>(
 
 // Refuses a name that stands too deep in its term.
 fn check_depth(name: Name<'_>, depth: usize) -> Result<(), AriError>
-    ensures { OnOk result (depth ≤ 200) }
+    ensures { OnOk result (depth ≤ MOST_DEPTH) }
 {
     if depth > MOST_DEPTH {
         return Err(AriError::TooDeep { at: name.at });

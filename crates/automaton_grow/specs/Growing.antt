@@ -1,5 +1,6 @@
 -- One round of growth: what a set of transitions asks for, and sets of transitions with what was added to them.
 use Rattle.std.specs.Prelude.{ℕ, ◌≡◌, ◌⊎◌, ◌<◌, ◌≤◌, nat_eq, if◌then◌else◌, List, [], ◌∷◌, None, Some, Contains, length, replicate, slice_get, Result, Ok, Err}
+use Rattle.automata.specs.declared.TheConstants.{MOST_GROWN_TRANSITIONS}
 use Rattle.rewriting.specs.Prelude.{IsSorted, Term, var, app, Rule, System, variable_occurrences}
 use Rattle.certificates.specs.Evidence.{Transition, Automaton}
 use Rattle.automata.specs.Runs.{ReachBy}
@@ -61,21 +62,21 @@ pub record IsAdded (wanted : Transition → Type 0) (before after : List Transit
   pub more : length before ≤ length after
   pub same : length after ≡ length before → after ≡ before
 
--- what was wanted is added, or more than 5,000 transitions were found, of those that are wanted and those before
+-- what was wanted is added, or too many transitions were found, of those that are wanted and those before
 abbrev pub AddAnswers : (Transition → Type 0) → List Transition → List Transition → Result (Unit {0}) GrowError → Type 0
-AddAnswers wanted before after (Ok _) = IsAdded wanted before after × (length after ≤ 5000)
+AddAnswers wanted before after (Ok _) = IsAdded wanted before after × (length after ≤ MOST_GROWN_TRANSITIONS)
 AddAnswers wanted before after (Err (TooWide rule)) = ⊥
 AddAnswers wanted before after (Err TooManyStates) = ⊥
-AddAnswers wanted before after (Err TooManyTransitions) = IsPartOf wanted before after × (5000 < length after)
+AddAnswers wanted before after (Err TooManyTransitions) = IsPartOf wanted before after × (MOST_GROWN_TRANSITIONS < length after)
 AddAnswers wanted before after (Err NoMemory) = Unit {0}
 
--- transitions that are all asked for, in order and at most 5,000, with those that state 0 and the term ask for
+-- transitions that are all asked for, in order and not too many, with those that state 0 and the term ask for
 pub record IsPartial (sys : System) (s : Term) (ds : List Transition) : Type 0 where
   pub asked : (d : Transition) → Contains ds d → IsAsked sys s d
   pub states : (d : Transition) → Contains ds d → HasStates (state_count sys s) d
   pub basic : (d : Transition) → IsBasic sys s d → Contains ds d
   pub sorted : IsSorted IsTransitionBefore ds
-  pub few : length ds ≤ 5000
+  pub few : length ds ≤ MOST_GROWN_TRANSITIONS
 
 -- the automaton's transitions all count
 abbrev pub AreAllStates : Automaton → Type 0

@@ -1,5 +1,6 @@
 -- The limits on states and choices, rule by rule.
 use Rattle.std.specs.Prelude.{ℕ, suc, ◌≡◌, ◌<◌, ◌≤◌, ◌^◌, List, length, slice_get, Option, None, Some, Result, Ok, Err}
+use Rattle.automata.specs.declared.TheConstants.{MOST_GROWTH_CHOICES}
 use Rattle.rewriting.specs.Prelude.{Term, Rule, System, variable_occurrences}
 use Rattle.automata.specs.Growth.{proper_before, state_count, AreStatesMany}
 use Rattle.automaton_grow.specs.declared.GrowError.{GrowError}
@@ -19,9 +20,9 @@ abbrev pub StatesAnswer : System → Term → Option ℕ → Type 0
 StatesAnswer sys s (Some count) = (count ≡ state_count sys s) × (count ≤ 64)
 StatesAnswer sys s None = AreStatesMany sys s
 
--- there are more than 100,000 choices of so many states for the term
+-- there are too many choices of so many states for the term
 abbrev pub IsWideFor : ℕ → Term → Type 0
-IsWideFor n t = 100000 < n ^ length (variable_occurrences t)
+IsWideFor n t = MOST_GROWTH_CHOICES < n ^ length (variable_occurrences t)
 
 -- none of the first k rules has a wide left side
 abbrev pub AreNarrowBelow : ℕ → List Rule → ℕ → Type 0

@@ -1,6 +1,7 @@
 -- What the parts of a round answer.
 use Rattle.std.specs.Prelude.{ℕ, ◌≡◌, ◌<◌, ◌≤◌, ◌⊎◌, List, [], Contains, length, map, replicate, slice_get, None, Some, Result, Ok, Err, Vec}
 use Rattle.std.specs.Global.{Global}
+use Rattle.automata.specs.declared.TheConstants.{MOST_GROWN_TRANSITIONS}
 use Rattle.rewriting.specs.Prelude.{Term, Rule, System, Signature}
 use Rattle.certificates.specs.Evidence as evidence
 use Rattle.cert_model.specs.declared.evidence.Transition.{Transition}
@@ -46,9 +47,9 @@ RoundAnswers sys s ds (Err TooManyStates) = ⊥
 RoundAnswers sys s ds (Err TooManyTransitions) = AreTransitionsMany sys s
 RoundAnswers sys s ds (Err NoMemory) = Unit {0}
 
--- the automaton that grows from the term, with at most 5,000 transitions, or there are too many
+-- the automaton that grows from the term, with not too many transitions, or there are too many
 abbrev pub GrownAnswers : System → Term → Result Automaton GrowError → Type 0
-GrownAnswers sys s (Ok a) = IsGrowthOf sys s (automaton_view a) × (length (automaton_view a).transitions ≤ 5000)
+GrownAnswers sys s (Ok a) = IsGrowthOf sys s (automaton_view a) × (length (automaton_view a).transitions ≤ MOST_GROWN_TRANSITIONS)
 GrownAnswers sys s (Err (TooWide rule)) = ⊥
 GrownAnswers sys s (Err TooManyStates) = ⊥
 GrownAnswers sys s (Err TooManyTransitions) = AreTransitionsMany sys s

@@ -1,5 +1,5 @@
 //! The limits of growth: on the states of the automaton, and on the choices of states for a left side.
-ghost use Rattle.std.specs.Prelude.{◌<◌, ◌≤◌, ◌+◌, ◌^◌, ◌↔◌, IsTrue, IfOk, map, length};
+ghost use Rattle.std.specs.Prelude.{◌<◌, ◌≤◌, ◌+◌, ◌^◌, ◌↔◌, ◌*◌, IsTrue, IfOk, map, length};
 ghost use Rattle.rewriting.specs.Prelude.{Fits, DoSidesFit};
 ghost use Rattle.term_core.specs.Prelude.{view, rule_view};
 ghost use Rattle.automaton_grow.specs.Limits.{all_proper, CountAnswers, StatesAnswer, WidthAnswers, IsWideFor};
@@ -9,12 +9,12 @@ use crate::sides::{inner, proper};
 use automata::{MOST_GROWN_STATES, MOST_GROWTH_CHOICES};
 use automaton_runs::{has_more_choices, occurrences};
 use std::alloc::Global;
-use term_core::{NoMemory, Rule, System, Term};
+use term_core::{MAX_NODES, NoMemory, Rule, System, Term};
 
 // The count with the states of these right sides, where there are not too many.
 fn count_from(rules: &[Rule], first: u32) -> Option<u32>
     requires fit { DoSidesFit (map rule_view rules.now) }
-    requires small { first ≤ 20000 }
+    requires small { first ≤ 2 * MAX_NODES }
     ensures { CountAnswers (first + all_proper (map rule_view rules.now)) result }
 {
     let mut count = first;

@@ -4,7 +4,7 @@ ghost use Rattle.automaton_runs.specs.Choices as choice_lists;
 ghost use Rattle.automaton_runs.specs.Choices.{as_lists, choices_of};
 
 use std::alloc::Global;
-use term_core::NoMemory;
+use term_core::{MAX_NODES, NoMemory};
 
 // The most choices of the last pools that are taken together.
 const MAX_TAILS: usize = 10_000;
@@ -71,7 +71,7 @@ pub(crate) fn choices(alloc: Global, pools: &[Vec<u32>]) -> Result<Vec<Vec<u32>>
 pub(crate) fn tails(alloc: Global, pools: &[Vec<u32>]) -> Result<(usize, Vec<Vec<u32>>), NoMemory>
     ensures within { IfOk result (λ found. found.0 ≤ length pools.now) }
     ensures choices { IfOk result (λ found. as_lists found.1.items ≡ choices_of (drop found.0 (as_lists pools.now))) }
-    ensures few { IfOk result (λ found. length found.1.items ≤ 10000) }
+    ensures few { IfOk result (λ found. length found.1.items ≤ MAX_NODES) }
 {
     let mut made = no_states(alloc)?;
     let mut place = pools.len();

@@ -1,5 +1,6 @@
 -- Laws of openings, and of entries that are read one by one.
 use Rattle.std.specs.Prelude.{ℕ, suc, ◌-◌, slice_get, Some, ◌≡◌, ◌<◌, ◌≤◌, ◌+◌, List, [], ◌∷◌, ◌++◌, length, codes}
+use Rattle.cert_grammar.specs.declared.limits.TheConstants.{MOST_PAIRS}
 use Rattle.certificates.specs.Prelude.{Automaton, PairEntry, Certificate}
 use Rattle.cops_names.specs.NameTable.{NameTable}
 use Rattle.cert_grammar.specs.Prelude.{Version, used_by_evidence, texts_of, with_new, shared_by, number_in, AllNew, pairs_text, ArePairs, CertificateCause, IsCertificateText}
@@ -53,7 +54,7 @@ pub record IsReadTo (names : NameTable) (bytes : List ℕ) (o : Opening) (es : L
 abbrev pub EntryIsTaken : Type 0
 EntryIsTaken =
     (names : NameTable) (bytes : List ℕ) (o : Opening) (es : List PairEntry) (at : ℕ) (p : PairEntry) (left : List Automaton) (rest : List ℕ) → (h : IsRead names bytes o es at)
-    → length es < 20000 → ArePairs names (p ∷ [])
+    → length es < MOST_PAIRS → ArePairs names (p ∷ [])
     → h.rest ≡ pairs_text names (uses_with h.version names (shared_by names (certificate_for o es) ++ h.left)) (p ∷ []) ++ rest
     → Takes h.version names (certificate_for o es) h.left (used_by_evidence p.evidence) left
     → IsReadTo names bytes o (es ++ p ∷ []) (at + length (pairs_text names (uses_with h.version names (shared_by names (certificate_for o es) ++ h.left)) (p ∷ []))) h.version left rest

@@ -15,7 +15,7 @@ use cert_words::{
 };
 use cops_names::Names;
 use std::alloc::Global;
-use term_core::Term;
+use term_core::{MAX_DEPTH, MAX_NODES, Term};
 
 // The comma or the bracket behind a symbol with so many arguments; whether it is a comma.
 fn argument_closed(end: usize, at: &mut Reading, met: bool) -> bool
@@ -41,11 +41,11 @@ fn argument(
     n: usize,
 ) -> (Term, bool, usize)
     requires inner { 2 ≤ depth }
-    requires deep { depth ≤ 401 }
-    requires many { n ≤ 10001 }
+    requires deep { depth ≤ MAX_DEPTH + 1 }
+    requires many { n ≤ MAX_NODES + 1 }
     ensures read { (f : Frame) (fs : List Frame) → suc (suc (length fs)) ≡ depth → Reads names.now end (spec.node n (f ∷ fs) ∷ []) (λ u. marks.term_marks u depth n (view result.0) ++ (argument_end result.1 ∷ [])) (behind_argument result.1 result.2 f fs ∷ []) at.old at.new }
     ensures counted { at.new.refused ≡ None → result.2 ≡ n + size (view result.0) }
-    ensures many { result.2 ≤ 10001 }
+    ensures many { result.2 ≤ MAX_NODES + 1 }
     ensures more { result.1 ≡ true → n < result.2 }
     ensures low { n ≤ result.2 }
 {
@@ -87,12 +87,12 @@ fn arguments(
     n: usize,
 ) -> (Vec<Term>, usize)
     requires inner { 2 ≤ depth }
-    requires deep { depth ≤ 401 }
-    requires many { n ≤ 10001 }
+    requires deep { depth ≤ MAX_DEPTH + 1 }
+    requires many { n ≤ MAX_NODES + 1 }
     ensures read { (name : List ℕ) (fs : List Frame) → suc (suc (length fs)) ≡ depth → Reads names.now end (spec.node n (record { name = name; argument = 1 } ∷ fs) ∷ []) (λ u. inner_marks u depth n (views result.0.items)) (spec.term_closed result.1 name (length result.0.items) fs ∷ []) at.old at.new }
     ensures counted { at.new.refused ≡ None → result.1 ≡ n + size_all (views result.0.items) }
     ensures some { at.new.refused ≡ None → 0 < length result.0.items }
-    ensures many { result.1 ≤ 10001 }
+    ensures many { result.1 ≤ MAX_NODES + 1 }
     ensures low { n ≤ result.1 }
 {
     let mut args = Vec::new(alloc);

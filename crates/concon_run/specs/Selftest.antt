@@ -1,5 +1,6 @@
 -- The command selftest: its words, its answer, and what it counts for that.
 use Rattle.std.specs.Prelude.{◌≡◌, ◌≤◌, ◌*◌, ◌++◌, ℕ, List, [], ◌∷◌, length, codes, decimal}
+use Rattle.generated_systems.specs.declared.TheConstants.{MOST_GENERATED}
 use Rattle.certificates.specs.Certificates.{Certificate, ortho_certificate, quasi_certificate, peak_certificate, simplified_certificate}
 use Rattle.cert_check.specs.declared.Verdict.TheVariants.{Yes}
 use Rattle.concon_run.specs.Run.{Run}
@@ -10,7 +11,7 @@ use Rattle.concon_run.specs.declared.status.Status.TheVariants as status
 
 -- the words ask for the test with this number, which stands in decimal, without a sign and without zeros in front
 abbrev pub IsSelftest : List (List ℕ) → ℕ → Type 0
-IsSelftest words n = (number : List ℕ) × (words ≡ codes "selftest" ∷ number ∷ []) × (number ≡ decimal n) × (1 ≤ n) × (n ≤ 200)
+IsSelftest words n = (number : List ℕ) × (words ≡ codes "selftest" ∷ number ∷ []) × (number ≡ decimal n) × (1 ≤ n) × (n ≤ MOST_GENERATED)
 
 -- for the generated system number n 4n rules are read, and n pairs of the certificate, which 3n units find
 abbrev pub selftest_line : ℕ → List ℕ

@@ -23,7 +23,7 @@ use cert_model::Certificate;
 use cert_text::{CertError, one_answer, one_certificate, read_cert, write_cert};
 use cops_read::{Names, ReadError, one_reading, read_system};
 use cops_write::write_system;
-use generated_systems::generated_systems_have_certificates;
+use generated_systems::{MOST_GENERATED, generated_systems_have_certificates};
 use generator::system_of;
 use portfolio::{Outcome, prove};
 use run_parts::{budget_of, one_word};
@@ -31,15 +31,12 @@ use std::alloc::Global;
 use term_core::{NoMemory, System};
 use valid_certificates::certificates_have_one_answer;
 
-// No test has a greater number.
-const MOST_TESTED: u64 = 200;
-
 // The number of a test that the word is in decimal, as a budget is.
 fn test_number(word: &str) -> Option<u32>
-    ensures { MatchOption result ((n : ℕ) → word.now ≡ decimal n → 1 ≤ n → n ≤ 200 → ⊥) (λ n. (word.now ≡ decimal n) × (1 ≤ n) × (n ≤ 200)) }
+    ensures { MatchOption result ((n : ℕ) → word.now ≡ decimal n → 1 ≤ n → n ≤ MOST_GENERATED → ⊥) (λ n. (word.now ≡ decimal n) × (1 ≤ n) × (n ≤ MOST_GENERATED)) }
 {
     let n = budget_of(word)?;
-    if n == 0 || n > MOST_TESTED {
+    if n == 0 || n > MOST_GENERATED {
         None
     } else {
         Some(n as u32)
@@ -56,7 +53,7 @@ pub fn selftest_of(words: &[&str]) -> Option<u32>
 }
 
 // How many units a test may spend.
-const TEST_BUDGET: u64 = 1000000;
+const TEST_BUDGET: u64 = 1_000_000;
 
 // What a test counted: the rules that were read, the entries of the certificate that was checked, with what it shows, and the
 // units that were spent.
@@ -71,7 +68,7 @@ struct Tested {
 // The generated system with a number, as it is read from its text.
 fn read_back(alloc: Global, n: u32) -> Result<(System, Names), NoMemory>
     requires least { 1 ≤ n }
-    requires most { n ≤ 200 }
+    requires most { n ≤ MOST_GENERATED }
     ensures { IfOk result (λ p. (p.0 ≡ generated n) × (p.1 ≡ generated_names n)) }
 {
     generator::written_is_read();
@@ -90,7 +87,7 @@ fn read_back(alloc: Global, n: u32) -> Result<(System, Names), NoMemory>
 
 // The certificate that the first space has within the budget, and what was spent.
 fn find(alloc: Global, sys: &System, names: &Names) -> Result<(Certificate, u64), NoMemory>
-    requires { (c : math.Certificate) × (n : ℕ) × (ortho_space names.now sys.now).Finds c n × (n ≤ 1000000) }
+    requires { (c : math.Certificate) × (n : ℕ) × (ortho_space names.now sys.now).Finds c n × (n ≤ TEST_BUDGET) }
     ensures found { (c : math.Certificate) (n : ℕ) → (ortho_space names.now sys.now).Finds c n → IfOk result (λ f. (certificate_view f.0 ≡ c) × (f.1 ≡ n)) }
     ensures valid { IfOk result (λ f. IsValid sys.now (certificate_view f.0)) }
 {
@@ -148,7 +145,7 @@ fn pair_count(cert: &Certificate) -> u64
 
 fn test(alloc: Global, n: u32) -> Result<Tested, NoMemory>
     requires least { 1 ≤ n }
-    requires most { n ≤ 200 }
+    requires most { n ≤ MOST_GENERATED }
     ensures { IfOk result (IsPassed n) }
 {
     generated_systems_have_certificates();
@@ -190,7 +187,7 @@ fn tested_reply(alloc: Global, n: u32, tested: Tested) -> Reply
 /// Does the test with a number, and says what it counted.
 pub fn selftest_reply(alloc: Global, n: u32) -> Reply
     requires least { 1 ≤ n }
-    requires most { n ≤ 200 }
+    requires most { n ≤ MOST_GENERATED }
     ensures { IsSaidIfMemory (said_of_test n) (reply_said result) }
 {
     match test(alloc, n) {

@@ -19,7 +19,7 @@ use cops_syntax::parse;
 pub use errors::{Count, ReadError};
 pub use files::{block_names, read_file};
 pub use heads::{NodePlace, VariableOrSymbol};
-pub use limits::{MOST_CONDITIONS, MOST_DEPTH, MOST_NODES, MOST_VARIABLES};
+pub use limits::{MOST_CONDITIONS, MOST_DEPTH, MOST_NODES, MOST_SYMBOLS, MOST_VARIABLES};
 use std::alloc::Global;
 use term_core::System;
 pub use terms::HeadReader;

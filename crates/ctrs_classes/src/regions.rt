@@ -1,12 +1,12 @@
 //! Variables in regions of a rule, its left side and the sides of its first conditions; and the first variable that is repeated.
-ghost use Rattle.std.specs.Prelude.{◌≡◌, ◌+◌, ◌≤◌, ◌&&◌, not, IfOk, map};
+ghost use Rattle.std.specs.Prelude.{◌≡◌, ◌+◌, ◌≤◌, ◌&&◌, ◌*◌, not, IfOk, map};
 ghost use Rattle.rewriting.specs.Prelude.{size, size_all, left_sides, sides, variable_occurrences, variable_occurrences_of};
 ghost use Rattle.rewriting.specs.Variables as math;
 ghost use Rattle.term_core.specs.Prelude.{view, views, condition_view};
 ghost use Rattle.ctrs_classes.specs.Walks.{SeenAnswers, any_where, are_open, first_where, is_open, same};
 ghost use Rattle.ctrs_classes.specs.RegionView.{in_region};
 
-use term_core::{Cond, Term, occurs, occurs_in_right_sides};
+use term_core::{Cond, MAX_NODES, Term, occurs, occurs_in_right_sides};
 
 fn occurs_left(x: u32, conds: &[Cond]) -> bool
     ensures { result ≡ math.occurs_in x (left_sides (map condition_view conds.now)) }
@@ -82,7 +82,7 @@ fn first_among(args: &[Term], region: &Region<'_>, inside: bool) -> Option<u32>
 #[cycle(repeated)]
 #[tactic(auto, using(rewriting::proofs::Lengths::size_positive))]
 pub(crate) fn first_repeated(t: &Term, next: u32) -> Result<u32, u32>
-    requires { next + size (view t.now) ≤ 20000 }
+    requires { next + size (view t.now) ≤ 2 * MAX_NODES }
     ensures found { SeenAnswers next (variable_occurrences (view t.now)) result }
     ensures bounded { IfOk result (λ n. n ≤ next + size (view t.now)) }
 {
@@ -95,7 +95,7 @@ pub(crate) fn first_repeated(t: &Term, next: u32) -> Result<u32, u32>
 #[cycle(repeated)]
 #[tactic(auto, using(rewriting::proofs::Lengths::size_positive))]
 fn first_repeated_among(args: &[Term], next: u32) -> Result<u32, u32>
-    requires { next + size_all (views args.now) ≤ 20000 }
+    requires { next + size_all (views args.now) ≤ 2 * MAX_NODES }
     ensures found { SeenAnswers next (variable_occurrences_of (views args.now)) result }
     ensures bounded { IfOk result (λ n. n ≤ next + size_all (views args.now)) }
 {

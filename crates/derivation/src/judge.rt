@@ -16,7 +16,7 @@ use crate::steps::{by_hypothesis, contracted};
 use cert_model::{Derivation, Step, StepReason};
 use matching::{Match, match_owned};
 use std::alloc::Global;
-use term_core::{Cond, Subst, System, Term, size, try_clone};
+use term_core::{Cond, MAX_CONDITIONS, Subst, System, Term, size, try_clone};
 
 // The term from which a condition's derivation starts.
 fn condition_start(alloc: Global, values: &Subst, left: &Term) -> Result<Counted, ReplayError>
@@ -71,7 +71,7 @@ fn values_met(
 ) -> Result<Subst, ReplayError>
     requires hypotheses { DoConditionsFit (map condition_view hyps.now) }
     requires conditions { DoConditionsFit (map condition_view conds.now) }
-    requires few { length conds.now ≤ 100 }
+    requires few { length conds.now ≤ MAX_CONDITIONS }
     requires paired { length ds.now ≡ length conds.now }
     requires short { AreShort (derivations_of (map derivation_view ds.now)) }
     ensures { Judged (λ end. AreMet sys.now (map condition_view hyps.now) start (map condition_view conds.now) (derivations_of (map derivation_view ds.now)) end) (λ path reason. FailFrom sys.now (map condition_view hyps.now) 1 start (map condition_view conds.now) (derivations_of (map derivation_view ds.now)) path reason) result }

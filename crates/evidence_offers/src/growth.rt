@@ -1,5 +1,5 @@
 //! Automata that grow from conditions. What grows is closed, so where one is judged, its closure is not.
-ghost use Rattle.std.specs.Prelude.{◌≤◌, None, length, map};
+ghost use Rattle.std.specs.Prelude.{◌≤◌, ◌*◌, None, length, map};
 ghost use Rattle.rewriting.specs.Terms.{Fits};
 ghost use Rattle.automata.specs.Evidence.{IsClosureJudged};
 ghost use Rattle.certificates.specs.Sizes.{DoConditionsFit};
@@ -11,7 +11,7 @@ use automaton_grow::{GrowError, grow};
 use cert_model::{Automaton, condition};
 use refuter::Refusal;
 use std::alloc::Global;
-use term_core::{Cond, NoMemory, System, Term};
+use term_core::{Cond, MAX_CONDITIONS, NoMemory, System, Term};
 use tree_automata::AutoEvidence;
 
 // Growth that is refused gives no automaton.
@@ -45,7 +45,7 @@ fn shown(
     cond: u32,
     automaton: Automaton,
 ) -> Result<Option<Automaton>, NoMemory>
-    requires few { length conds.now ≤ 200 }
+    requires few { length conds.now ≤ 2 * MAX_CONDITIONS }
     requires fit { DoConditionsFit (map condition_view conds.now) }
     requires closed { IsClosureJudged sys.now (automaton_view automaton) None }
     ensures { ShownAnswers sys.now (map condition_view conds.now) cond (automaton_view automaton) result }
@@ -69,7 +69,7 @@ pub fn valid_growth(
     conds: &[Cond],
     cond: u32,
 ) -> Result<Option<Automaton>, NoMemory>
-    requires few { length conds.now ≤ 200 }
+    requires few { length conds.now ≤ 2 * MAX_CONDITIONS }
     requires fit { DoConditionsFit (map condition_view conds.now) }
     ensures { ValidGrowthAnswers sys.now (map condition_view conds.now) cond result }
 {

@@ -1,5 +1,6 @@
 -- Laws of the generated systems.
 use Rattle.std.specs.Prelude.{ℕ, ◌*◌, ◌<◌, ◌≤◌}
+use Rattle.unifier_run.specs.declared.TheConstants.{MOST_OVERLAPS}
 use Rattle.unifier_run.specs.Overlaps.{AreOverlaps}
 use Rattle.cops_names.specs.NameTable.{NameTable}
 use Rattle.valid_certificates.specs.Kinds.{ortho}
@@ -26,12 +27,12 @@ EntriesAreFirsts = (n : ℕ) → AreFirsts (IsOrthoEntry (generated n)) (generat
 
 -- the overlaps are these n, where they are not too many
 abbrev pub GeneratedHaveOverlaps : Type 0
-GeneratedHaveOverlaps = (n : ℕ) → n ≤ 20000 → AreOverlaps (generated n) (generated_overlaps n)
+GeneratedHaveOverlaps = (n : ℕ) → n ≤ MOST_OVERLAPS → AreOverlaps (generated n) (generated_overlaps n)
 
 -- the certificate has a text, whatever the names
 abbrev pub CertificatesHaveTexts : Type 0
-CertificatesHaveTexts = (names : NameTable) (n : ℕ) → n ≤ 20000 → HasText names (generated_certificate n)
+CertificatesHaveTexts = (names : NameTable) (n : ℕ) → n ≤ MOST_OVERLAPS → HasText names (generated_certificate n)
 
 -- it is found at the price 3n
 abbrev pub CertificatesAreFound : Type 0
-CertificatesAreFound = (names : NameTable) (n : ℕ) → n ≤ 20000 → (ortho_space names (generated n)).Finds (generated_certificate n) (3 * n)
+CertificatesAreFound = (names : NameTable) (n : ℕ) → n ≤ MOST_OVERLAPS → (ortho_space names (generated n)).Finds (generated_certificate n) (3 * n)

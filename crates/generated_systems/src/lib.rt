@@ -3,6 +3,9 @@
 
 ghost use Rattle.generated_systems.specs.Laws.{CertificatesAreFound, CertificatesHaveTexts, EntriesAreFirsts, GeneratedAreInOrthoClasses, GeneratedHaveOverlaps, OverlapsHaveConflicts};
 
+/// Greatest number of a generated system that is made, written and read.
+pub const MOST_GENERATED: u64 = 200;
+
 /// Each is left-linear, of type 3, extended properly oriented and right-stable.
 pub fn generated_systems_are_in_the_classes()
     ensures { GeneratedAreInOrthoClasses }

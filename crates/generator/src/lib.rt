@@ -11,6 +11,7 @@ ghost use Rattle.generator.specs.Laws.{GeneratedIsRead, GeneratedIsShort};
 use crate::names::names_of;
 use crate::rules::rules_of;
 use cops_names::Names;
+use generated_systems::MOST_GENERATED;
 use std::alloc::Global;
 use term_core::{NoMemory, System};
 
@@ -19,7 +20,7 @@ use term_core::{NoMemory, System};
 /// right side is s(x).
 pub fn system_of(alloc: Global, n: u32) -> Result<(System, Names), NoMemory>
     requires least { 1 ≤ n }
-    requires most { n ≤ 200 }
+    requires most { n ≤ MOST_GENERATED }
     ensures system { IfOk result (λ p. p.0 ≡ generated n) }
     ensures names { IfOk result (λ p. p.1 ≡ generated_names n) }
 {

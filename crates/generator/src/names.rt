@@ -5,6 +5,7 @@ ghost use Rattle.generated_systems.specs.Generated.{generated_names, variables_f
 ghost use Rattle.cops_read.specs.Meaning.{with_symbol};
 
 use cops_names::{Names, numbered};
+use generated_systems::MOST_GENERATED;
 use std::alloc::Global;
 use term_core::NoMemory;
 
@@ -44,7 +45,7 @@ fn first_symbols(alloc: Global) -> Result<Names, NoMemory>
 // The two symbols that the system behind the one with number k has more.
 fn add_symbols(alloc: Global, names: &mut Names, k: u32) -> Result<(), NoMemory>
     requires least { 1 ≤ k }
-    requires most { k < 200 }
+    requires most { k < MOST_GENERATED }
     requires so_far { names.old.symbols ≡ (generated_names k).symbols }
     ensures symbols { OnOk result (names.new.symbols ≡ (generated_names (suc k)).symbols) }
     ensures variables { names.new.variables ≡ names.old.variables }
@@ -59,7 +60,7 @@ fn add_symbols(alloc: Global, names: &mut Names, k: u32) -> Result<(), NoMemory>
 // The symbols of the generated system with a number.
 fn symbols_of(alloc: Global, n: u32) -> Result<Names, NoMemory>
     requires least { 1 ≤ n }
-    requires most { n ≤ 200 }
+    requires most { n ≤ MOST_GENERATED }
     ensures symbols { IfOk result (λ names. names.symbols ≡ (generated_names n).symbols) }
     ensures variables { IfOk result (λ names. names.variables ≡ []) }
 {
@@ -94,7 +95,7 @@ fn add_variables(alloc: Global, names: &mut Names) -> Result<(), NoMemory>
 /// The names of the generated system with a number.
 pub(crate) fn names_of(alloc: Global, n: u32) -> Result<Names, NoMemory>
     requires least { 1 ≤ n }
-    requires most { n ≤ 200 }
+    requires most { n ≤ MOST_GENERATED }
     ensures { IfOk result (λ names. names ≡ generated_names n) }
 {
     let mut names = symbols_of(alloc, n)?;

@@ -5,6 +5,7 @@ ghost use Rattle.term_core.specs.Prelude.{view, rule_view, AreCounted};
 ghost use Rattle.generated_systems.specs.Generated.{generated, next_of, p_symbol, f_symbol};
 ghost use Rattle.generator.specs.RuleParts.{IsRuleAt, AreAdded, guarded};
 
+use generated_systems::MOST_GENERATED;
 use std::alloc::Global;
 use term_core::{Cond, NoMemory, Rule, Term};
 
@@ -22,14 +23,14 @@ const X: u32 = 0;
 
 // The symbols pk and fk, where k counts from 0.
 fn p_symbol(k: u32) -> u32
-    requires { k < 200 }
+    requires { k < MOST_GENERATED }
     ensures { result ≡ p_symbol k }
 {
     if k == 0 { 0 } else { 4 + 2 * k }
 }
 
 fn f_symbol(k: u32) -> u32
-    requires { k < 200 }
+    requires { k < MOST_GENERATED }
     ensures { result ≡ f_symbol k }
 {
     5 + 2 * k
@@ -51,7 +52,7 @@ fn applied(alloc: Global, symbol: u32, argument: Term) -> Result<Term, NoMemory>
 
 // pk(z) -> true
 fn rule_at_z(alloc: Global, k: u32) -> Result<Rule, NoMemory>
-    requires { k < 200 }
+    requires { k < MOST_GENERATED }
     ensures { IfOk result (IsRuleAt k 0) }
 {
     let left = applied(alloc, p_symbol(k), constant(alloc, Z))?;
@@ -65,7 +66,7 @@ fn rule_at_z(alloc: Global, k: u32) -> Result<Rule, NoMemory>
 
 // pk(s(x)) -> false
 fn rule_at_s(alloc: Global, k: u32) -> Result<Rule, NoMemory>
-    requires { k < 200 }
+    requires { k < MOST_GENERATED }
     ensures { IfOk result (IsRuleAt k 1) }
 {
     let argument = applied(alloc, S, Term::Var(X))?;
@@ -80,7 +81,7 @@ fn rule_at_s(alloc: Global, k: u32) -> Result<Rule, NoMemory>
 
 // fk(x) -> right | pk(x) == value
 fn guarded(alloc: Global, k: u32, right: Term, value: u32) -> Result<Rule, NoMemory>
-    requires { k < 200 }
+    requires { k < MOST_GENERATED }
     ensures rule { IfOk result (λ r. rule_view r ≡ guarded k (view right) value) }
     ensures vars { IfOk result (λ r. r.vars ≡ 1) }
 {
@@ -100,7 +101,7 @@ fn guarded(alloc: Global, k: u32, right: Term, value: u32) -> Result<Rule, NoMem
 
 // fk(x) -> x | pk(x) == true
 fn rule_of_true(alloc: Global, k: u32) -> Result<Rule, NoMemory>
-    requires { k < 200 }
+    requires { k < MOST_GENERATED }
     ensures { IfOk result (IsRuleAt k 2) }
 {
     guarded(alloc, k, Term::Var(X), TRUE)
@@ -108,7 +109,7 @@ fn rule_of_true(alloc: Global, k: u32) -> Result<Rule, NoMemory>
 
 // What fk goes on with.
 fn next_of(alloc: Global, k: u32) -> Result<Term, NoMemory>
-    requires { k < 200 }
+    requires { k < MOST_GENERATED }
     ensures { IfOk result (λ t. view t ≡ next_of k) }
 {
     let symbol = if k == 0 { S } else { f_symbol(k - 1) };
@@ -117,7 +118,7 @@ fn next_of(alloc: Global, k: u32) -> Result<Term, NoMemory>
 
 // fk(x) -> fj(x) | pk(x) == false, and for the first k with s(x) on the right
 fn rule_of_false(alloc: Global, k: u32) -> Result<Rule, NoMemory>
-    requires { k < 200 }
+    requires { k < MOST_GENERATED }
     ensures { IfOk result (IsRuleAt k 3) }
 {
     guarded(alloc, k, next_of(alloc, k)?, FALSE)
@@ -125,7 +126,7 @@ fn rule_of_false(alloc: Global, k: u32) -> Result<Rule, NoMemory>
 
 // Adds the rules for k.
 fn push_rules(alloc: Global, k: u32, out: &mut Vec<Rule>) -> Result<(), NoMemory>
-    requires { k < 200 }
+    requires { k < MOST_GENERATED }
     ensures { OnOk result (AreAdded k out.old.items out.new.items) }
 {
     out.push(rule_at_z(alloc, k)?)?;
@@ -137,7 +138,7 @@ fn push_rules(alloc: Global, k: u32, out: &mut Vec<Rule>) -> Result<(), NoMemory
 
 /// The rules of the generated system with a number.
 pub(crate) fn rules_of(alloc: Global, n: u32) -> Result<Vec<Rule>, NoMemory>
-    requires { n ≤ 200 }
+    requires { n ≤ MOST_GENERATED }
     ensures rules { IfOk result (λ v. map rule_view v.items ≡ (generated n).rules) }
     ensures counted { IfOk result (λ v. AreCounted v.items) }
 {

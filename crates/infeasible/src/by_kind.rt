@@ -1,5 +1,5 @@
 //! Who judges evidence by its kind, and remembers what it last found valid.
-ghost use Rattle.std.specs.Prelude.{◌≡◌, ◌≤◌, None, Some, IfOk, IfSome, OnOk, length, map};
+ghost use Rattle.std.specs.Prelude.{◌≡◌, ◌≤◌, ◌*◌, None, Some, IfOk, IfSome, OnOk, length, map};
 ghost use Rattle.certificates.specs.Sizes.{DoConditionsFit};
 ghost use Rattle.automata.specs.Evidence.{IsConditionJudged, JudgedByAutomaton};
 ghost use Rattle.term_core.specs.RuleView.{condition_view};
@@ -15,7 +15,7 @@ use refuter::{Refusal, Refuter};
 use rule_index::IndexedSystem;
 use std::alloc::Global;
 use std::marker::Model;
-use term_core::{Cond, NoMemory};
+use term_core::{Cond, MAX_CONDITIONS, NoMemory};
 use tree_automata::AutoEvidence;
 
 // A condition that an automaton shows to be never met.
@@ -62,7 +62,7 @@ fn judge_again(
     evidence: &AutoEvidence<'_>,
     known: &NeverMet,
 ) -> Result<(), Refusal>
-    requires few { length conds.now ≤ 200 }
+    requires few { length conds.now ≤ 2 * MAX_CONDITIONS }
     requires fit { DoConditionsFit (map condition_view conds.now) }
     requires same { automaton_view known.now.automaton ≡ automaton_view evidence.now.automaton.now }
     requires known { IsConditionJudged sys.now (condition_view known.now.cond) (automaton_view known.now.automaton) None }
@@ -93,7 +93,7 @@ impl JudgeByKind {
         conds: &[Cond],
         evidence: &AutoEvidence<'_>,
     ) -> Result<(), Refusal>
-        requires few { length conds.now ≤ 200 }
+        requires few { length conds.now ≤ 2 * MAX_CONDITIONS }
         requires fit { DoConditionsFit (map condition_view conds.now) }
         requires knows { IsKnown self.old sys.now }
         ensures judged { RefutesAnswers (JudgedByAutomaton sys.now (map condition_view conds.now) evidence.now.cond (automaton_view evidence.now.automaton.now)) result }
@@ -120,7 +120,7 @@ impl JudgeByKind {
         conds: &[Cond],
         evidence: &InfEvidence,
     ) -> Result<(), Refusal>
-        requires few { length conds.now ≤ 200 }
+        requires few { length conds.now ≤ 2 * MAX_CONDITIONS }
         requires fit { DoConditionsFit (map condition_view conds.now) }
         requires knows { IsKnown self.old sys.now }
         ensures judged { RefutesAnswers (IsInfeasibilityJudged sys.now (map condition_view conds.now) (inf_evidence_view evidence.now)) result }

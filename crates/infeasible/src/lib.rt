@@ -4,7 +4,7 @@
 mod by_kind;
 mod same;
 
-ghost use Rattle.std.specs.Prelude.{◌≤◌, OnOk, length, map};
+ghost use Rattle.std.specs.Prelude.{◌≤◌, ◌*◌, OnOk, length, map};
 ghost use Rattle.rewriting.specs.Infeasibility.{IsInfeasible};
 ghost use Rattle.certificates.specs.Sizes.{DoConditionsFit};
 ghost use Rattle.term_core.specs.RuleView.{condition_view};
@@ -20,7 +20,7 @@ use rule_index::IndexedSystem;
 pub use same::{copied_condition, is_same_condition};
 use std::alloc::Global;
 use tcap_infeasible::TcapEvidence;
-use term_core::{Cond, System};
+use term_core::{Cond, MAX_CONDITIONS, System};
 use tree_automata::AutoEvidence;
 
 // What a refuter answers; where that is Ok, the conditions are never met.
@@ -30,7 +30,7 @@ fn refuted<R: Refuter>(
     conds: &[Cond],
     refuter: &R,
 ) -> Result<(), Refusal>
-    requires few { length conds.now ≤ 200 }
+    requires few { length conds.now ≤ 2 * MAX_CONDITIONS }
     requires fit { DoConditionsFit (map condition_view conds.now) }
     ensures judged { RefutesAnswers (R.judged refuter.now sys.now (map condition_view conds.now)) result }
     ensures sound { OnOk result (IsInfeasible sys.now (map condition_view conds.now)) }
@@ -46,7 +46,7 @@ pub fn check_infeasible_in(
     conds: &[Cond],
     evidence: &InfEvidence,
 ) -> Result<(), Refusal>
-    requires few { length conds.now ≤ 200 }
+    requires few { length conds.now ≤ 2 * MAX_CONDITIONS }
     requires fit { DoConditionsFit (map condition_view conds.now) }
     ensures judged { RefutesAnswers (IsInfeasibilityJudged sys.now (map condition_view conds.now) (inf_evidence_view evidence.now)) result }
     ensures sound { OnOk result (IsInfeasible sys.now (map condition_view conds.now)) }
@@ -70,7 +70,7 @@ pub fn check_infeasible(
     conds: &[Cond],
     evidence: &InfEvidence,
 ) -> Result<(), Refusal>
-    requires few { length conds.now ≤ 200 }
+    requires few { length conds.now ≤ 2 * MAX_CONDITIONS }
     requires fit { DoConditionsFit (map condition_view conds.now) }
     ensures judged { RefutesAnswers (IsInfeasibilityJudged sys.now (map condition_view conds.now) (inf_evidence_view evidence.now)) result }
     ensures sound { OnOk result (IsInfeasible sys.now (map condition_view conds.now)) }

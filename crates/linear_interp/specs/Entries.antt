@@ -1,5 +1,6 @@
 -- What the functions on entries answer.
 use Rattle.std.specs.Prelude.{ℕ, zero, suc, ◌≡◌, ◌<◌, ◌≤◌, ◌⊎◌, List, length, slice_get, option_map, Option, None, Some}
+use Rattle.interpretations.specs.declared.TheConstants.{MOST_COEFFICIENT}
 use Rattle.rewriting.specs.Unraveling.{Head}
 use Rattle.certificates.specs.Certificates.{LinearEntry}
 
@@ -11,13 +12,13 @@ abbrev pub MisshapenAnswers : List Head → List ℕ → List LinearEntry → Op
 MisshapenAnswers heads arities es (Some k) = ((k < length es) ⊎ (k < length heads)) × ((j : ℕ) → j < k → IsEntryAt heads arities es j) × (IsEntryAt heads arities es k → ⊥)
 MisshapenAnswers heads arities es None = (k : ℕ) → (k < length es) ⊎ (k < length heads) → IsEntryAt heads arities es k
 
--- number k is at most 1,000,000, and at least 1 where it is the constant of a symbol with arguments or belongs to an active argument
+-- number k is small enough, and at least 1 where it is the constant of a symbol with arguments or belongs to an active argument
 abbrev pub IsActiveNumber : ℕ → ℕ → ℕ → ℕ → Type 0
 IsActiveNumber symbols f count zero = 2 ≤ count
 IsActiveNumber symbols f count (suc k) = (f < symbols) ⊎ (suc k ≡ 1)
 
 abbrev pub IsNumberGood : ℕ → ℕ → ℕ → ℕ → ℕ → Type 0
-IsNumberGood symbols f count k c = (c ≤ 1000000) × (IsActiveNumber symbols f count k → 1 ≤ c)
+IsNumberGood symbols f count k c = (c ≤ MOST_COEFFICIENT) × (IsActiveNumber symbols f count k → 1 ≤ c)
 
 abbrev pub AreGoodBelow : ℕ → ℕ → List ℕ → ℕ → Type 0
 AreGoodBelow symbols f cs n = (k c : ℕ) → k < n → slice_get cs k ≡ Some c → IsNumberGood symbols f (length cs) k c

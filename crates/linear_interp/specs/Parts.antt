@@ -1,6 +1,7 @@
 -- The constant and the coefficients of a term as one list: the constant first, then the coefficients of variables 0, 1, ..
 use Rattle.std.specs.Prelude.{ℕ, zero, suc, ◌≡◌, ◌+◌, ◌*◌, ◌^◌, ◌<◌, ◌≤◌, List, length, slice_index, Bool, true, false, Option, None, Some, Vec}
 use Rattle.std.specs.Global.{Global}
+use Rattle.interpretations.specs.declared.TheConstants.{MOST_COEFFICIENT}
 use Rattle.rewriting.specs.Terms.{Term, var, app, Terms, nil, cons, count}
 use Rattle.interpretations.specs.Linear.{Interpretation, numbers_of, number_of, constant, constant_from, coefficient, coefficient_from}
 
@@ -13,11 +14,11 @@ abbrev pub part_from : Interpretation → ℕ → ℕ → ℕ → Terms → ℕ
 part_from es zero f k ts = constant_from es f k ts
 part_from es (suc x) f k ts = coefficient_from es x f k ts
 
--- each symbol has one number more than arguments, all at most 1,000,000; each variable has its place among n parts
+-- each symbol has one number more than arguments, all small enough; each variable has its place among n parts
 abbrev mutual
   pub IsReady : Interpretation → ℕ → Term → Type 0
   IsReady es n (var x) = suc x < n
-  IsReady es n (app f ts) = (f < length es) × (length (numbers_of es f) ≡ suc (count ts)) × ((k : ℕ) → number_of es f k ≤ 1000000) × AreReady es n ts
+  IsReady es n (app f ts) = (f < length es) × (length (numbers_of es f) ≡ suc (count ts)) × ((k : ℕ) → number_of es f k ≤ MOST_COEFFICIENT) × AreReady es n ts
 
   pub AreReady : Interpretation → ℕ → Terms → Type 0
   AreReady es n nil = Unit {0}

@@ -1,5 +1,5 @@
 //! What is tried for conditions, up to the first evidence that is valid: caps, then the automata that grow from conditions.
-ghost use Rattle.std.specs.Prelude.{◌≤◌, length, map};
+ghost use Rattle.std.specs.Prelude.{◌≤◌, ◌*◌, length, map};
 ghost use Rattle.certificates.specs.Sizes.{DoConditionsFit};
 ghost use Rattle.term_core.specs.RuleView.{condition_view};
 ghost use Rattle.search_spaces.specs.Refuting.{growths, refutings, try_caps, try_growth};
@@ -10,7 +10,7 @@ use evidence_offers::valid_growth;
 use infeasible::{Refusal, check_infeasible_in};
 use rule_index::IndexedSystem;
 use std::alloc::Global;
-use term_core::{Cond, NoMemory};
+use term_core::{Cond, MAX_CONDITIONS, NoMemory};
 
 // Evidence by caps, where it is valid.
 fn by_caps(
@@ -18,7 +18,7 @@ fn by_caps(
     sys: &IndexedSystem<'_>,
     conds: &[Cond],
 ) -> Result<Option<InfEvidence>, NoMemory>
-    requires few { length conds.now ≤ 200 }
+    requires few { length conds.now ≤ 2 * MAX_CONDITIONS }
     requires fit { DoConditionsFit (map condition_view conds.now) }
     ensures { ItemAnswers sys.now (map condition_view conds.now) try_caps result }
 {
@@ -36,7 +36,7 @@ fn by_growth(
     conds: &[Cond],
     cond: u32,
 ) -> Result<Option<InfEvidence>, NoMemory>
-    requires few { length conds.now ≤ 200 }
+    requires few { length conds.now ≤ 2 * MAX_CONDITIONS }
     requires fit { DoConditionsFit (map condition_view conds.now) }
     ensures { ItemAnswers sys.now (map condition_view conds.now) (try_growth cond) result }
 {
@@ -52,7 +52,7 @@ fn try_growths(
     sys: &IndexedSystem<'_>,
     conds: &[Cond],
 ) -> Result<Option<InfEvidence>, NoMemory>
-    requires few { length conds.now ≤ 200 }
+    requires few { length conds.now ≤ 2 * MAX_CONDITIONS }
     requires fit { DoConditionsFit (map condition_view conds.now) }
     ensures { FirstAnswers sys.now (map condition_view conds.now) (growths (length conds.now)) result }
 {
@@ -71,7 +71,7 @@ pub(crate) fn first_valid(
     sys: &IndexedSystem<'_>,
     conds: &[Cond],
 ) -> Result<Option<InfEvidence>, NoMemory>
-    requires few { length conds.now ≤ 200 }
+    requires few { length conds.now ≤ 2 * MAX_CONDITIONS }
     requires fit { DoConditionsFit (map condition_view conds.now) }
     ensures { FirstAnswers sys.now (map condition_view conds.now) (refutings (length conds.now)) result }
 {

@@ -1,5 +1,6 @@
 -- What the parts of the judgement of an overlap's evidence answer.
-use Rattle.std.specs.Prelude.{◌≡◌, ◌≢◌, ◌≤◌, List, length, Option, None, Some, Result, Ok, Err}
+use Rattle.std.specs.Prelude.{◌≡◌, ◌≢◌, ◌≤◌, ◌*◌, List, length, Option, None, Some, Result, Ok, Err}
+use Rattle.rewriting.specs.declared.TheConstants.{MAX_CONDITIONS}
 use Rattle.rewriting.specs.Terms as math
 use Rattle.rewriting.specs.Prelude.{nil, cons, Fits, Condition, System}
 use Rattle.unifier_run.specs.Run.{Binding, unifier, clash, too_large, IsOutcome}
@@ -20,7 +21,7 @@ pub record IsReady (o : Overlap) : Type 0 where
   pub left : Fits o.pair.left
   pub right : Fits o.pair.right
   pub conditions : DoConditionsFit o.pair.conditions
-  pub few : length o.pair.conditions ≤ 200
+  pub few : length o.pair.conditions ≤ 2 * MAX_CONDITIONS
   pub counted : o.inner_conditions ≤ length o.pair.conditions
 
 -- two conditions have one left side, and the right sides' caps clash; or the first reason why not

@@ -7,7 +7,7 @@ ghost use Rattle.quasi_check.specs.Sides.{ConditionAnswers, SideAnswers};
 use irreducible::do_all_clash;
 use prepared_system::PreparedSystem;
 use std::alloc::Global;
-use term_core::{Cond, NoMemory};
+use term_core::{Cond, MAX_CONDITIONS, NoMemory};
 
 /// A condition of a rule; both are numbered from 1.
 #[derive(Clone, Copy)]
@@ -22,7 +22,7 @@ fn first_condition(
     sys: &PreparedSystem<'_>,
     conds: &[Cond],
 ) -> Result<Option<u32>, NoMemory>
-    requires { length conds.now ≤ 100 }
+    requires { length conds.now ≤ MAX_CONDITIONS }
     ensures { IfOk result (λ first. ConditionAnswers sys.now (map condition_view conds.now) first) }
 {
     for (k, cond) in conds.iter().enumerate() {

@@ -9,7 +9,7 @@ mod refuting;
 mod reply;
 mod values;
 
-ghost use Rattle.std.specs.Prelude.{◌≡◌, ◌≤◌, ℕ, length, map};
+ghost use Rattle.std.specs.Prelude.{◌≡◌, ◌≤◌, ◌*◌, ℕ, length, map};
 ghost use Rattle.rewriting.specs.Prelude.{sides, variables_of, CountsFrom};
 ghost use Rattle.certificates.specs.Prelude.{DoConditionsFit, AreConditionsOver};
 ghost use Rattle.term_core.specs.RuleView.{condition_view};
@@ -25,7 +25,7 @@ use cc_count::Budget;
 use query_terms::Query;
 use rule_index::IndexedSystem;
 use std::alloc::Global;
-use term_core::{Cond, NoMemory, System};
+use term_core::{Cond, MAX_CONDITIONS, NoMemory, System};
 
 // Tries all evidences, then all values.
 fn try_all(
@@ -35,7 +35,7 @@ fn try_all(
     count: u32,
     budget: &mut Budget,
 ) -> Result<Reply, NoMemory>
-    requires few { length conds.now ≤ 200 }
+    requires few { length conds.now ≤ 2 * MAX_CONDITIONS }
     requires fit { DoConditionsFit (map condition_view conds.now) }
     requires counted { count ≡ past_all_variables (sides (map condition_view conds.now)) }
     ensures { WalkAnswers sys.now (map condition_view conds.now) (items.query_items sys.now (map condition_view conds.now)) budget.old budget.new result }
@@ -57,7 +57,7 @@ pub fn answer(
     budget: &mut Budget,
 ) -> Result<Reply, NoMemory>
     requires over { AreConditionsOver sys.now.arities (map condition_view q.now.conds.items) }
-    requires few { length q.now.conds.items ≤ 200 }
+    requires few { length q.now.conds.items ≤ 2 * MAX_CONDITIONS }
     requires fit { DoConditionsFit (map condition_view q.now.conds.items) }
     requires numbered { CountsFrom 0 (variables_of (sides (map condition_view q.now.conds.items))) }
     requires named { length q.now.names.items ≡ length (variables_of (sides (map condition_view q.now.conds.items))) }

@@ -1,5 +1,5 @@
 //! Evidence that the conditions are never met, tried in order up to the first that is valid.
-ghost use Rattle.std.specs.Prelude.{◌≤◌, ◌∷◌, [], length, map};
+ghost use Rattle.std.specs.Prelude.{◌≤◌, ◌∷◌, ◌*◌, [], length, map};
 ghost use Rattle.certificates.specs.Sizes.{DoConditionsFit};
 ghost use Rattle.term_core.specs.RuleView.{condition_view};
 ghost use Rattle.search_spaces.specs.Refuting.{growths};
@@ -14,7 +14,7 @@ use evidence_offers::{Refuting, offer};
 use infeasible::{Refusal, check_infeasible_in};
 use rule_index::IndexedSystem;
 use std::alloc::Global;
-use term_core::{Cond, NoMemory};
+use term_core::{Cond, MAX_CONDITIONS, NoMemory};
 
 // The evidence that is tried, where it is valid.
 fn valid(
@@ -23,7 +23,7 @@ fn valid(
     conds: &[Cond],
     refuting: Refuting,
 ) -> Result<Option<InfEvidence>, NoMemory>
-    requires few { length conds.now ≤ 200 }
+    requires few { length conds.now ≤ 2 * MAX_CONDITIONS }
     requires fit { DoConditionsFit (map condition_view conds.now) }
     ensures { EvidenceAnswers sys.now (map condition_view conds.now) (refuting_view refuting) result }
 {
@@ -45,7 +45,7 @@ fn try_evidence(
     refuting: Refuting,
     budget: &mut Budget,
 ) -> Result<Reply, NoMemory>
-    requires few { length conds.now ≤ 200 }
+    requires few { length conds.now ≤ 2 * MAX_CONDITIONS }
     requires fit { DoConditionsFit (map condition_view conds.now) }
     ensures { WalkAnswers sys.now (map condition_view conds.now) (items.try_refuting (refuting_view refuting) ∷ []) budget.old budget.new result }
 {
@@ -65,7 +65,7 @@ fn try_growths(
     conds: &[Cond],
     budget: &mut Budget,
 ) -> Result<Reply, NoMemory>
-    requires few { length conds.now ≤ 200 }
+    requires few { length conds.now ≤ 2 * MAX_CONDITIONS }
     requires fit { DoConditionsFit (map condition_view conds.now) }
     ensures { WalkAnswers sys.now (map condition_view conds.now) (map items.try_refuting (growths (length conds.now))) budget.old budget.new result }
 {
@@ -87,7 +87,7 @@ pub(crate) fn try_evidences(
     conds: &[Cond],
     budget: &mut Budget,
 ) -> Result<Reply, NoMemory>
-    requires few { length conds.now ≤ 200 }
+    requires few { length conds.now ≤ 2 * MAX_CONDITIONS }
     requires fit { DoConditionsFit (map condition_view conds.now) }
     ensures { WalkAnswers sys.now (map condition_view conds.now) (items.evidence_items (map condition_view conds.now)) budget.old budget.new result }
 {

@@ -1,5 +1,6 @@
 -- The solutions that a `Path` stands for.
 use Rattle.std.specs.Prelude.{◌≡◌, ◌≤◌, ◌⊎◌, None, Some, List, [], length, map, take, drop}
+use Rattle.reach_lists.specs.declared.TheConstants.{MOST_LISTED}
 use Rattle.rewriting.specs.Prelude.{Term, var, app, Condition}
 use Rattle.matching.specs.Trails.{without}
 use Rattle.reach_lists.specs.Solutions as math
@@ -39,4 +40,4 @@ RootsDiffer (app f ps) (app g ts) = f ≡ g → ⊥
 
 -- the list takes no term and no condition is left, or a pattern does not match onto the start
 abbrev pub IsNothing : List math.Reached → List Condition → Term → Term → Type 0
-IsNothing l later pattern start = ((2000 ≤ length l) × (later ≡ [])) ⊎ RootsDiffer pattern start
+IsNothing l later pattern start = ((MOST_LISTED ≤ length l) × (later ≡ [])) ⊎ RootsDiffer pattern start

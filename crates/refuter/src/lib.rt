@@ -1,7 +1,7 @@
 //! Evidence that conditions are never met.
 #![tactic(auto)]
 
-ghost use Rattle.std.specs.Prelude.{◌≡◌, ◌≤◌, Option, None, List, length, map};
+ghost use Rattle.std.specs.Prelude.{◌≡◌, ◌≤◌, ◌*◌, Option, None, List, length, map};
 ghost use Rattle.rewriting.specs.Rules as math;
 ghost use Rattle.rewriting.specs.Prelude.{IsWellFormed, IsInfeasible};
 ghost use Rattle.certificates.specs.Reasons as reasons;
@@ -12,7 +12,7 @@ ghost use Rattle.refuter.specs.Answers.{RefutesAnswers};
 use cert_model::EvidenceReason;
 use rule_index::IndexedSystem;
 use std::alloc::Global;
-use term_core::{Cond, NoMemory, System};
+use term_core::{Cond, MAX_CONDITIONS, NoMemory, System};
 
 /// Why evidence does not show that conditions are never met.
 #[derive(Debug, Drop)]
@@ -39,13 +39,13 @@ pub trait Refuter {
 
     /// Judges the evidence for conditions of a system that has its index.
     fn refutes_in(&self, alloc: Global, sys: &IndexedSystem, conds: &[Cond]) -> Result<(), Refusal>
-        requires few { length conds.now ≤ 200 }
+        requires few { length conds.now ≤ 2 * MAX_CONDITIONS }
         requires fit { DoConditionsFit (map condition_view conds.now) }
         ensures { RefutesAnswers (judged self.now sys.now (map condition_view conds.now)) result };
 
     /// The same for any system, with an index made for this one question.
     fn refutes(&self, alloc: Global, sys: &System, conds: &[Cond]) -> Result<(), Refusal>
-        requires few { length conds.now ≤ 200 }
+        requires few { length conds.now ≤ 2 * MAX_CONDITIONS }
         requires fit { DoConditionsFit (map condition_view conds.now) }
         ensures { RefutesAnswers (judged self.now sys.now (map condition_view conds.now)) result }
     {

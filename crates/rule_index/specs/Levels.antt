@@ -1,6 +1,7 @@
 -- Where a walk stands: at each level the number of an argument, and those behind it.
 use Rattle.std.specs.Prelude.{ℕ, suc, ◌≡◌, ◌+◌, ◌≤◌, List, [], ◌∷◌, ◌++◌, map, Option, None, Some}
 use Rattle.std.specs.Borrow.{Bor}
+use Rattle.rewriting.specs.declared.TheConstants.{MAX_NODES}
 use Rattle.rewriting.specs.Prelude.{Term, Terms, var, app, nil, cons, size, size_all, Position}
 use Rattle.term_core.specs.View.{view, views}
 use Rattle.term_core.specs.declared.terms.Term as program
@@ -32,7 +33,7 @@ abbrev pub AreLevels : List ℕ → List Terms → Type 0
 AreLevels [] [] = Unit {0}
 AreLevels [] (ts ∷ tss) = ⊥
 AreLevels (n ∷ ns) [] = ⊥
-AreLevels (n ∷ ns) (ts ∷ tss) = (n + size_all ts ≤ 10000) × AreLevels ns tss
+AreLevels (n ∷ ns) (ts ∷ tss) = (n + size_all ts ≤ MAX_NODES) × AreLevels ns tss
 
 -- the arguments that references point to
 abbrev pub levels_of : List (Bor (List program.Term)) → List Terms
@@ -46,4 +47,4 @@ AreArgumentsOf (Some t) args = views args ≡ arguments (view t.now)
 -- an argument at a position, with whose parts the parts to come begin, or none where none is to come
 abbrev pub Leads : List Part → Option (Bor program.Term) → Position → List Part → Type 0
 Leads before None p after = (before ≡ []) × (after ≡ [])
-Leads before (Some t) p after = (size (view t.now) ≤ 10000) × (before ≡ parts_in p (view t.now) ++ after)
+Leads before (Some t) p after = (size (view t.now) ≤ MAX_NODES) × (before ≡ parts_in p (view t.now) ++ after)

@@ -1,5 +1,5 @@
 //! What each kind of evidence fails by, where none settles an overlap.
-ghost use Rattle.std.specs.Prelude.{◌≤◌, length, map};
+ghost use Rattle.std.specs.Prelude.{◌≤◌, ◌*◌, length, map};
 ghost use Rattle.certificates.specs.Sizes.{DoConditionsFit};
 ghost use Rattle.term_core.specs.RuleView.{condition_view};
 ghost use Rattle.unifier_run.specs.Overlaps.{IsOverlapOf};
@@ -12,7 +12,7 @@ use critical_pairs::Overlap;
 use evidence_offers::{Refuting, offer};
 use lens_pages::{Naming, Page, Piece};
 use reach::Entry;
-use term_core::{Cond, System, Term, equal};
+use term_core::{Cond, MAX_CONDITIONS, System, Term, equal};
 
 // The terms of a list that are written.
 const FEW_TERMS: usize = 6;
@@ -35,7 +35,7 @@ fn growth_words(page: &mut Page<'_>, sys: &System, conds: &[Cond], cond: u32) ->
 
 fn put_growths(page: &mut Page<'_>, sys: &System, conds: &[Cond])
     requires fit { DoConditionsFit (map condition_view conds.now) }
-    requires few { length conds.now ≤ 200 }
+    requires few { length conds.now ≤ 2 * MAX_CONDITIONS }
 {
     let count = conds.len() as u32;
     'conds: for before in 0..count {

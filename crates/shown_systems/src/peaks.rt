@@ -1,5 +1,5 @@
 //! The search for a peak, with how many starts, terms and pairs of terms it has.
-ghost use Rattle.std.specs.Prelude.{◌≤◌, length, map};
+ghost use Rattle.std.specs.Prelude.{◌≤◌, ◌*◌, length, map};
 ghost use Rattle.certificates.specs.Sizes.{DoConditionsFit};
 ghost use Rattle.term_core.specs.RuleView.{condition_view};
 ghost use Rattle.search_answers.specs.Given.{IsOverlapList};
@@ -13,7 +13,7 @@ use prepared_system::PreparedSystem;
 use reach::{Entry, ReachStop, reach_in};
 use rule_index::IndexedSystem;
 use search_spaces::{COND_DEPTH, STEPS};
-use term_core::{Cond, NoMemory, Term, fits};
+use term_core::{Cond, MAX_CONDITIONS, NoMemory, Term, fits};
 use validity::Search;
 
 /// How many starts there are, how many terms are listed for them, how many pairs these make, and for how many starts there are any.
@@ -43,7 +43,7 @@ pub fn listed(
     budget: &mut Budget,
 ) -> Option<Vec<Entry>>
     requires fit { DoConditionsFit (map condition_view hypotheses.now) }
-    requires few { length hypotheses.now ≤ 200 }
+    requires few { length hypotheses.now ≤ 2 * MAX_CONDITIONS }
 {
     if !fits(start) {
         return None;

@@ -7,7 +7,7 @@ ghost use Rattle.simplify.specs.Inlining.{CondsAnswers, InlinedAnswers};
 
 use crate::numbering::numbered;
 use std::alloc::Global;
-use term_core::{Cond, Rule, Subst, TermError, try_clone};
+use term_core::{Cond, MAX_CONDITIONS, Rule, Subst, TermError, try_clone};
 
 // Appends some conditions with the instances of their left sides, if these fit.
 fn push_instances(
@@ -35,7 +35,7 @@ fn push_instances(
 pub fn inline(alloc: Global, rule: &Rule, place: usize, x: u32) -> Result<Rule, TermError>
     requires place { place < length rule.now.conds.items }
     requires fits { Each math.Fits (terms_of_rule (rule_view rule.now)) }
-    requires few { length rule.now.conds.items ≤ 100 }
+    requires few { length rule.now.conds.items ≤ MAX_CONDITIONS }
     ensures { InlinedAnswers (rule_view rule.now) place x result }
 {
     let cond = &rule.conds[place];

@@ -15,7 +15,7 @@ use evidence_offers::{Refuting, valid_growth};
 use rule_index::IndexedSystem;
 use simplify::{Change, StepError, drop_rule, inline_condition};
 use std::alloc::Global;
-use term_core::{NoMemory, Rule};
+use term_core::{MAX_CONDITIONS, NoMemory, Rule};
 
 /// A good step, and what it changes.
 #[derive(Debug, Drop)]
@@ -111,7 +111,7 @@ pub fn tried(
     place: u32,
 ) -> Result<Option<Made>, NoMemory>
     requires rule { rule_at sys.now number ≡ Some (rule_view rule.now) }
-    requires few { length rule.now.conds.items ≤ 100 }
+    requires few { length rule.now.conds.items ≤ MAX_CONDITIONS }
     ensures { (t : math.Try) → slice_get (tries_of number (map condition_view rule.now.conds.items)) place ≡ Some t → TryAnswers sys.now t result }
 {
     let count = rule.conds.len() as u32;

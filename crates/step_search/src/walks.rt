@@ -10,7 +10,7 @@ use crate::tries::{Made, tried};
 use cc_count::{Budget, Sought};
 use rule_index::IndexedSystem;
 use std::alloc::Global;
-use term_core::{NoMemory, Rule, System};
+use term_core::{MAX_CONDITIONS, NoMemory, Rule, System};
 
 // One try of a rule, for a unit.
 fn walk_one(
@@ -22,7 +22,7 @@ fn walk_one(
     budget: &mut Budget,
 ) -> Result<Sought<Made>, NoMemory>
     requires rule { rule_at sys.now number ≡ Some (rule_view rule.now) }
-    requires few { length rule.now.conds.items ≤ 100 }
+    requires few { length rule.now.conds.items ≤ MAX_CONDITIONS }
     ensures { (t : math.Try) → slice_get (tries_of number (map condition_view rule.now.conds.items)) place ≡ Some t → WalkAnswers sys.now (t ∷ []) budget.old budget.new result }
 {
     if !budget.take() {

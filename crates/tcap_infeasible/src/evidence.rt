@@ -1,5 +1,5 @@
 //! Evidence that conditions are never met: the caps of their left sides do not unify with their right sides.
-ghost use Rattle.std.specs.Prelude.{◌≤◌, IfOk, length, map};
+ghost use Rattle.std.specs.Prelude.{◌≤◌, ◌*◌, IfOk, length, map};
 ghost use Rattle.rewriting.specs.Rules.{right_sides};
 ghost use Rattle.caps.specs.Evidence.{JudgedByCaps};
 ghost use Rattle.certificates.specs.Sizes.{DoConditionsFit};
@@ -13,7 +13,7 @@ use refuter::{Refusal, Refuter};
 use renumbering::Numbering;
 use rule_index::IndexedSystem;
 use std::alloc::Global;
-use term_core::{Cond, NoMemory, Term};
+use term_core::{Cond, MAX_CONDITIONS, NoMemory, Term};
 use unification::{Unified, unify};
 
 // The caps of the left sides, whose holes are numbered one after the other.
@@ -22,7 +22,7 @@ fn left_caps(
     sys: &IndexedSystem,
     conds: &[Cond],
 ) -> Result<Option<Vec<Term>>, NoMemory>
-    requires few { length conds.now ≤ 200 }
+    requires few { length conds.now ≤ 2 * MAX_CONDITIONS }
     requires fit { DoConditionsFit (map condition_view conds.now) }
     ensures { LeftsAnswer sys.now (map condition_view conds.now) result }
 {
@@ -39,7 +39,7 @@ fn left_caps(
 
 // The right sides with numbers in place of their variables.
 fn numbered_rights(alloc: Global, conds: &[Cond]) -> Result<Vec<Term>, NoMemory>
-    requires few { length conds.now ≤ 200 }
+    requires few { length conds.now ≤ 2 * MAX_CONDITIONS }
     requires fit { DoConditionsFit (map condition_view conds.now) }
     ensures { IfOk result (λ us. HaveRow (right_sides (map condition_view conds.now)) (views us.items)) }
 {

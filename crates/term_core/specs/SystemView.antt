@@ -1,5 +1,6 @@
 -- The system that a `System` stands for, and what `make` answers.
 use Rattle.std.specs.Prelude.{◌≡◌, ◌+◌, ◌≤◌, ℕ, map, List, [], ◌∷◌, ◌++◌, length, Result, Ok, Err}
+use Rattle.rewriting.specs.declared.TheConstants.{MAX_CONDITIONS}
 use Rattle.rewriting.specs.Prelude.{IsVariable, Fits, Signature, IsOver, Each, terms_of_rule, rule_variables, IsRule, IsSystem}
 pub use Rattle.rewriting.specs.Signatures.{HasSymbolsBelow, HaveSymbolsBelow}
 use Rattle.rewriting.specs.Rules as math
@@ -21,9 +22,9 @@ AreSymbolsKnown arities r = Each (HasSymbolsBelow (length arities)) (terms_of_ru
 abbrev pub AreTermsOver : Signature → math.Rule → Type 0
 AreTermsOver arities r = Each (IsOver arities) (terms_of_rule r)
 
--- at most 100 conditions, and every term fits
+-- few enough conditions, and every term fits
 pub record IsSmall (r : math.Rule) : Type 0 where
-  pub few_conditions : length r.conditions ≤ 100
+  pub few_conditions : length r.conditions ≤ MAX_CONDITIONS
   pub fits : Each Fits (terms_of_rule r)
 
 -- a rule as a system has it, with the number of its variables

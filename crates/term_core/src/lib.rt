@@ -15,7 +15,7 @@ pub use soundness::{has_symbols_below, is_over};
 pub use subst::Subst;
 pub use systems::{Cond, Head, Rule, System, SystemFault, is_same_head};
 pub use terms::{
-    MAX_DEPTH, MAX_NODES, NoMemory, Term, TermError, depth, equal, fits, room_after, size,
-    try_clone,
+    MAX_CONDITIONS, MAX_DEPTH, MAX_NODES, NoMemory, Term, TermError, depth, equal, fits,
+    room_after, size, try_clone,
 };
 pub use variables::{has_variables_below, is_linear, occurs, occurs_in_right_sides, vars};

@@ -7,7 +7,7 @@ ghost use Rattle.term_core.specs.Numbering.{numbers_from, AreFirst, IsNumbered};
 ghost use Rattle.term_core.specs.SystemView.{HasSymbolsBelow, AreSymbolsKnown, AreTermsOver, IsSmall, FaultAnswers, FirstFaultAnswers};
 
 use crate::systems::{Cond, Rule, SystemFault};
-use crate::terms::{Term, fits};
+use crate::terms::{MAX_CONDITIONS, Term, fits};
 
 fn is_variable(t: &Term) -> bool
     ensures { IsTrue result ↔ IsVariable (view t.now) }
@@ -188,7 +188,10 @@ fn all_fit(conds: &[Cond]) -> bool
 fn is_small(rule: &Rule) -> bool
     ensures { IsTrue result ↔ IsSmall (rule_view rule.now) }
 {
-    rule.conds.len() <= 100 && fits(&rule.left) && fits(&rule.right) && all_fit(&rule.conds)
+    rule.conds.len() <= MAX_CONDITIONS
+        && fits(&rule.left)
+        && fits(&rule.right)
+        && all_fit(&rule.conds)
 }
 
 // The first fault of a rule with a number.

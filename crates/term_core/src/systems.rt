@@ -37,7 +37,7 @@ pub enum SystemFault {
     LeftVariable { rule: u32 },
     /// The variables are not 0, 1, .. by first occurrence, or `vars` is not their number, or not below 2^31.
     BadVariables { rule: u32 },
-    /// There are more than 100 conditions, or a term does not fit.
+    /// There are more than `MAX_CONDITIONS`, or a term does not fit.
     TooLarge { rule: u32 },
 }
 

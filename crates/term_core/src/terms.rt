@@ -3,7 +3,7 @@ ghost use Rattle.std.specs.Prelude.{◌≡◌, ◌≤◌, ◌<◌, ◌+◌, ◌�
 ghost use Rattle.rewriting.specs.Terms as math;
 ghost use Rattle.term_core.specs.View.{view};
 
-pub use rewriting::{MAX_DEPTH, MAX_NODES};
+pub use rewriting::{MAX_CONDITIONS, MAX_DEPTH, MAX_NODES};
 use std::alloc::{AllocError, AllocFailed, Global};
 
 /// A term: a variable, or a symbol with its arguments, both by number.

@@ -9,13 +9,13 @@ use std::alloc::AllocError;
 // How many bytes of a line are shown.
 const MOST_SHOWN: usize = 120;
 
-// The first byte of a line that is shown; up to 120 bytes are.
+// The first byte of a line that is shown.
 fn shown_from(place: &Place, at: usize) -> usize
     requires start { place.now.start ≤ at }
     requires end { at ≤ place.now.end }
     ensures start { place.now.start ≤ result }
     ensures before { result ≤ at }
-    ensures behind { at ≤ result + 120 }
+    ensures behind { at ≤ result + MOST_SHOWN }
 {
     if place.end - place.start <= MOST_SHOWN {
         return place.start;

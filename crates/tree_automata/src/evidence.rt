@@ -1,5 +1,5 @@
 //! Evidence that a condition is never met: an automaton, closed under the rules, that accepts its left side and excludes its right side.
-ghost use Rattle.std.specs.Prelude.{◌≡◌, ◌≤◌, None, IsTrue, length, map};
+ghost use Rattle.std.specs.Prelude.{◌≡◌, ◌≤◌, ◌*◌, None, IsTrue, length, map};
 ghost use Rattle.rewriting.specs.Terms as math;
 ghost use Rattle.certificates.specs.Sizes.{DoConditionsFit};
 ghost use Rattle.automata.specs.Evidence.{IsClosureJudged, IsConditionJudged, JudgedByAutomaton};
@@ -16,7 +16,7 @@ use cert_model::{Automaton, EvidenceReason, condition};
 use refuter::{Refusal, Refuter};
 use rule_index::IndexedSystem;
 use std::alloc::Global;
-use term_core::{Cond, System};
+use term_core::{Cond, MAX_CONDITIONS, System};
 
 /// Evidence that conditions are never met: an automaton for the condition with a number, from 1.
 #[derive(Clone, Copy, Debug)]
@@ -75,7 +75,7 @@ fn judge(
     evidence: &AutoEvidence<'_>,
     is_closed: bool,
 ) -> Result<(), Refusal>
-    requires few { length conds.now ≤ 200 }
+    requires few { length conds.now ≤ 2 * MAX_CONDITIONS }
     requires fit { DoConditionsFit (map condition_view conds.now) }
     requires closed { IsTrue is_closed → IsClosureJudged sys.now (automaton_view evidence.now.automaton.now) None }
     ensures { RefutesAnswers (JudgedByAutomaton sys.now (map condition_view conds.now) evidence.now.cond (automaton_view evidence.now.automaton.now)) result }
@@ -89,7 +89,7 @@ fn judge(
 impl AutoEvidence<'_> {
     /// Judges the evidence for conditions of a system, where its automaton is known to be closed: that is not judged again.
     pub fn refutes_closed(&self, alloc: Global, sys: &System, conds: &[Cond]) -> Result<(), Refusal>
-        requires few { length conds.now ≤ 200 }
+        requires few { length conds.now ≤ 2 * MAX_CONDITIONS }
         requires fit { DoConditionsFit (map condition_view conds.now) }
         requires closed { IsClosureJudged sys.now (automaton_view self.now.automaton.now) None }
         ensures { RefutesAnswers (JudgedByAutomaton sys.now (map condition_view conds.now) self.now.cond (automaton_view self.now.automaton.now)) result }

@@ -1,6 +1,7 @@
 -- What the functions that add rules answer.
 use Rattle.std.specs.Prelude.{ℕ, zero, suc, length, ◌≤◌, Vec, ◌≡◌, List, [], ◌∷◌, ◌++◌, map, take, ◌+◌, slice_get, Some, Result, Ok, Err}
 use Rattle.std.specs.Global.{Global}
+use Rattle.rewriting.specs.declared.TheConstants.{MAX_CONDITIONS}
 use Rattle.rewriting.specs.Terms as math
 use Rattle.rewriting.specs.Rules as rules
 use Rattle.rewriting.specs.Prelude.{Head, file, auxiliary, numbered_anew, unraveled_rule, unraveled_rules, Each, terms_of_rule, condition_count, DoSidesFit}
@@ -54,10 +55,10 @@ RulesAnswers f rs (Ok v) = (map rule_view v.items ≡ unraveled_rules f rs) × D
 RulesAnswers f rs (Err (TooLarge number)) = IsLargeAt f rs number
 RulesAnswers f rs (Err NoMemory) = Unit {0}
 
--- at most 100 conditions and terms that fit, in each rule
+-- few enough conditions and terms that fit, in each rule
 abbrev pub AreRulesSmall : List rules.Rule → Type 0
 AreRulesSmall [] = Unit {0}
-AreRulesSmall (r ∷ rs) = Each math.Fits (terms_of_rule r) × (length r.conditions ≤ 100) × AreRulesSmall rs
+AreRulesSmall (r ∷ rs) = Each math.Fits (terms_of_rule r) × (length r.conditions ≤ MAX_CONDITIONS) × AreRulesSmall rs
 
 -- the first symbols of the conditional system, and those for the first conditions of a rule
 abbrev pub first_heads : ℕ → List Head

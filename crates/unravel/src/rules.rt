@@ -1,5 +1,5 @@
 //! The rules of an unraveled system: for a rule with n conditions n + 1 rules, chained by its auxiliary symbols.
-ghost use Rattle.std.specs.Prelude.{◌≡◌, ◌<◌, ◌≤◌, ◌+◌, ◌^◌, [], IfOk, OnOk, map, length};
+ghost use Rattle.std.specs.Prelude.{◌≡◌, ◌<◌, ◌≤◌, ◌+◌, ◌^◌, ◌*◌, [], IfOk, OnOk, map, length};
 ghost use Rattle.rewriting.specs.Terms as math;
 ghost use Rattle.rewriting.specs.Prelude.{with_variables, sides, Each, terms_of_rule, rule_variables, condition_count, IsSystem, unraveled, unraveled_from, unraveled_rule};
 ghost use Rattle.term_core.specs.Prelude.{view, condition_view, rule_view, AreCounted};
@@ -9,7 +9,7 @@ ghost use Rattle.unravel.specs.RuleAnswers.{NumberedAnswers, PushAnswers, Append
 use crate::UnravelError;
 use crate::sides::{Side, add_variables};
 use std::alloc::{AllocError, AllocFailed, Global};
-use term_core::{Cond, NoMemory, Rule, System, Term, vars};
+use term_core::{Cond, MAX_NODES, NoMemory, Rule, System, Term, vars};
 
 /// Why rules cannot be added.
 #[derive(Clone, Copy, Debug)]
@@ -35,7 +35,7 @@ fn variables(alloc: Global, left: &Side, right: &Side) -> Result<Vec<u32>, NoMem
     requires left { math.Fits (side_view left.now) }
     requires right { math.Fits (side_view right.now) }
     ensures variables { IfOk result (λ v. v.items ≡ with_variables (with_variables [] (side_view left.now)) (side_view right.now)) }
-    ensures few { IfOk result (λ v. length v.items ≤ 20000) }
+    ensures few { IfOk result (λ v. length v.items ≤ 2 * MAX_NODES) }
 {
     let mut order = Vec::new(alloc);
     left.add_variables(&mut order)?;
@@ -82,7 +82,7 @@ fn push(alloc: Global, left: &Side, right: &Side, out: &mut Vec<Rule>) -> Result
 pub fn grown(alloc: Global, known: &[u32], t: &Term) -> Result<Vec<u32>, NoMemory>
     requires { math.Fits (view t.now) }
     ensures variables { IfOk result (λ v. v.items ≡ with_variables known.now (view t.now)) }
-    ensures few { IfOk result (λ v. length v.items ≤ length known.now + 10000) }
+    ensures few { IfOk result (λ v. length v.items ≤ length known.now + MAX_NODES) }
 {
     let mut grown = known.to_vec(alloc)?;
     add_variables(t, &mut grown)?;

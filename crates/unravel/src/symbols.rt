@@ -7,7 +7,7 @@ ghost use Rattle.unravel.specs.RuleAnswers.{AreRulesSmall, first_heads, rule_hea
 
 use crate::rules::grown;
 use std::alloc::Global;
-use term_core::{Cond, Head, NoMemory, Rule, System};
+use term_core::{Cond, Head, MAX_CONDITIONS, MAX_NODES, NoMemory, Rule, System};
 
 // Adds the arities of the symbols for the conditions that are left; the known variables are those before the next.
 fn push_from(
@@ -17,7 +17,7 @@ fn push_from(
     out: &mut Vec<u32>,
 ) -> Result<(), NoMemory>
     requires conds { Each math.Fits (sides (map condition_view conds.now)) }
-    requires few { length known.now + 10000 * length conds.now < 2 ^ 31 }
+    requires few { length known.now + MAX_NODES * length conds.now < 2 ^ 31 }
     ensures { OnOk result (out.new.items ≡ out.old.items ++ keeper_arities known.now (map condition_view conds.now)) }
 {
     match conds {
@@ -33,7 +33,7 @@ fn push_from(
 // Adds the arities of the symbols for a rule's conditions.
 fn push_arities(alloc: Global, rule: &Rule, out: &mut Vec<u32>) -> Result<(), NoMemory>
     requires fits { Each math.Fits (terms_of_rule (rule_view rule.now)) }
-    requires few { length rule.now.conds.items ≤ 100 }
+    requires few { length rule.now.conds.items ≤ MAX_CONDITIONS }
     ensures { OnOk result (out.new.items ≡ out.old.items ++ keeper_arities (variables (view rule.now.left)) (map condition_view rule.now.conds.items)) }
 {
     let known = grown(alloc, &[], &rule.left)?;
