@@ -1,6 +1,6 @@
 -- The limits on states and choices, rule by rule.
 use Rattle.std.specs.Prelude.{ℕ, suc, ◌≡◌, ◌<◌, ◌≤◌, ◌^◌, List, length, slice_get, Option, None, Some, Result, Ok, Err}
-use Rattle.automata.specs.declared.TheConstants.{MOST_GROWTH_CHOICES}
+use Rattle.automata.specs.declared.TheConstants.{MOST_GROWTH_CHOICES, MOST_GROWN_STATES}
 use Rattle.rewriting.specs.Prelude.{Term, Rule, System, variable_occurrences}
 use Rattle.automata.specs.Growth.{proper_before, state_count, AreStatesMany}
 use Rattle.automaton_grow.specs.declared.GrowError.{GrowError}
@@ -10,14 +10,14 @@ use Rattle.automaton_grow.specs.declared.GrowError.TheVariants.{TooWide, TooMany
 abbrev pub all_proper : List Rule → ℕ
 all_proper rs = proper_before (length rs) rs
 
--- the count, where it is at most 64
+-- the count, where it is not too great
 abbrev pub CountAnswers : ℕ → Option ℕ → Type 0
-CountAnswers n (Some count) = (count ≡ n) × (count ≤ 64)
-CountAnswers n None = 64 < n
+CountAnswers n (Some count) = (count ≡ n) × (count ≤ MOST_GROWN_STATES)
+CountAnswers n None = MOST_GROWN_STATES < n
 
 -- the number of states, where there are not too many
 abbrev pub StatesAnswer : System → Term → Option ℕ → Type 0
-StatesAnswer sys s (Some count) = (count ≡ state_count sys s) × (count ≤ 64)
+StatesAnswer sys s (Some count) = (count ≡ state_count sys s) × (count ≤ MOST_GROWN_STATES)
 StatesAnswer sys s None = AreStatesMany sys s
 
 -- there are too many choices of so many states for the term

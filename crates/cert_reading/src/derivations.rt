@@ -1,6 +1,6 @@
 //! Derivations: lists of steps, in which others are nested.
 
-ghost use Rattle.std.specs.Prelude.{◌≡◌, ◌≤◌, ◌++◌, ℕ, suc, [], ◌∷◌, None, map, codes};
+ghost use Rattle.std.specs.Prelude.{◌≡◌, ◌≤◌, ◌++◌, ℕ, suc, [], ◌∷◌, ◌+◌, None, map, codes};
 ghost use Rattle.cert_reading.specs.Prelude.{NameTable, largest, in_range, fixed, word, Reads};
 ghost use Rattle.certificates.specs.Prelude.{derivations_of, derivation_count, step_count};
 ghost use Rattle.cert_model.specs.DerivationView.{derivation_view, step_view};
@@ -15,7 +15,7 @@ use std::alloc::Global;
 /// A derivation in this nesting.
 #[cycle(derivation)]
 pub fn derivation(alloc: Global, end: usize, at: &mut Reading, level: u32) -> Derivation
-    requires { level ≤ 51 }
+    requires { level ≤ MOST_NESTING + 1 }
     ensures { (names : NameTable) (more : ℕ) → Reads names end (spec.derivations_left level more ∷ []) (λ u. marks.steps_mark level (step_count (derivation_view result)) ++ marks.steps_marks level (derivation_view result)) (spec.derivations level more) at.old at.new }
 {
     nested(end, at, b"steps", level);
@@ -80,7 +80,7 @@ fn derivations(
     level: u32,
     count: u32,
 ) -> Vec<Derivation>
-    requires { level ≤ 51 }
+    requires { level ≤ MOST_NESTING + 1 }
     ensures read { (names : NameTable) → Reads names end (spec.derivations level count) (λ u. marks.derivations_marks level (derivations_of (map derivation_view result.items))) [] at.old at.new }
     ensures counted { at.new.refused ≡ None → derivation_count (derivations_of (map derivation_view result.items)) ≡ count }
 {

@@ -12,12 +12,12 @@ use matching::{Match, match_term};
 use redex_conditions::conditions_at;
 use term_core::{Cond, MAX_NODES, Rule, Subst, Term, subterm};
 
-// A number above those of all variables, or 10,000 where these are larger.
+// A number above those of all variables, or `MAX_NODES` where these are larger.
 fn above(t: &Term) -> u32
     ensures { result ≤ MAX_NODES }
 {
     match t {
-        Term::Var(x) => x.saturating_add(1).min(10_000),
+        Term::Var(x) => x.saturating_add(1).min(MAX_NODES),
         Term::Fun(_, args) => {
             let mut most = 0;
             for arg in args {

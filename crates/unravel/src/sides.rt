@@ -78,10 +78,8 @@ fn kept_fits(term: &Term, known: &[u32]) -> bool
     requires { math.Fits (view term.now) }
     ensures { IsTrue result ↔ ((math.size (view term.now) + length known.now < MAX_NODES) × (math.depth (view term.now) < MAX_DEPTH)) }
 {
-    if known.len() >= 10_000 {
-        return false;
-    }
-    size(term) as usize + known.len() < 10_000 && depth(term) < 400
+    let most = MAX_NODES as usize;
+    known.len() < most && size(term) as usize + known.len() < most && depth(term) < MAX_DEPTH
 }
 
 // The term with each variable as its place in the list.
