@@ -158,6 +158,7 @@ impl Shelf for MemoryShelf {
         ensures exactly { IsErr result ↔ (Contains (shelf_fails self.old) (shelf_calls self.new) ⊎ (shelf_contents self.old name.now ≡ None)) }
         ensures count { (name : List ℕ) → shelf_faults self.new name ≡ (if is_ok result then shelf_faults self.old name else raised (shelf_faults self.old name) 1) }
     {
+        // What was given is bounded by its type.
         let _given = self.given;
         self.at = 0;
         self.begun = None;
@@ -194,7 +195,6 @@ impl Shelf for MemoryShelf {
         ensures exactly { 0 < length buf.old → IsSome (shelf_begun self.old) → (IsErr result ↔ Contains (shelf_fails self.old) (shelf_calls self.new)) }
         ensures count { (name : List ℕ) → shelf_faults self.new name ≡ (if is_ok result then shelf_faults self.old name else raised (shelf_faults self.old name) 1) }
     {
-        let _given = self.given;
         self.reads = self.reads.next();
         let Some(place) = self.begun else {
             return Ok(0);

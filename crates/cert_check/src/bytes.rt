@@ -155,8 +155,7 @@ fn judge_simplified(
     ensures yes { OnYes result (IsConfluent sys.now) }
     ensures no { OnNo result ((names : NameTable) (bytes : List ℕ) → IsOpenedFor sys.now names bytes (Some (map simp_view steps.now)) (opened_view body.entry) → (c : math.Certificate) × IsCertificateText names bytes c × IsPeakApart sys.now c) }
 {
-    // That the system is one as files give it is known of its rules.
-    let _rules = sys.rules();
+    sys.rules_are_sound();
     match system_behind(alloc, sys, steps) {
         Ok(last) => of_body(judge_opened(alloc, &last, body)),
         Err(CheckError::Rejected(reason)) => {

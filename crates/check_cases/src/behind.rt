@@ -57,8 +57,7 @@ fn judged(
     requires named { sys.now.arities ≡ map (λ s. s.1) names.now.symbols }
     requires spelt { IsWithin names.now (certificate_view body) }
 {
-    // That the system is one as files give it is known of its rules.
-    let _rules = sys.rules();
+    sys.rules_are_sound();
     let (outer, inner) = steps;
     let within = simplified(alloc, inner, body)?;
     let cert = simplified(alloc, outer, within)?;

@@ -37,8 +37,8 @@ fn two_steps(alloc: Global, other: u32) -> Result<Vec<Rule>, NoMemory>
 pub fn with_foreign_rules(alloc: Global, sys: &System) -> Result<System, JoinError>
     ensures { IfOk result (λ s. s.arities ≡ sys.now.arities) }
 {
-    // How many symbols a system may have is known of its rules.
-    let _rules = sys.rules();
+    // The law tells how many symbols a system may have.
+    sys.rules_are_sound();
     let last = sys.arities().len().saturating_sub(1) as u32;
     let rules = two_steps(alloc, last)?;
     sys.with_rules(alloc, rules)

@@ -85,8 +85,7 @@ fn outcome_within(
     valid_certificates_are_confluent();
     valid_measured_systems_are_confluent();
     valid_peaks_reach_apart();
-    // That the system is one as files give it is known of its rules.
-    let _rules = sys.rules();
+    sys.rules_are_sound();
     let mut budget = Budget::new(units);
     prove(alloc, sys, names, &mut budget)
 }

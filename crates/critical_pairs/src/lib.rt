@@ -143,8 +143,7 @@ pub fn overlaps_with(
     requires { AreKnown earlier.now sys.now origins.now (map overlap_view known.items) }
     ensures { OverlapsAnswers sys.now result }
 {
-    // That the rules are those of a system is known of a prepared one.
-    let _rules = sys.rules();
+    sys.rules_are_sound();
     let mut kept = Kept::new(alloc, earlier, origins, known)?;
     let mut cursor = Cursor::new(alloc);
     let mut all = Vec::new(alloc);

@@ -84,8 +84,7 @@ impl<'a> OverlapSearch<'a> {
     pub fn new(alloc: Global, sys: &'a PreparedSystem<'a>) -> OverlapSearch<'a>
         ensures { result ≡ search_of sys.now }
     {
-        // That the rules are those of a system is known of a prepared one.
-        let _rules = sys.rules();
+        sys.rules_are_sound();
         OverlapSearch {
             sys,
             cursor: Cursor::new(alloc),

@@ -158,8 +158,8 @@ pub fn replay(
     ensures judged { ReplayAnswers sys.now (map condition_view hyps.now) (view start.now) (derivation_view d.now) result }
     ensures sound { IfOk result (λ end. IsSound sys.now (map condition_view hyps.now) (view start.now) (view end)) }
 {
-    // That the rules are over the system's symbols, on which soundness rests, is known of what this hands out.
-    let _rules = sys.rules();
+    // The law tells that the rules are over the system's symbols, on which soundness rests.
+    sys.rules_are_sound();
     let term = try_clone(alloc, start)?;
     let nodes = size(&term);
     let end = run(alloc, &d.steps, sys, hyps, Counted { term, nodes })?;

@@ -68,6 +68,7 @@ impl<'a, R: Files> Shelf for DiskShelf<'a, R> {
     ghost none_unread = { λ s. Prim.search rules };
 
     fn begin(&mut self, name: &str) -> Result<(), Failed> {
+        // What was given is bounded by its type.
         let _given = self.given;
         self.begun = None;
         self.file = None;
@@ -83,6 +84,7 @@ impl<'a, R: Files> Shelf for DiskShelf<'a, R> {
     }
 
     fn read(&mut self, buf: &mut [u8]) -> Result<usize, Failed> {
+        // What was given is bounded by its type.
         let _given = self.given;
         self.reads = self.reads.next();
         if buf.is_empty() {

@@ -35,7 +35,7 @@ fn refuted<R: Refuter>(
     ensures judged { RefutesAnswers (R.judged refuter.now sys.now (map condition_view conds.now)) result }
     ensures sound { OnOk result (IsInfeasible sys.now (map condition_view conds.now)) }
 {
-    let _rules = sys.rules();
+    sys.rules_are_sound();
     refuter.refutes_in(alloc, sys, conds)
 }
 

@@ -94,6 +94,6 @@ pub fn check_peak(alloc: Global, sys: &System, peak: &Peak) -> Result<(), CheckE
     ensures sound { OnOk result (ReachesApart sys.now (peak_view peak.now)) }
 {
     valid_peaks_reach_apart();
-    let _rules = sys.rules();
+    sys.rules_are_sound();
     judge_peak(alloc, sys, peak)
 }

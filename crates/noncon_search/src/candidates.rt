@@ -32,8 +32,7 @@ fn entries_for(
     requires ends { AreEnds sys.now (view start.now) (first.now ∷ second.now ∷ []) }
     ensures { EntriesAnswers sys.now (view first.now.listed.now.term) (view second.now.listed.now.term) result }
 {
-    // That the system is well-formed is known of its rules.
-    let _rules = sys.rules();
+    sys.rules_are_sound();
     if !first.is_refuted {
         return Ok(None);
     }

@@ -21,8 +21,7 @@ pub fn refute_redexes(
     requires fits { math.Fits (view term.now) }
     ensures { RefutedAnswers sys.now which (view term.now) result }
 {
-    // That the rules are those of a system is known of the rules.
-    let _rules = sys.rules();
+    sys.rules_are_sound();
     let mut numbering = Numbering::new(alloc);
     let numbered = numbering.numbered(alloc, term)?;
     let own = numbering.len() as u32;

@@ -107,7 +107,7 @@ impl<'a> OrthoRun<'a> {
             pairs,
             judge: _judge,
         } = self;
-        let _rules = sys.rules();
+        sys.rules_are_sound();
         match pairs {
             Ok(pairs) => pairs.finish(),
             Err(reason) => Err(reason),

@@ -109,8 +109,8 @@ pub fn try_overlap(
     ensures kept { (n : ℕ) × Spends budget.old n budget.new }
     ensures knows { IsGrown grown.new sys.now }
 {
-    // That conditions are few is known of the rules of a system.
-    let _rules = sys.rules();
+    // The law tells that conditions are few.
+    sys.rules_are_sound();
     let inner_count = overlap.inner_conds;
     let outer_count = overlap.conds.len() as u32 - inner_count;
     let items = items_of(alloc, inner_count, outer_count)?;

@@ -81,7 +81,7 @@ pub fn judge_evidence(
     if !allowed(kind, evidence) {
         return Err(Refusal::Reason(EvidenceReason::NotAllowed));
     }
-    // That terms and conditions are small is known of the rules of a system.
-    let _rules = sys.rules();
+    // The law tells that terms and conditions are small.
+    sys.rules_are_sound();
     judge_kind(alloc, sys, overlap, evidence, judge)
 }

@@ -85,8 +85,8 @@ impl Grown {
         ensures answer { (kind : Kind) → ItemAnswers kind sys.now (overlap_view overlap.now) (try_refuting (try_growth number)) result }
         ensures knows { IsGrown self.new sys.now }
     {
-        // That conditions are small is known of the rules of a system.
-        let _rules = sys.rules();
+        // The law tells that conditions are small.
+        sys.rules_are_sound();
         let automaton = valid_growth(alloc, sys.system(), &overlap.conds, number)?;
         let answer = evidence_by(alloc, number, &automaton)?;
         self.last = Some(Tried {

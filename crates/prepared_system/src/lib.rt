@@ -78,6 +78,13 @@ impl<'a> PreparedSystem<'a> {
         self.indexed.rules()
     }
 
+    /// The law of each system, for code that asks for nothing else of it; it does nothing.
+    pub fn rules_are_sound(&self)
+        ensures { IsSystem self.now }
+    {
+        self.indexed.rules_are_sound();
+    }
+
     /// The rules in order as inner ones, with variable 2k for each variable k.
     pub fn inner_rules(&self) -> &[Rule]
         ensures rules { map rule_view result.now ≡ inner_rules self.now }

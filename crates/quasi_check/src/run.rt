@@ -121,7 +121,7 @@ impl<'a, M: Measure> QuasiRun<'a, M> {
             pairs,
             judge: _judge,
         } = self;
-        let _rules = sys.rules();
+        sys.rules_are_sound();
         match pairs {
             Ok(pairs) => pairs.finish(),
             Err(reason) => Err(reason),

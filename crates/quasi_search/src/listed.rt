@@ -43,8 +43,8 @@ pub fn listed_within(
     ensures once { IfOk result (λ o. IfSome o (λ list. IsWithoutRepetition (table_view list.items))) }
     ensures kept { (n : ℕ) × Spends budget.old n budget.new }
 {
-    // That conditions are few is known of the rules of a system.
-    let _rules = sys.rules();
+    // The law tells that conditions are few.
+    sys.rules_are_sound();
     let mut work = Work::new();
     match reach_in(
         alloc,

@@ -165,8 +165,8 @@ fn try_condition(
     ensures answer { WalkAnswers quasi_item_cost (GivesQuasi sys.now (overlap_view overlap.now)) (condition_items sys.now (overlap_view overlap.now) number (view cond.now.left)) budget.old budget.new result }
     ensures kept { (n : ℕ) × Spends budget.old n budget.new }
 {
-    // That conditions are small is known of the rules of a system.
-    let _rules = sys.rules();
+    // The law tells that conditions are small.
+    sys.rules_are_sound();
     let Some(list) = listed_under(alloc, sys, overlap, &cond.left, budget)? else {
         return Ok(Sought::Spent);
     };
@@ -185,8 +185,8 @@ pub fn try_reducts(
     ensures answer { WalkAnswers quasi_item_cost (GivesQuasi sys.now (overlap_view overlap.now)) (reduct_items sys.now (map condition_view overlap.now.conds.items) 1 (map condition_view overlap.now.conds.items)) budget.old budget.new result }
     ensures kept { (n : ℕ) × Spends budget.old n budget.new }
 {
-    // That conditions are few is known of the rules of a system.
-    let _rules = sys.rules();
+    // The law tells that conditions are few.
+    sys.rules_are_sound();
     'conds: for (i, cond) in overlap.conds.iter().enumerate() {
         let number = i as u32 + 1;
         match try_condition(alloc, sys, overlap, number, cond, budget)? {

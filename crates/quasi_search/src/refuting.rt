@@ -56,8 +56,8 @@ pub fn try_refutings(
     ensures kept { (n : ℕ) × Spends budget.old n budget.new }
     ensures knows { IsGrown grown.new sys.now }
 {
-    // That conditions are few is known of the rules of a system.
-    let _rules = sys.rules();
+    // The law tells that conditions are few.
+    sys.rules_are_sound();
     match try_way(alloc, sys, overlap, Refuting::Caps, budget, grown)? {
         Sought::Nothing => {}
         end => return Ok(end),

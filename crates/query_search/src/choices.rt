@@ -14,7 +14,7 @@ use term_core::{NoMemory, Subst, System, Term};
 pub(crate) fn constants_of(alloc: Global, sys: &System) -> Result<Vec<u32>, NoMemory>
     ensures { IfOk result (λ fs. choices.constants_of fs.items ≡ constants sys.now) }
 {
-    let _rules = sys.rules();
+    sys.rules_are_sound();
     let mut out = Vec::new(alloc);
     'symbols: for (f, arity) in sys.arities().iter().enumerate() {
         if *arity == 0 {

@@ -66,7 +66,7 @@ pub fn answer(
     ensures nothing { IsEmptyReply sys.now (map condition_view q.now.conds.items) result }
     ensures enough { HasAnswerWithin sys.now (map condition_view q.now.conds.items) budget.old.left → IsAnswer result }
 {
-    let _rules = sys.rules();
+    sys.rules_are_sound();
     let indexed = IndexedSystem::new(alloc, sys)?;
     let count = q.names.len() as u32;
     try_all(alloc, &indexed, &q.conds, count, budget)

@@ -74,6 +74,13 @@ impl<'a> IndexedSystem<'a> {
         self.system.rules()
     }
 
+    /// The law of each system, for code that asks for nothing else of it; it does nothing.
+    pub fn rules_are_sound(&self)
+        ensures { IsSystem self.now }
+    {
+        self.system.rules_are_sound();
+    }
+
     /// The numbers, from 1, of the rules whose left sides have this root symbol, in order; for a number
     /// that is no symbol of the system there are none.
     pub fn with_root(&self, f: u32) -> &[u32]

@@ -53,8 +53,8 @@ fn put_growths(page: &mut Page<'_>, sys: &System, conds: &[Cond])
 fn put_refutings(page: &mut Page<'_>, subject: &Subject<'_>, overlap: &Overlap)
     requires overlap { IsOverlapOf subject.now.prepared.now (overlap_view overlap.now) }
 {
-    // That conditions are few and fit is known of the rules of a system.
-    let _rules = subject.prepared.rules();
+    // The law tells that conditions are few and fit.
+    subject.prepared.rules_are_sound();
     page.words(if overlap.conds.is_empty() {
         "      tcap: there are no conditions\n"
     } else {
@@ -140,8 +140,8 @@ fn put_list(
 )
     requires overlap { IsOverlapOf subject.now.prepared.now (overlap_view overlap.now) }
 {
-    // That conditions are few and fit is known of the rules of a system.
-    let _rules = subject.prepared.rules();
+    // The law tells that conditions are few and fit.
+    subject.prepared.rules_are_sound();
     match listed(
         page,
         subject.prepared.indexed(),

@@ -73,8 +73,8 @@ fn drop_by_growth(
     requires { rule_at sys.now number ≡ Some (rule_view rule.now) }
     ensures { TryAnswers sys.now (math.try_drop number (try_growth cond)) result }
 {
-    // That conditions are few and fit is known of the rules of a system.
-    let _rules = sys.rules();
+    // The law tells that conditions are few and fit.
+    sys.rules_are_sound();
     match valid_growth(alloc, sys.system(), &rule.conds, cond)? {
         Some(automaton) => {
             let evidence = InfEvidence::Auto { cond, automaton };

@@ -49,8 +49,8 @@ fn walk_rule(
     if rule.conds.is_empty() {
         return Ok(Sought::Nothing);
     }
-    // That they are few is known of the rules of a system.
-    let _rules = sys.rules();
+    // The law tells that they are few.
+    sys.rules_are_sound();
     let count = 2 * rule.conds.len() as u32 + 1;
     'tries: for place in 0..count {
         match walk_one(alloc, sys, number, rule, place, budget)? {

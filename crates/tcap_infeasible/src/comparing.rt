@@ -60,8 +60,8 @@ pub fn symbol_count(sys: &IndexedSystem) -> u32
     ensures count { result ≡ length sys.now.arities }
     ensures sound { IsSystem sys.now }
 {
-    // The rules of a system tell that its symbols are few.
-    let _rules = sys.rules();
+    // The law tells that symbols are few.
+    sys.rules_are_sound();
     sys.system().arities().len() as u32
 }
 

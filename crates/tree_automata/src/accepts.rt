@@ -47,7 +47,7 @@ fn keeps_zero(index: &AutomatonIndex<'_>, f: u32, arity: u32) -> bool
 pub(crate) fn accepts_all(index: &AutomatonIndex<'_>, sys: &System) -> bool
     ensures { IsTrue result ↔ AcceptsAll sys.now (Finds index.now) }
 {
-    let _rules = sys.rules();
+    sys.rules_are_sound();
     for (f, arity) in sys.arities().iter().enumerate() {
         if !keeps_zero(index, f as u32, *arity) {
             return false;

@@ -22,8 +22,7 @@ pub(crate) fn accepted(
     ensures valid { IfOk result (λ o. IfSome o (λ c. IsValid sys.now (certificate_view c))) }
     ensures written { IfOk result (λ o. IfSome o (λ c. HasText names.now (certificate_view c))) }
 {
-    // That the system is well-formed is known of its rules.
-    let _rules = sys.rules();
+    sys.rules_are_sound();
     if !has_text(alloc, names, &cert)? {
         return Ok(None);
     }

@@ -10,4 +10,4 @@ returns-clause-sound g c =
     let sys = c.args.sys.now in
     let conds = map condition_view c.args.conds.now in
     accepted (g.R.Refuter.judged c.args.refuter.now sys conds) (IsInfeasible sys conds)
-    (g.met.R.Refuter.law c.args.refuter.now sys conds (well_formed sys c.rules-rules.ensures.sound)) c.refutes_in.result c.refutes_in.ensures
+    (g.met.R.Refuter.law c.args.refuter.now sys conds (well_formed sys c.rules_are_sound.ensures)) c.refutes_in.result c.refutes_in.ensures

@@ -24,7 +24,7 @@ returns-clause-searched c =
 pub returns-clause-says : goal.returns-clause-says
 returns-clause-says c =
     let cs = map condition_view c.args.q.now.conds.items in
-    says_true c.args.sys.now cs c.args.budget.now c.try_all.new.budget (well_formed c.args.sys.now c.rules-rules.ensures.sound) c.requires.over c.try_all.result
+    says_true c.args.sys.now cs c.args.budget.now c.try_all.new.budget (well_formed c.args.sys.now c.rules_are_sound.ensures) c.requires.over c.try_all.result
     (subst₂ (λ sys ds. SearchAnswers sys (map condition_view ds) c.args.budget.now c.try_all.new.budget c.try_all.result) c.in_ok-indexed.ensures c.deref.ensures.value
     (searched c.in_ok-indexed.indexed (map condition_view c.deref.result.now) c.args.budget.now c.try_all.new.budget c.try_all.result c.try_all.ensures))
 

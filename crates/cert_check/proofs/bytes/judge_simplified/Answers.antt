@@ -17,13 +17,13 @@ judge_opened-requires-clause-opened c =
       c.requires.0,
       c.requires.1,
       Some steps,
-      opened_for_last c.args.sys.now c.in-Ok.last steps c.rules-rules.ensures.sound c.in-Ok.ensures c.requires.0 c.requires.1 (opened_view c.args.body) c.requires.2,
+      opened_for_last c.args.sys.now c.in-Ok.last steps c.rules_are_sound.ensures c.in-Ok.ensures c.requires.0 c.requires.1 (opened_view c.args.body) c.requires.2,
     )
 
 pub returns-in-Ok-clause-answers : goal.returns-in-Ok-clause-answers
 returns-in-Ok-clause-answers c = λ names bytes o.
     let steps = map simp_view c.args.steps.now in
-    let good = c.rules-rules.ensures.sound in
+    let good = c.rules_are_sound.ensures in
     subst (BytesAnswers c.args.sys.now names bytes) (sym c.of_body.ensures)
     (simplified_answered c.args.sys.now c.in-Ok.last steps good c.in-Ok.ensures names bytes c.judge_opened.result
     (c.judge_opened.ensures.answers names bytes (Some steps) (opened_for_last c.args.sys.now c.in-Ok.last steps good c.in-Ok.ensures names bytes (opened_view c.args.body) o)))
@@ -31,12 +31,12 @@ returns-in-Ok-clause-answers c = λ names bytes o.
 pub returns-in-Ok-clause-yes : goal.returns-in-Ok-clause-yes
 returns-in-Ok-clause-yes c =
     subst (λ r. OnYes r (IsConfluent c.args.sys.now)) (sym c.of_body.ensures)
-    (simplified_yes c.args.sys.now c.in-Ok.last (map simp_view c.args.steps.now) c.rules-rules.ensures.sound c.in-Ok.ensures c.judge_opened.result c.judge_opened.ensures.yes)
+    (simplified_yes c.args.sys.now c.in-Ok.last (map simp_view c.args.steps.now) c.rules_are_sound.ensures c.in-Ok.ensures c.judge_opened.result c.judge_opened.ensures.yes)
 
 pub returns-in-Ok-clause-no : goal.returns-in-Ok-clause-no
 returns-in-Ok-clause-no c =
     let steps = map simp_view c.args.steps.now in
-    let good = c.rules-rules.ensures.sound in
+    let good = c.rules_are_sound.ensures in
     subst (λ r. OnNo r (ApartBefore c.args.sys.now c.in-Ok.last steps good c.in-Ok.ensures (opened_view c.args.body))) (sym c.of_body.ensures)
     (simplified_no c.args.sys.now c.in-Ok.last steps good c.in-Ok.ensures (opened_view c.args.body) c.judge_opened.result c.judge_opened.ensures.no)
 

@@ -4,4 +4,4 @@ use Rattle.check_cases.proofs.behind.judged.Goals as goal
 
 pub check-requires : goal.check-requires
 check-requires c =
-    judged_behind c.args.sys.now c.args.names.now _ _ (certificate_view c.args.body) c.rules-rules.ensures.sound c.requires.named c.requires.spelt _ _ c.in_ok-within.ensures c.in_ok-cert.ensures
+    judged_behind c.args.sys.now c.args.names.now _ _ (certificate_view c.args.body) c.rules_are_sound.ensures c.requires.named c.requires.spelt _ _ c.in_ok-within.ensures c.in_ok-cert.ensures

@@ -14,7 +14,7 @@ returns-clause-sound c =
     let hyps = map condition_view c.args.hyps.now in
     let d = derivation_view c.args.d.now in
     let end = view c.in_ok-end.end.term in
-    let good = well_formed sys c.rules-rules.ensures.sound in
+    let good = well_formed sys c.rules_are_sound.ensures in
     let led = subst₂ (λ t z. Derives sys hyps t z end) c.in_ok-term.ensures (steps_seen c.args.d.now c.deref.result.now c.deref.ensures.value) c.in_ok-end.ensures.0 in (
       derivation_over sys good hyps hyps_over (view c.args.start.now) d end over led,
       derivation_reaches sys good hyps hyps_over (view c.args.start.now) d end over led,

@@ -4,4 +4,4 @@ use Rattle.noncon_check.proofs.peaks.check_peak.Goals as goal
 
 pub returns-clause-sound : goal.returns-clause-sound
 returns-clause-sound c =
-    peak_sound c.valid_peaks_reach_apart.ensures c.args.sys.now (peak_view c.args.peak.now) c.rules-rules.ensures.sound c.requires.over c.judge_peak.result c.judge_peak.ensures
+    peak_sound c.valid_peaks_reach_apart.ensures c.args.sys.now (peak_view c.args.peak.now) c.rules_are_sound.ensures c.requires.over c.judge_peak.result c.judge_peak.ensures

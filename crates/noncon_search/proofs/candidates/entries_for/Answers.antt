@@ -7,22 +7,22 @@ use Rattle.noncon_search.proofs.candidates.entries_for.Goals as goal
 
 pub returns-then-not-first : goal.returns-then-not-first
 returns-then-not-first c =
-    open_first c.args.sys.now (view c.args.first.now.listed.now.term) (view c.args.second.now.listed.now.term) (well_formed c.args.sys.now c.rules-rules.ensures.sound)
+    open_first c.args.sys.now (view c.args.first.now.listed.now.term) (view c.args.second.now.listed.now.term) (well_formed c.args.sys.now c.rules_are_sound.ensures)
     (c.requires.ends.each.0.is_open c.if-not-first.true)
 
 pub returns-then-not-second : goal.returns-then-not-second
 returns-then-not-second c =
-    open_second c.args.sys.now (view c.args.first.now.listed.now.term) (view c.args.second.now.listed.now.term) (well_formed c.args.sys.now c.rules-rules.ensures.sound)
+    open_second c.args.sys.now (view c.args.first.now.listed.now.term) (view c.args.second.now.listed.now.term) (well_formed c.args.sys.now c.rules_are_sound.ensures)
     (c.requires.ends.each.1.0.is_open c.if-not-second.true)
 
 pub returns-in_default : goal.returns-in_default
 returns-in_default c =
-    open_first c.args.sys.now (view c.args.first.now.listed.now.term) (view c.args.second.now.listed.now.term) (well_formed c.args.sys.now c.rules-rules.ensures.sound)
+    open_first c.args.sys.now (view c.args.first.now.listed.now.term) (view c.args.second.now.listed.now.term) (well_formed c.args.sys.now c.rules_are_sound.ensures)
     (open_of c.args.sys.now 1 (view c.args.first.now.listed.now.term) c.in_ok-entries.field-0 c.in_ok-entries.ensures (ap is_some c.in_default.is))
 
 pub returns-in_default-2 : goal.returns-in_default-2
 returns-in_default-2 c =
-    open_second c.args.sys.now (view c.args.first.now.listed.now.term) (view c.args.second.now.listed.now.term) (well_formed c.args.sys.now c.rules-rules.ensures.sound)
+    open_second c.args.sys.now (view c.args.first.now.listed.now.term) (view c.args.second.now.listed.now.term) (well_formed c.args.sys.now c.rules_are_sound.ensures)
     (open_of c.args.sys.now 2 (view c.args.second.now.listed.now.term) c.in_ok-more.field-0 c.in_ok-more.ensures (ap is_some c.in_default-2.is))
 
 pub returns : goal.returns

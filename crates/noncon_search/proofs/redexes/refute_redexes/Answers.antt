@@ -26,7 +26,7 @@ pub returns-then-not-branch : goal.returns-then-not-branch
 returns-then-not-branch c =
     breaks_off c.args.sys.now (view c.args.term.now) c.len-own.result c.args.which c.parts.walk.rest (map redex_view c.parts.entries.items) c.parts.invariant c.next.new.self.rest
     (part c.position.result.now (view c.in-Some.part.now)) (told_part _ _ _ _ _ _ c.in_ok-part.ensures c.in-Some.is c.position.ensures)
-    (map redex_view c.add_part.new.entries.items) c.rules-rules.ensures.sound
+    (map redex_view c.add_part.new.entries.items) c.rules_are_sound.ensures
     (rw c.if-not-branch.true at c.in_ok-add_part.ensures)
 
 pub parts-preserved : goal.parts-preserved
@@ -38,4 +38,4 @@ parts-preserved c =
 pub returns : goal.returns
 returns c =
     let end = rw c.in_default.is at c.in_ok-part.ensures in
-    comes_to_end c.args.sys.now (view c.args.term.now) c.len-own.result c.args.which c.parts.walk.rest c.parts.entries c.parts.invariant c.rules-rules.ensures.sound end.0
+    comes_to_end c.args.sys.now (view c.args.term.now) c.len-own.result c.args.which c.parts.walk.rest c.parts.entries c.parts.invariant c.rules_are_sound.ensures end.0

@@ -13,19 +13,19 @@ use Rattle.ortho_search.proofs.trying.try_overlap.Goals as goal
 
 pub overflow_cast-outer_count : goal.overflow_cast-outer_count
 overflow_cast-outer_count c =
-    let few = few_conditions c.args.sys.now c.args.overlap.now c.rules-rules.ensures.sound c.requires.overlap in
+    let few = few_conditions c.args.sys.now c.args.overlap.now c.rules_are_sound.ensures c.requires.overlap in
     omega (arith, few, c.len.ensures, c.args.overlap.now.conds.ok.0)
 
 pub overflow_sub-outer_count : goal.overflow_sub-outer_count
 overflow_sub-outer_count c =
-    let small = ready c.args.sys.now (overlap_view c.args.overlap.now) c.rules-rules.ensures.sound c.requires.overlap in
+    let small = ready c.args.sys.now (overlap_view c.args.overlap.now) c.rules_are_sound.ensures c.requires.overlap in
     let counted = small.counted in
     let long = length-map c.args.overlap.now.conds.items condition_view in
     omega (arith, counted, long, c.len.ensures, c.args.overlap.now.conds.ok.0)
 
 pub items_of-requires : goal.items_of-requires
 items_of-requires c =
-    let small = ready c.args.sys.now (overlap_view c.args.overlap.now) c.rules-rules.ensures.sound c.requires.overlap in
+    let small = ready c.args.sys.now (overlap_view c.args.overlap.now) c.rules_are_sound.ensures c.requires.overlap in
     let few = small.few in
     let counted = small.counted in
     let long = length-map c.args.overlap.now.conds.items condition_view in

@@ -8,12 +8,12 @@ use Rattle.quasi_search.proofs.listed.listed_within.Goals as goal
 
 pub reach_in-requires-clause-hypotheses : goal.reach_in-requires-clause-hypotheses
 reach_in-requires-clause-hypotheses c =
-    let small = ready c.args.sys.now (overlap_view c.args.overlap.now) c.rules-rules.ensures.sound c.requires.overlap in
+    let small = ready c.args.sys.now (overlap_view c.args.overlap.now) c.rules_are_sound.ensures c.requires.overlap in
     subst (λ cs. DoConditionsFit (map condition_view cs)) (sym c.deref.ensures.value) small.conditions
 
 pub reach_in-requires-clause-few : goal.reach_in-requires-clause-few
 reach_in-requires-clause-few c =
-    let few = few_conditions c.args.sys.now c.args.overlap.now c.rules-rules.ensures.sound c.requires.overlap in
+    let few = few_conditions c.args.sys.now c.args.overlap.now c.rules_are_sound.ensures c.requires.overlap in
     subst (λ cs. length cs < 2 ^ 32) (sym c.deref.ensures.value) (omega (arith, few))
 
 pub returns-in-Ok-clause-fit : goal.returns-in-Ok-clause-fit

@@ -17,7 +17,7 @@ use Rattle.quasi_search.proofs.reducts.try_condition.Goals as goal
 
 pub listed_under-requires-clause-start : goal.listed_under-requires-clause-start
 listed_under-requires-clause-start c =
-    let small = ready c.args.sys.now (overlap_view c.args.overlap.now) c.rules-rules.ensures.sound c.requires.overlap in
+    let small = ready c.args.sys.now (overlap_view c.args.overlap.now) c.rules_are_sound.ensures c.requires.overlap in
     condition_fits (map condition_view c.args.overlap.now.conds.items) c.args.number (condition_view c.args.cond.now) c.requires.cond small.conditions
 
 pub returns-in_default-clause-answer : goal.returns-in_default-clause-answer

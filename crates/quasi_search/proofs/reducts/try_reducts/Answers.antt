@@ -18,10 +18,10 @@ conds-init c = record {
 }
 
 pub overflow_cast-number : goal.overflow_cast-number
-overflow_cast-number c = omega (arith, few_conditions c.args.sys.now c.args.overlap.now c.rules-rules.ensures.sound c.requires.overlap, c.conds-test.true)
+overflow_cast-number c = omega (arith, few_conditions c.args.sys.now c.args.overlap.now c.rules_are_sound.ensures c.requires.overlap, c.conds-test.true)
 
 pub overflow_add-number : goal.overflow_add-number
-overflow_add-number c = omega (arith, few_conditions c.args.sys.now c.args.overlap.now c.rules-rules.ensures.sound c.requires.overlap, c.conds-test.true)
+overflow_add-number c = omega (arith, few_conditions c.args.sys.now c.args.overlap.now c.rules_are_sound.ensures c.requires.overlap, c.conds-test.true)
 
 pub try_condition-requires-clause-cond : goal.try_condition-requires-clause-cond
 try_condition-requires-clause-cond c =

@@ -27,7 +27,7 @@ returns-in_default c =
 -- the automata
 pub overflow_cast-count : goal.overflow_cast-count
 overflow_cast-count c =
-    omega (arith, few_conditions c.args.sys.now c.args.overlap.now c.rules-rules.ensures.sound c.requires.overlap, c.len-count.ensures, c.args.overlap.now.conds.ok.0)
+    omega (arith, few_conditions c.args.sys.now c.args.overlap.now c.rules_are_sound.ensures c.requires.overlap, c.len-count.ensures, c.args.overlap.now.conds.ok.0)
 
 pub growths-init : goal.growths-init
 growths-init c =
@@ -53,7 +53,7 @@ step c =
 pub returns-in_default-2 : goal.returns-in_default-2
 returns-in_default-2 c =
     let all : c.len-count.result ≡ length (overlap_view c.args.overlap.now).pair.conditions =
-    counted c.args.sys.now c.args.overlap.now c.rules-rules.ensures.sound c.requires.overlap c.len-count.result (omega (arith, c.len-count.ensures, c.args.overlap.now.conds.ok.0)) in
+    counted c.args.sys.now c.args.overlap.now c.rules_are_sound.ensures c.requires.overlap c.len-count.result (omega (arith, c.len-count.ensures, c.args.overlap.now.conds.ok.0)) in
     record {
       answer = subst (λ m. WalkAnswers quasi_item_cost (GivesQuasi c.args.sys.now (overlap_view c.args.overlap.now)) (refuting_items m) c.args.budget.now c.try_way-in-growths.new.budget
           (Ok c.in_ok-end-2.end)) all ((step (goal.at.returns-in_default-2 c).In_ok-end-2).ends c.in_default-2.not-Nothing);
@@ -73,7 +73,7 @@ growths-preserved c =
 pub returns-clause-answer : goal.returns-clause-answer
 returns-clause-answer c =
     let all : c.len-count.result ≡ length (overlap_view c.args.overlap.now).pair.conditions =
-    counted c.args.sys.now c.args.overlap.now c.rules-rules.ensures.sound c.requires.overlap c.len-count.result (omega (arith, c.len-count.ensures, c.args.overlap.now.conds.ok.0)) in
+    counted c.args.sys.now c.args.overlap.now c.rules_are_sound.ensures c.requires.overlap c.len-count.result (omega (arith, c.len-count.ensures, c.args.overlap.now.conds.ok.0)) in
     subst (λ m. WalkAnswers quasi_item_cost (GivesQuasi c.args.sys.now (overlap_view c.args.overlap.now)) (refuting_items m) c.args.budget.now c.growths.budget (Ok Nothing)) all
     (finishes c.growths.invariant.walking (ap (map try_refuting) (none_behind c.growths.before c.len-count.result (omega (arith, c.growths-test.false)))))
 

@@ -7,10 +7,10 @@ use Rattle.shown_systems.proofs.failures.put_refutings.Goals as goal
 
 pub put_growths-requires-clause-fit : goal.put_growths-requires-clause-fit
 put_growths-requires-clause-fit c =
-    let small = ready c.args.subject.now.prepared.now (overlap_view c.args.overlap.now) c.rules-rules.ensures.sound c.requires.overlap in
+    let small = ready c.args.subject.now.prepared.now (overlap_view c.args.overlap.now) c.rules_are_sound.ensures c.requires.overlap in
     subst (λ cs. DoConditionsFit (map condition_view cs)) (sym c.deref.ensures.value) small.conditions
 
 pub put_growths-requires-clause-few : goal.put_growths-requires-clause-few
 put_growths-requires-clause-few c =
-    let few = few_conditions c.args.subject.now.prepared.now c.args.overlap.now c.rules-rules.ensures.sound c.requires.overlap in
+    let few = few_conditions c.args.subject.now.prepared.now c.args.overlap.now c.rules_are_sound.ensures c.requires.overlap in
     subst (λ cs. length cs ≤ 200) (sym c.deref.ensures.value) few

@@ -10,13 +10,13 @@ use Rattle.step_search.proofs.tries.drop_by_growth.Goals as goal
 
 pub valid_growth-requires-clause-few : goal.valid_growth-requires-clause-few
 valid_growth-requires-clause-few c =
-    let few = few_conds c.args.sys.now c.args.number c.args.rule.now c.rules-rules.ensures.sound c.requires in
+    let few = few_conds c.args.sys.now c.args.number c.args.rule.now c.rules_are_sound.ensures c.requires in
     let same = ap length c.deref.ensures.value in
     omega (arith, few, same)
 
 pub valid_growth-requires-clause-fit : goal.valid_growth-requires-clause-fit
 valid_growth-requires-clause-fit c =
-    subst (λ z. DoConditionsFit (map condition_view z)) (sym c.deref.ensures.value) (conds_fit c.args.sys.now c.args.number c.args.rule.now c.rules-rules.ensures.sound c.requires)
+    subst (λ z. DoConditionsFit (map condition_view z)) (sym c.deref.ensures.value) (conds_fit c.args.sys.now c.args.number c.args.rule.now c.rules_are_sound.ensures c.requires)
 
 pub returns-in-Some : goal.returns-in-Some
 returns-in-Some c =

@@ -9,24 +9,24 @@ use Rattle.step_search.proofs.walks.walk_rule.Goals as goal
 
 pub overflow_cast-count : goal.overflow_cast-count
 overflow_cast-count c =
-    let few = few_conds c.args.sys.now c.args.number c.args.rule.now c.rules-rules.ensures.sound c.requires in
+    let few = few_conds c.args.sys.now c.args.number c.args.rule.now c.rules_are_sound.ensures c.requires in
     let long = c.len.ensures ∙ c.args.rule.now.conds.ok.0 in
     omega (arith, few, long)
 
 pub overflow_mul-count : goal.overflow_mul-count
 overflow_mul-count c =
-    let few = few_conds c.args.sys.now c.args.number c.args.rule.now c.rules-rules.ensures.sound c.requires in
+    let few = few_conds c.args.sys.now c.args.number c.args.rule.now c.rules_are_sound.ensures c.requires in
     let long = c.len.ensures ∙ c.args.rule.now.conds.ok.0 in
     omega (arith, few, long)
 
 pub overflow_add-count : goal.overflow_add-count
 overflow_add-count c =
-    let few = few_conds c.args.sys.now c.args.number c.args.rule.now c.rules-rules.ensures.sound c.requires in
+    let few = few_conds c.args.sys.now c.args.number c.args.rule.now c.rules_are_sound.ensures c.requires in
     let long = c.len.ensures ∙ c.args.rule.now.conds.ok.0 in
     omega (arith, few, long)
 
 pub walk_one-requires-clause-few : goal.walk_one-requires-clause-few
-walk_one-requires-clause-few c = few_conds c.args.sys.now c.args.number c.args.rule.now c.rules-rules.ensures.sound c.requires
+walk_one-requires-clause-few c = few_conds c.args.sys.now c.args.number c.args.rule.now c.rules_are_sound.ensures c.requires
 
 pub returns-in_err-end : goal.returns-in_err-end
 returns-in_err-end c =

@@ -8,9 +8,9 @@ returns-in-Ok-clause-judged c =
 pub returns-in-Ok-clause-levels : goal.returns-in-Ok-clause-levels
 returns-in-Ok-clause-levels c =
     run_levels c.args.self c.self.inside.sys.now c.self.inside.pairs c.self.view_is c.self.invariant.0 c.in-Ok.pairs c.in-Ok.is c.finish.result c.finish.ensures
-    c.levels_commute.ensures.commute c.rules-rules.ensures.sound
+    c.levels_commute.ensures.commute c.rules_are_sound.ensures
 
 pub returns-in-Ok-clause-confluent : goal.returns-in-Ok-clause-confluent
 returns-in-Ok-clause-confluent c =
     run_confluent c.args.self c.self.inside.sys.now c.self.inside.pairs c.self.view_is c.self.invariant.0 c.in-Ok.pairs c.in-Ok.is c.finish.result c.finish.ensures
-    c.levels_commute.ensures.confluent c.rules-rules.ensures.sound
+    c.levels_commute.ensures.confluent c.rules_are_sound.ensures

@@ -10,13 +10,13 @@ use Rattle.pair_search.proofs.grown.Grown.grow_anew.Goals as goal
 
 pub valid_growth-requires-clause-few : goal.valid_growth-requires-clause-few
 valid_growth-requires-clause-few c =
-    let few = few_conditions c.args.sys.now c.args.overlap.now c.rules-rules.ensures.sound c.requires.overlap in
+    let few = few_conditions c.args.sys.now c.args.overlap.now c.rules_are_sound.ensures c.requires.overlap in
     let same = ap length c.deref.ensures.value in
     omega (arith, few, same)
 
 pub valid_growth-requires-clause-fit : goal.valid_growth-requires-clause-fit
 valid_growth-requires-clause-fit c =
-    let small = ready c.args.sys.now (overlap_view c.args.overlap.now) c.rules-rules.ensures.sound c.requires.overlap in
+    let small = ready c.args.sys.now (overlap_view c.args.overlap.now) c.rules_are_sound.ensures c.requires.overlap in
     subst (λ cs. DoConditionsFit (map condition_view cs)) (sym c.deref.ensures.value) small.conditions
 
 pub returns-clause-answer : goal.returns-clause-answer
