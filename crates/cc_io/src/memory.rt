@@ -87,10 +87,8 @@ fn bytes_of(files: &[MemoryFile], place: usize) -> Option<&[u8]>
     ensures found { IfSome result (λ bytes. bytes_at files.now place ≡ Some bytes.now) }
     ensures none { IfNone result (bytes_at files.now place ≡ None) }
 {
-    match files.get(place) {
-        Some(file) => Some(file.bytes.as_slice()),
-        None => None,
-    }
+    let file = files.get(place)?;
+    Some(file.bytes.as_slice())
 }
 
 // Copies what follows a place, as far as the buffer goes, but no more than a piece.
