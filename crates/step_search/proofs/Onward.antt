@@ -1,5 +1,5 @@
 -- Round by round.
-use Rattle.std.proofs.Common.{ℕ, ◌≡◌, ◌+◌, ◌<◌, List, [], ◌∷◌, ◌++◌, map, sym, ap, ◌∙◌, subst, Ok, Err, arith}
+use Rattle.std.proofs.Common.{ℕ, ◌≡◌, ◌+◌, ◌<◌, List, [], ◌∷◌, ◌++◌, map, sym, ap, ◌∙◌, subst, Ok, Err, Result, IsErrAnd, arith}
 use Rattle.std.proofs.lemmas.List.{map-append}
 use Rattle.rewriting.specs.Rules.{System}
 use Rattle.cc_count.specs.Counts.{Counts, Spends}
@@ -13,7 +13,8 @@ use Rattle.simplified_spaces.specs.Walks.{LeadsOn}
 use Rattle.simplified_spaces.proofs.Tries.{counted, steps_within}
 use Rattle.simplified_spaces.proofs.Walks.{one_more, paid_within, standard_at_end, stopped_short, within_standard}
 use Rattle.simplify.specs.Changes.{after}
-use Rattle.step_search.specs.Answers.{WalkAnswers, Finds, RunsOut, AreWithinTries}
+use Rattle.step_search.specs.Answers.{WalkAnswers, Finds, RunsOut, FindAnswers, AreWithinTries}
+use Rattle.step_search.specs.declared.rounds.SimpSearch.{SimpSearch}
 use Rattle.step_search.specs.declared.tries.Made.{Made}
 use Rattle.cc_count.specs.declared.Sought.TheVariants.{Found, Nothing, Spent}
 
@@ -80,3 +81,8 @@ pub walk_pays : (here : System) (now end : Counts) (m : Made) → WalkAnswers he
 walk_pays here now end m (change, (n, paid, first)) =
     let least : n ≡ cost_of one first.before + 1 = first.up_to in
     let all = paid.left in omega (arith, least, all)
+
+-- where memory is refused, what is handed on tells nothing but that
+pub stopped : (sys : System) (start end : Counts) (Is : NoMemory → Type 0) (r : Result SimpSearch NoMemory) → IsErrAnd r Is → (n : ℕ) × Spends start n end × AreWithinTries sys n → FindAnswers sys start end r
+stopped sys start end Is (Ok v) is paid = absurd is
+stopped sys start end Is (Err e) is paid = paid

@@ -26,17 +26,14 @@ pub fn find_steps(alloc: Global, sys: &System, budget: &mut Budget) -> Result<Si
     let mut steps = Vec::new(alloc);
     // Each round but the last spends a unit.
     'rounds: loop {
-        match walk_through(alloc, &current, budget) {
-            Ok(Sought::Found(made)) => {
+        match walk_through(alloc, &current, budget)? {
+            Sought::Found(made) => {
                 let Made { step, change } = made;
-                let Ok(()) = steps.push(step) else {
-                    return Err(NoMemory);
-                };
+                steps.push(step)?;
                 current = changed(current, change);
             }
-            Ok(Sought::Nothing) => return Ok(SimpSearch::Steps(steps, current)),
-            Ok(Sought::Spent) => return Ok(SimpSearch::Spent),
-            Err(e) => return Err(e),
+            Sought::Nothing => return Ok(SimpSearch::Steps(steps, current)),
+            Sought::Spent => return Ok(SimpSearch::Spent),
         }
     }
 }
