@@ -1,7 +1,7 @@
 -- Which of some leads is there, and what is read with it.
 use Rattle.std.proofs.lemmas.List.{length-map}
 use Rattle.cert_words.proofs.Prelude.{◌≡◌, ◌<◌, ◌≤◌, ◌+◌, ◌-◌, ℕ, zero, suc, true, false, List, [], ◌∷◌, length, map, get_or, max, Option, Some, None, MatchOption, refl, sym, ap, ap₂, ◌∙◌, subst}
-use Rattle.cert_words.proofs.Prelude.{arith, NameTable, Naming, Mark, fixed, scan, syntax, mode_of, text, Item, Lead, leads, is_there, first_there, longest, CertError, Reading, told, Run, IsStuckAt}
+use Rattle.cert_words.proofs.Prelude.{arith, NameTable, Naming, Mark, fixed, syntax, text, Item, Lead, leads, is_there, first_there, longest, CertError, Reading, told, Run, IsStuckAt}
 use Rattle.cert_words.proofs.Prelude.{bare, IsLeadRead, Reads, Choice, lead_of, bare_of, Chosen, Missed, IsFirst, WordReads, IsMissed, Finds, IsJudged, Found, Demand, verdict, demands_of, mark_of}
 use Rattle.cert_words.proofs.Prelude.{CertificateCause, name_lead, symbol, name_of, number_of, IsStill, numeral_lead, in_range, word, numeral, value, unknown_name, keyword, check, has_arity, behind}
 use Rattle.cert_words.proofs.Prelude.{holds, all_used, shares, bad_share, IsVerdict, IsWhy, IsWithin, Front, plain, variable_lead, codes, largest, ◌++◌, bad_number, drop, nat_le, nat_lt, ◌&&◌}

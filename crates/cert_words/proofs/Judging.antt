@@ -1,5 +1,5 @@
 -- What words must meet, one demand behind another, and the numbers that digits spell.
-use Rattle.cert_words.proofs.Prelude.{◌≡◌, ◌+◌, ◌*◌, ◌-◌, ◌<◌, ◌≤◌, ℕ, suc, List, [], ◌∷◌, length, drop, get_or, refl, sym, ap, ◌∙◌, add-one, arith, drop-cons, largest, value_from, value}
+use Rattle.cert_words.proofs.Prelude.{◌≡◌, ◌+◌, ◌*◌, ◌-◌, ◌<◌, ◌≤◌, ℕ, suc, List, [], ◌∷◌, length, drop, get_or, refl, arith, drop-cons, largest, value_from, value}
 
 -- the number that the digits before this place spell, which is not too great
 pub record ValueOn (digits : List ℕ) (at n : ℕ) : Type 0 where

@@ -2,7 +2,7 @@
 use Rattle.cert_words.proofs.Prelude.{◌≡◌, ◌≤◌, ◌-◌, nat_le, nat_lt, ℕ, suc, Bool, true, false, not, cond, ◌&&◌, List, [], ◌∷◌, ◌++◌, length, take, Some, None, refl, sym, ap, ◌∙◌}
 use Rattle.cert_words.proofs.Prelude.{subst, arith, length-append, take-append_seam, NameTable, largest, name_of, CertificateCause, bad_share, too_many, unfolded, automaton_begins}
 use Rattle.cert_words.proofs.Prelude.{automaton_ends, is_use, is_light, all_used, Demand, shares, Naming, Mark, word, closed, marks_text, verdict, use_mark, value, Item, Lead, at_once}
-use Rattle.cert_words.proofs.Prelude.{keyword, numeral_lead, is_short, leads, is_among, Shared, holds, share_verdict, share_effect, behind_marks, PassShares, is_there, first_there}
+use Rattle.cert_words.proofs.Prelude.{keyword, numeral_lead, is_short, leads, is_among, Shared, holds, share_verdict, share_effect, behind_marks, is_there, first_there}
 use Rattle.cert_words.proofs.Prelude.{with_begun, behind_end, behind_both, pass_join, alone_met, two_met, CertError, Reading, told, left_at, tagged, Keeps, Run, RefusesAt}
 use Rattle.cert_words.proofs.Prelude.{IsStuckAt, IsStopped, Anywhere, IsFront, Reads, BeginsAnew, IsStuckBehind}
 use Rattle.cert_words.proofs.Stepping.{one_walk, number_keeps, shared_stop, in_range_then, Front}

@@ -1,5 +1,5 @@
 -- Parts of lists by number, seen through what they stand for.
-use Rattle.std.proofs.Common.{◌≡◌, ℕ, ◌-◌, List, slice_get, Option, Some, None, IfSome, option_map, Bor, sym}
+use Rattle.std.proofs.Common.{◌≡◌, ℕ, List, slice_get, Option, Some, None, IfSome, option_map, Bor, sym}
 use Rattle.rewriting.specs.Prelude.{Rule, System, sides, IsRule, IsSystem, Each, Fits, cons}
 use Rattle.rewriting.proofs.Systems.{is_rule_at}
 use Rattle.certificates.proofs.Sizes.{conditions_fit}

@@ -6,7 +6,7 @@ use Rattle.std.proofs.Math.Bool.{and-false}
 use Rattle.general_lemmas.proofs.Options.{bound}
 use Rattle.file_text.specs.declared.ConditionType.TheVariants.{Oriented, Join}
 use Rattle.file_text.specs.Syntax.{Name, Phrase, word, RuleTree}
-use Rattle.file_text.specs.Grammar.{Word, id, left_paren, right_paren, comma, bar, arrow, equal, id_at, Block, condition_type, variables, rules, title, spelled_block}
+use Rattle.file_text.specs.Grammar.{Word, id, left_paren, right_paren, id_at, Block, condition_type, variables, rules, title, spelled_block}
 use Rattle.file_text.specs.Grammar.{spelled_blocks, spelled_rules, has_block}
 use Rattle.file_text.proofs.Machine.{Last, want, first, bare, done, Opens, Part, left, right, condition_left, condition_right, Reading, reading, no_rule, next_part, behind_side}
 use Rattle.file_text.proofs.Machine.{step_term, whole, closing, State, outside, behind_bracket, behind_type, in_variables, in_rules, titled, rules_or}

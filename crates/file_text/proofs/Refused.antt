@@ -6,7 +6,7 @@ use Rattle.std.proofs.lemmas.Option.{same_Some}
 use Rattle.file_text.specs.declared.ConditionType.{ConditionType}
 use Rattle.file_text.specs.declared.ConditionType.TheVariants.{Oriented, Join}
 use Rattle.file_text.specs.Syntax.{Name, RuleTree}
-use Rattle.file_text.specs.Grammar.{Word, id, left_paren, right_paren, comma, bar, arrow, equal, id_at, Block, condition_type, variables, rules, title, has_block, spelled_blocks}
+use Rattle.file_text.specs.Grammar.{Word, id, left_paren, right_paren, id_at, Block, condition_type, variables, rules, title, has_block, spelled_blocks}
 use Rattle.file_text.specs.Refusals.{SyntaxCause, unknown_block, repeated_block, other_condition_type, wrong_syntax, missing_rules, Begins, is_title, IsUnknownBlock}
 use Rattle.file_text.specs.Refusals.{IsRepeatedBlock, IsOtherConditionType, IsWrongSyntax, Calls}
 use Rattle.file_text.proofs.Machine.{Reading, no_rule, closing, step_term, State, outside, behind_bracket, behind_type, behind_type_word, in_variables, in_rules, step_outside}

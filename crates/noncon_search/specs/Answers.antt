@@ -1,5 +1,5 @@
 -- What the parts of the search answer.
-use Rattle.std.specs.Prelude.{ℕ, ◌≡◌, Bool, true, false, List, map, Option, None, Some, Result, Ok, Err, Vec}
+use Rattle.std.specs.Prelude.{Bool, true, false, List, map, Option, None, Some, Result, Ok, Err, Vec}
 use Rattle.std.specs.Global.{Global}
 use Rattle.rewriting.specs.Prelude.{Term, System}
 use Rattle.unifier_run.specs.Run.{clash}

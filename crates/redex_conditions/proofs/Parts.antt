@@ -7,7 +7,7 @@ use Rattle.rewriting.specs.Terms as math
 use Rattle.rewriting.specs.Prelude.{IsAmong, subterm, Rule, System, rule_at, Bindings, IsLeastMatch}
 use Rattle.rewriting.proofs.Lists.{among_of_map}
 use Rattle.rule_index.specs.Roots.{rules_at}
-use Rattle.rule_index.specs.Parts.{Part, part, parts}
+use Rattle.rule_index.specs.Parts.{Part, parts}
 use Rattle.rule_index.proofs.Standing.{part_stands}
 use Rattle.certificates.specs.Judging.{RuleMatches}
 use Rattle.valid_certificates.specs.Peaks.{RedexPlace}

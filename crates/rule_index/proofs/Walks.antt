@@ -1,5 +1,5 @@
 -- The numbers of the rules with one root, walked in order.
-use Rattle.std.proofs.Common.{◌≡◌, ℕ, zero, suc, ◌+◌, ◌<◌, true, eq-eqb, List, length, get_or, Some, refl, ap, subst, ◌∙◌, arith}
+use Rattle.std.proofs.Common.{◌≡◌, ℕ, zero, suc, ◌+◌, ◌<◌, true, eq-eqb, length, get_or, Some, refl, ap, subst, ◌∙◌, arith}
 use Rattle.rewriting.specs.Prelude.{Term, Terms, app, Rule, System, rule_at}
 use Rattle.rewriting.proofs.NumbersWhere as numbers
 use Rattle.rewriting.proofs.NumbersWhere.{Stands}

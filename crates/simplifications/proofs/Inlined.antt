@@ -2,7 +2,7 @@
 use Rattle.std.proofs.Common.{◌≡◌, ℕ, suc, Bool, true, false, refl, sym, ap, ◌∙◌, subst, subst₂, List, [], ◌∷◌, ◌++◌, map, take, drop, slice_get, Some, nat_eq, eqb-true, eq-eqb, if◌then◌else◌}
 use Rattle.std.proofs.lemmas.Bool.{or_parts}
 use Rattle.rewriting.specs.Prelude.{replacing}
-use Rattle.rewriting.proofs.Common.{Relation, Term, Terms, var, Substitution, apply, compose, occurs, occurs_in, Signature, IsOver, Condition, Rule, right_sides, sides, Meets}
+use Rattle.rewriting.proofs.Common.{Relation, Term, var, Substitution, apply, compose, occurs, occurs_in, Signature, IsOver, Condition, Rule, right_sides, sides, Meets}
 use Rattle.rewriting.proofs.Instances.{apply-apply, apply-agree}
 use Rattle.rewriting.proofs.Levels.{Meets-agree}
 use Rattle.rewriting.proofs.Conditions.{Meets-append}

@@ -1,5 +1,5 @@
 -- Caps with holes from 2^31 on, and terms with numbers below for their variables.
-use Rattle.std.proofs.Common.{ℕ, suc, ◌≡◌, ◌+◌, ◌-◌, ◌*◌, ◌^◌, ◌<◌, ◌≤◌, inl, inr, List, [], ◌∷◌, length, get_or, refl, sym, ap, ap₂, ◌∙◌}
+use Rattle.std.proofs.Common.{ℕ, suc, ◌≡◌, ◌+◌, ◌*◌, ◌^◌, ◌<◌, ◌≤◌, inl, inr, List, [], ◌∷◌, length, get_or, refl, sym, ap, ap₂, ◌∙◌}
 use Rattle.std.proofs.Common.{subst, subst₂, arith}
 use Rattle.rewriting.specs.Prelude.{Term, Terms, var, app, nil, cons, count, Substitution, apply, apply_all, compose, even, odd, Condition, System, left_sides, right_sides, AreDistinct}
 use Rattle.rewriting.proofs.Instances.{apply_all-apply_all, apply_all-agree}

@@ -1,11 +1,10 @@
 -- Variables that are noted one after another.
-use Rattle.std.proofs.Common.{◌≡◌, ℕ, zero, suc, ◌+◌, ◌≤◌, ◌<◌, ◌⊎◌, inl, inr, Bool, true, false, List, [], ◌∷◌, take, get_or, length, arith, BTreeSet, nat_cmp, add-one}
+use Rattle.std.proofs.Common.{◌≡◌, ℕ, zero, suc, ◌+◌, ◌≤◌, ◌<◌, ◌⊎◌, inl, inr, List, [], ◌∷◌, take, get_or, length, arith, BTreeSet, nat_cmp, add-one}
 use Rattle.std.specs.BTreeSet.{contains}
 use Rattle.general_lemmas.proofs.Numbers.{le_or_lt}
 use Rattle.rewriting.specs.Variables.{occurrences, occurrences_in}
 use Rattle.term_core.specs.View.{view, views}
 use Rattle.term_core.specs.declared.terms.Term.{Term}
-use Rattle.term_core.specs.Counting.{bit}
 use Rattle.term_core.specs.Noting.{among, AreNoted}
 use Rattle.term_core.proofs.Counting.{bit_small}
 

@@ -1,6 +1,6 @@
 -- When a `Term` is over some symbols.
 use Rattle.std.proofs.Common.{◌≡◌, ◌<◌, ℕ, suc, List, [], ◌∷◌, length, Some, Vec, Global, refl, sym, ap, ◌∙◌, subst, slice_get, vec_len}
-use Rattle.rewriting.specs.Prelude.{app, count, cons, IsOver, AreOver}
+use Rattle.rewriting.specs.Prelude.{app, count, IsOver, AreOver}
 use Rattle.term_core.specs.View.{view, views}
 use Rattle.term_core.specs.SystemView.{HasSymbolsBelow, HaveSymbolsBelow}
 use Rattle.term_core.specs.declared.terms.Term.{Term, Fun}

@@ -1,4 +1,4 @@
-use Rattle.std.proofs.Common.{◌≡◌, ◌∙◌, Ok, sym, subst}
+use Rattle.std.proofs.Common.{◌∙◌, Ok, sym, subst}
 use Rattle.cc_count.proofs.Spending.{kept_on}
 use Rattle.validity.specs.declared.Search.TheVariants as search
 use Rattle.search_spaces.specs.Ortho.{ortho_space}

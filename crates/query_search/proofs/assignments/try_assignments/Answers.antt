@@ -1,6 +1,5 @@
 use Rattle.std.proofs.Common.{map, sym, ap, ◌∙◌}
 use Rattle.std.proofs.lemmas.List.{length-map}
-use Rattle.std.specs.FinMap.{empty}
 use Rattle.rewriting.specs.Terms.{app, nil}
 use Rattle.term_core.specs.RuleView.{condition_view}
 use Rattle.query_space.specs.Assignments.{constants}

@@ -1,4 +1,4 @@
-use Rattle.std.proofs.Common.{ℕ, ◌+◌, ◌≤◌, ◌<◌, ◌≡◌, length, arith}
+use Rattle.std.proofs.Common.{arith}
 use Rattle.cert_shares.proofs.Uses.{found_in, heavy_answer, good_answer}
 use Rattle.cert_shares.proofs.shares.Shares.take.Goals as goal
 
