@@ -13,7 +13,6 @@ use Rattle.origins.specs.OriginView.{origin_view, way_view}
 use Rattle.origins.specs.declared.Way.{Way}
 use Rattle.origins.specs.declared.Way as way
 use Rattle.origins.specs.declared.Origin.{Origin}
-use Rattle.origins.specs.declared.Origin as origin
 
 -- what a way tells
 pub rule_way : (from : Origin) (i : ℕ) (p : Vec ℕ Global) (conds : Vec Origin Global)

@@ -5,7 +5,6 @@ use Rattle.std.specs.Borrow.{Bor}
 use Rattle.std.proofs.lemmas.Bool.{false≢true}
 use Rattle.std.proofs.lemmas.List.{take_more, take_more_set, map-append, length-map}
 use Rattle.std.proofs.Math.Seq.{take-length}
-use Rattle.rewriting.specs.Terms as math
 use Rattle.rewriting.specs.Terms.{size, size_all}
 use Rattle.rewriting.proofs.Lengths.{size_positive}
 use Rattle.term_core.specs.View.{view, views}
