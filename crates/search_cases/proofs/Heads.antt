@@ -1,7 +1,7 @@
 -- The first symbols of an unraveled system are first symbols of a precedence.
 use Rattle.std.proofs.Common.{ℕ, zero, suc, ◌≡◌, List, [], ◌∷◌, map, take, Some, slice_get, sym, ap, ◌∙◌, subst}
 use Rattle.std.proofs.lemmas.List.{take-map}
-use Rattle.rewriting.specs.Prelude.{System, Head, heads}
+use Rattle.rewriting.specs.Prelude.{System, heads}
 use Rattle.rewriting.proofs.Members.{at_place, one_of_places}
 use Rattle.path_orders.specs.Dead.{IsPrefix}
 use Rattle.path_orders.proofs.Heads.{heads_distinct}
