@@ -3,7 +3,7 @@ use Rattle.std.proofs.lemmas.List.{length-map}
 use Rattle.rewriting.specs.Terms.{app, nil}
 use Rattle.term_core.specs.RuleView.{condition_view}
 use Rattle.query_space.specs.Assignments.{constants}
-use Rattle.query_space.specs.Items.{try_values, value_items}
+use Rattle.query_space.specs.Items.{value_items}
 use Rattle.search_answers.proofs.Walking.{begins, fails}
 use Rattle.query_search.specs.Answers.{reply_view}
 use Rattle.query_search.specs.Choices as choices
